@@ -1,0 +1,4 @@
+-- What the contracts cite.
+pub mod Kind
+pub mod Case
+pub mod Table

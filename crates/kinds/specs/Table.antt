@@ -1,0 +1,20 @@
+-- What the private functions promise one another. No public contract cites it.
+use mathlib.Core.Path.{_≡_}
+use mathlib.Core.List.{List}
+use Prim.Native.Nat.{ℕ, _<_}
+use lib.ListN.{getD}
+use Rattle.kinds.specs.Kind.{kindsOf}
+use Rattle.kinds.specs.declared.Kind.{Kind}
+use Rattle.kinds.specs.declared.Kind.the-variants.{Digit, Word, Space, Horizontal, Vertical}
+
+-- the table's rule: entry b is the kinds of byte b
+unfoldable pub Ruled : List ℕ → Type 0
+Ruled t = (b : ℕ) → b < 256 → getD t b 0 ≡ kindsOf b
+
+-- the bit of a type: its place in the list of kinds
+abbrev pub bitOf : Kind → ℕ
+bitOf Digit = 1
+bitOf Word = 2
+bitOf Space = 4
+bitOf Horizontal = 8
+bitOf Vertical = 16

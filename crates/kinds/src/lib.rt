@@ -1,0 +1,129 @@
+// What each byte is: a digit, a word byte, white space of a sort, a letter of either case. One table has it, a bit for each kind; the sets of the types
+// `\d \w \s \h \v`, their complements, and the other case of a letter are read from the table and written nowhere else.
+// Nothing is required of a caller. specs/Kind.antt and specs/Case.antt say what each function gives.
+mod table;
+
+ghost use mathlib.Core.Path.{_≡_};
+ghost use Rattle.sets.specs.Set.{setOf};
+ghost use Rattle.kinds.specs.Kind.{isKind, isNotKind, kindsOf};
+ghost use Rattle.kinds.specs.Case.{otherCase, caseClosed};
+ghost use Rattle.kinds.specs.Table.{Ruled, bitOf};
+
+// The bit of each kind in an entry of the table, in the order of specs/Kind.antt's list of kinds.
+pub const DIGIT: u32 = 1;
+
+pub const WORD: u32 = 2;
+
+pub const SPACE: u32 = 4;
+
+pub const HORIZONTAL: u32 = 8;
+
+pub const VERTICAL: u32 = 16;
+
+pub const LOWER: u32 = 32;
+
+pub const UPPER: u32 = 64;
+
+// How far a lower-case letter stands above its upper-case one.
+const CASE_STEP: u8 = 32;
+
+// The types `\d`, `\w`, `\s`, `\h` and `\v`.
+pub enum Kind {
+    Digit,
+    Word,
+    Space,
+    Horizontal,
+    Vertical,
+}
+
+// The table, by its rule: every reader of it starts here, so that the rule is proved once.
+fn kind_table() -> [u32; 256]
+    ensures { λ r. ⌜ Ruled r ⌝ }
+{
+    table::KINDS
+}
+
+// The kinds of b, as bits.
+pub fn kinds_of(b: u8) -> u32
+    ensures { λ r. ⌜ r ≡ kindsOf b ⌝ }
+{
+    let kinds = kind_table();
+    kinds[b as usize]
+}
+
+// The bit of a type.
+fn bit_of(k: Kind) -> u32
+    ensures { λ r. ⌜ r ≡ bitOf k ⌝ }
+{
+    match k {
+        Kind::Digit => DIGIT,
+        Kind::Word => WORD,
+        Kind::Space => SPACE,
+        Kind::Horizontal => HORIZONTAL,
+        Kind::Vertical => VERTICAL,
+    }
+}
+
+// The bytes of a type.
+pub fn of_kind(k: Kind) -> [u64; 4]
+    ensures { λ r. ⌜ r ≡ setOf (isKind k) ⌝ }
+{
+    let kinds = kind_table();
+    let bit = bit_of(k);
+    let mut s = sets::empty();
+    let mut i: usize = 0;
+    while i < 256 {
+        if kinds[i] & bit != 0 {
+            let t = sets::insert(s, i as u8);
+            s = t;
+        }
+        i += 1;
+    }
+    s
+}
+
+// The bytes of a type's capital: `\D`, `\W`, `\S`, `\H` or `\V`.
+pub fn not_of_kind(k: Kind) -> [u64; 4]
+    ensures { λ r. ⌜ r ≡ setOf (isNotKind k) ⌝ }
+{
+    sets::complement(of_kind(k))
+}
+
+// The other case of b, whose kinds are at hand.
+fn swap_case(b: u8, kinds: u32) -> u8
+    requires { ⌜ kinds ≡ kindsOf b ⌝ }
+    ensures { λ r. ⌜ r ≡ otherCase b ⌝ }
+{
+    if kinds & LOWER != 0 {
+        return b - CASE_STEP;
+    }
+    if kinds & UPPER != 0 {
+        return b + CASE_STEP;
+    }
+    b
+}
+
+// The other case of an ASCII letter; any other byte itself.
+pub fn other_case(b: u8) -> u8
+    ensures { λ r. ⌜ r ≡ otherCase b ⌝ }
+{
+    swap_case(b, kinds_of(b))
+}
+
+// s with the other case of each member.
+pub fn close_case(s: [u64; 4]) -> [u64; 4]
+    ensures { λ r. ⌜ r ≡ caseClosed s ⌝ }
+{
+    let kinds = kind_table();
+    let mut t = sets::empty();
+    let mut i: usize = 0;
+    while i < 256 {
+        let b = i as u8;
+        if sets::contains(s, b) | sets::contains(s, swap_case(b, kinds[i])) {
+            let u = sets::insert(t, b);
+            t = u;
+        }
+        i += 1;
+    }
+    t
+}

@@ -1,0 +1,20 @@
+-- The theorems about the definitions of specs/, for the crates that build on them.
+pub mod Logic
+pub mod Example
+pub mod Written
+pub mod Range
+pub mod Shift
+pub mod Worlds
+pub mod Local
+pub mod Step
+pub mod Computed
+pub mod Counted
+pub mod Stream
+pub mod Base
+pub mod Decidable
+pub mod Enumerated
+pub mod OneList
+pub mod Moments
+pub mod Reports
+pub mod Ways
+pub mod Busy

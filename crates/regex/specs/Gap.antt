@@ -1,0 +1,40 @@
+-- What is known at a gap between two bytes, and the text of some bytes. Assumes nothing: these are definitions.
+use mathlib.Core.Path.{_≡_}
+use mathlib.Core.Bool.{Bool, true, false, _&&_}
+use mathlib.Core.List.{List, [], _∷_}
+use Prim.Native.Nat.{ℕ}
+use lib.Dec.{ltb}
+use lib.ListN.{length, getD, take, drop}
+use Rattle.regex.specs.Tree.{Text}
+
+-- the bytes before the gap, the bytes known after it, and whether the stream is known to end after those
+pub record Gap : Type 0 where
+  pub before : List ℕ
+  pub after : List ℕ
+  pub ended : Bool
+
+-- The gap before offset k of these bytes. A match passes no gap past the last byte: it takes a byte behind every gap but its last.
+abbrev pub gap : List ℕ → Bool → ℕ → Gap
+gap bytes ended k = record { before = take k bytes; after = drop k bytes; ended = ended }
+
+-- the text of these bytes, where `has c x` says that set c has byte x, and `holds a g` that assertion a is known to hold at gap g
+abbrev pub text : {C A : Type 0} → (C → ℕ → Bool) → (A → Gap → Bool) → List ℕ → Bool → Text C A
+text has holds bytes ended = record {
+  hit = λ c k. ltb k (length bytes) && has c (getD bytes k 0);
+  known = λ a k. holds a (gap bytes ended k);
+}
+
+-- there are no bytes here
+abbrev pub no-bytes : List ℕ → Bool
+no-bytes [] = true
+no-bytes (x ∷ l) = false
+
+-- the gap between these bytes and those, after which the stream has ended or may go on
+abbrev pub between : List ℕ → List ℕ → Bool → Gap
+between before after ended = record { before = before; after = after; ended = ended }
+
+-- Assertions that look one byte ahead: where a byte is after the gap, nothing behind that byte matters. Asked separately of streams that
+-- have ended and of those that may go on, since an assertion could look at a last newline.
+abbrev pub Near : {A : Type 0} → (A → Gap → Bool) → Bool → Type 0
+Near {A} holds ended = (a : A) (before : List ℕ) (x : ℕ) (rest : List ℕ)
+    → holds a (between before (x ∷ rest) ended) ≡ holds a (between before (x ∷ []) false)

@@ -1,0 +1,84 @@
+-- Moments, and the one ordered list of reports that some rules and a stream's bytes give. It names no table, no state and no
+-- automaton. Assumes nothing: these are definitions.
+use mathlib.Core.Path.{_≡_}
+use mathlib.Core.Logic.{_⊎_, _↔_}
+use mathlib.Core.Bool.{Bool}
+use mathlib.Core.List.{List, [], _∷_, map, List·Memᴰ}
+use Prim.Native.Nat.{ℕ, suc, _≤_, _<_}
+use lib.Dec.{T, ltb}
+use lib.ListN.{length, take}
+use Rattle.regex.specs.Tree.{Text, Means}
+use Rattle.regex.specs.Rule.{Rule, Assertion, ByteSet, stream}
+
+-- "Its moments are the bytes in order, then the closing": moment m, from 1 to n, comes when m bytes are taken, and n + 1 is the
+-- closing. No pair falls at moment 0.
+abbrev pub closing : List ℕ → ℕ
+closing bytes = suc (length bytes)
+
+-- What is known at a moment: the first bytes and nothing after them; at the closing all bytes and the end.
+abbrev pub end-known : List ℕ → ℕ → Bool
+end-known bytes m = ltb (length bytes) m
+
+abbrev pub seen : List ℕ → ℕ → Text ByteSet Assertion
+seen bytes m = stream (take m bytes) (end-known bytes m)
+
+-- moment j and offset d stand before moment m and offset e
+abbrev pub Earlier : (j d m e : ℕ) → Type 0
+Earlier j d m e = (j < m) ⊎ ((j ≡ m) × (d < e))
+
+module _ (bytes : List ℕ) (r : Rule) where
+  -- "one way of one of its matches has every assertion known to hold": some earlier start matches up to e by what is known at m
+  pub record Settled (m e : ℕ) : Type 0 where
+    pub start : ℕ
+    pub earlier : start < e
+    pub matched : Means (seen bytes m) (r .tree) start e
+
+  -- "A pair falls at the first moment, from its last byte on, when" it is settled.
+  pub record Falls (m e : ℕ) : Type 0 where
+    pub from-last : e ≤ m
+    pub by-closing : m ≤ closing bytes
+    pub settled : Settled m e
+    pub not-before : (j : ℕ) → e ≤ j → j < m → ¬ Settled j e
+
+  -- "Of a single-match rule only the first stays": its pair (j, d) hides a later pair (m, e).
+  abbrev pub Hides : (j d m e : ℕ) → Type 0
+  Hides j d m e = T (r .single) × Earlier j d m e
+
+  pub record Stays (m e : ℕ) : Type 0 where
+    pub falls : Falls m e
+    pub first : (j d : ℕ) → Falls j d → ¬ Hides j d m e
+
+-- a report with the moment at which it is given
+pub data Entry : Type 0 where
+  entry : (moment offset id : ℕ) → Entry
+
+-- "Pairs stand by moment, then end offset, then rising id"
+abbrev pub Before : Entry → Entry → Type 0
+Before (entry m e i) (entry n d j) = (m < n) ⊎ ((m ≡ n) × ((e < d) ⊎ ((e ≡ d) × (i < j))))
+
+-- every entry stands before all later ones
+unfoldable pub Rising : List Entry → Type 0
+Rising [] = Unit {0}
+Rising (x ∷ l) = ((y : Entry) → List·Memᴰ y l → Before x y) × Rising l
+
+-- the entry is owed by one of the rules
+abbrev pub Owed : List Rule → List ℕ → Entry → Type 0
+Owed rules bytes (entry m e i) = (r : Rule) × List·Memᴰ r rules × (r .id ≡ i) × Stays bytes r m e
+
+-- "Demand 3's one ordered list", with its moments
+pub record IsList (rules : List Rule) (bytes : List ℕ) (l : List Entry) : Type 0 where
+  pub rising : Rising l
+  pub exactly : (x : Entry) → List·Memᴰ x l ↔ Owed rules bytes x
+
+-- a report: rule id and end offset
+abbrev pub Pair : Type 0
+Pair = ℕ × ℕ
+
+abbrev pub pair : Entry → Pair
+pair (entry m e i) = (i, e)
+
+-- the reports alone
+pub record Ordered (rules : List Rule) (bytes : List ℕ) (reports : List Pair) : Type 0 where
+  pub list : List Entry
+  pub is-list : IsList rules bytes list
+  pub pairs : map pair list ≡ reports
