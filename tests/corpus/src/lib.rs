@@ -1,0 +1,10 @@
+//! The corpus: cases as plain data, and the one reader of their files. A runner gets the cases from
+//! here, carries their lines out on what it tests, and compares the answers written there.
+
+pub mod case;
+pub mod files;
+pub mod hex;
+pub mod program;
+
+pub use case::{Call, Case, Line, Lists, Report};
+pub use program::ProgramCase;

@@ -1,0 +1,163 @@
+//! The exhaustive mode: all patterns of up to k tokens over a small alphabet of tokens, with all
+//! logs up to a length over a small alphabet of bytes, and for each log all cuts into blocks.
+//!
+//! An accepted pattern stands twice in the table, plain and as a single-match rule, and all its
+//! streams are opened on that table one after another. Each cut is scanned with the least report
+//! space, so that the stop rule is at work wherever a byte reports, and, cut into single bytes, with
+//! the busy figure asked after each byte.
+
+use corpus::Case;
+
+use crate::definition::add_all;
+use crate::play::play;
+use crate::scenario::{predict_with, Addition, Scenario, Step};
+use crate::shrink::{describe, failure, shrink};
+use crate::watcher::{PatternReader, Watcher};
+
+/// Each token is one of the pattern language's, so that k tokens reach far.
+pub const TOKENS: &[&str] = &[
+    "a", "b", ".", "^", "$", "|", "(", ")", "*", "+", "?", "{2}", "{1,2}", "{,2}", "{2,}", "[^a]",
+    "(?i)", "\\z", "(?:",
+];
+
+/// Two letters that patterns name, one in the other case, and the newline.
+pub const BYTES: &[u8] = b"abA\n";
+
+#[derive(Clone, Copy, Debug)]
+pub struct Bounds {
+    pub tokens: usize,
+    pub bytes: usize,
+    /// Only the patterns whose index leaves this remainder by the divisor, for runs in parts.
+    pub part: (u64, u64),
+}
+
+#[derive(Clone, Debug, Default)]
+pub struct Count {
+    pub patterns: u64,
+    pub accepted: u64,
+    pub pairs: u64,
+    pub streams: u64,
+}
+
+/// Runs the mode; the first disagreement, made smaller, is the error.
+pub fn run<W: Watcher, R: PatternReader>(
+    watcher: &W,
+    reader: &R,
+    bounds: Bounds,
+) -> Result<Count, String> {
+    let mut count = Count::default();
+    let logs = all_logs(bounds.bytes);
+    let mut index = 0;
+    for tokens in 0..=bounds.tokens {
+        let mut digits = vec![0; tokens];
+        loop {
+            if index % bounds.part.1 == bounds.part.0 {
+                let pattern: String = digits.iter().map(|&d| TOKENS[d]).collect();
+                one_pattern(watcher, reader, pattern.as_bytes(), &logs, &mut count)?;
+            }
+            index += 1;
+            if !advance(&mut digits, TOKENS.len()) {
+                break;
+            }
+        }
+    }
+    Ok(count)
+}
+
+/// The next number of so many digits in this base; false after the last.
+fn advance(digits: &mut [usize], base: usize) -> bool {
+    for digit in digits.iter_mut() {
+        *digit += 1;
+        if *digit < base {
+            return true;
+        }
+        *digit = 0;
+    }
+    false
+}
+
+fn all_logs(longest: usize) -> Vec<Vec<u8>> {
+    let mut logs = vec![Vec::new()];
+    let mut from = 0;
+    for _ in 0..longest {
+        let until = logs.len();
+        for index in from..until {
+            for &byte in BYTES {
+                let mut longer = logs[index].clone();
+                longer.push(byte);
+                logs.push(longer);
+            }
+        }
+        from = until;
+    }
+    logs
+}
+
+fn one_pattern<W: Watcher, R: PatternReader>(
+    watcher: &W,
+    reader: &R,
+    pattern: &[u8],
+    logs: &[Vec<u8>],
+    count: &mut Count,
+) -> Result<(), String> {
+    let additions = vec![
+        Addition { id: 2, flags: 0, pattern: pattern.to_vec() },
+        Addition { id: 1, flags: 8, pattern: pattern.to_vec() },
+    ];
+    let (rules, answers) = add_all(additions.iter().map(|a| (a.id, a.flags, &a.pattern[..])));
+    let reading = reader.read(0, pattern);
+    let positions = rules.first().map_or(0, |rule| rule.positions);
+    if (reading.number, reading.place, reading.positions) != (answers[0].0, answers[0].1, positions)
+    {
+        let shown = pattern.escape_ascii();
+        return Err(format!("reading {shown}: {reading:?}, wanted {:?}, {positions}", answers[0]));
+    }
+    count.patterns += 1;
+    if rules.is_empty() {
+        return Ok(());
+    }
+    count.accepted += 1;
+    let scenario = |log: &[u8]| {
+        let steps = all_cuts(log.len()).join(&Step::Again);
+        Scenario { additions: additions.clone(), log: log.to_vec(), steps }
+    };
+    let mut all = Case { name: String::new(), origin: String::new(), lines: Vec::new() };
+    for log in logs {
+        let case = predict_with(&scenario(log), &rules, &answers);
+        let added = if all.lines.is_empty() { 0 } else { additions.len() };
+        all.lines.extend(case.lines.into_iter().skip(added));
+        count.pairs += 1;
+        count.streams += 1 << log.len().saturating_sub(1);
+    }
+    if play(watcher, &all).is_ok() {
+        return Ok(());
+    }
+    let failing = logs.iter().map(|log| scenario(log)).find(|s| failure(watcher, s).is_some());
+    Err(match failing {
+        Some(scenario) => describe(watcher, &shrink(watcher, &scenario)),
+        None => format!("# fails only after the streams before it\n{all}"),
+    })
+}
+
+/// For each cut of so many bytes into blocks the steps of the caller, closing included.
+fn all_cuts(length: usize) -> Vec<Vec<Step>> {
+    let gaps = length.saturating_sub(1);
+    (0..1usize << gaps)
+        .map(|choice| {
+            let mut steps = Vec::new();
+            let mut block = 0;
+            for byte in 0..length {
+                block += 1;
+                if byte == gaps || choice >> byte & 1 == 1 {
+                    steps.push(Step::Offer { bytes: block, space: 2 });
+                    if choice + 1 == 1 << gaps {
+                        steps.push(Step::Figure);
+                    }
+                    block = 0;
+                }
+            }
+            steps.push(Step::Close { ids: 2, offsets: 2 });
+            steps
+        })
+        .collect()
+}

@@ -1,0 +1,20 @@
+//! The comparing harness: cases from the corpus and from the generators, carried out on whatever is
+//! under test and compared with the definition.
+//!
+//! `watcher` is the interface to what is under test; `model` puts the reference's calls behind it.
+//! `scenario` turns additions, a log and a caller's doings into a case whose answers the definition
+//! gives; `play` carries a case out, be it from there or from the corpus. `exhaustive` and `random`
+//! make scenarios, `shrink` makes a failing one small. `readings` compares the reader alone.
+
+pub mod corpus_run;
+pub mod definition;
+pub mod exhaustive;
+pub mod model;
+pub mod patterns;
+pub mod play;
+pub mod random;
+pub mod readings;
+pub mod rng;
+pub mod scenario;
+pub mod shrink;
+pub mod watcher;

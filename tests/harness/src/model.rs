@@ -1,0 +1,93 @@
+//! The reference behind the interface: the model of the calls, the reader, and the program.
+
+use reference::calls::{Stream, Table};
+use reference::{program, rule};
+
+use crate::watcher::{Answer, Change, PatternReader, Program, Reading, Watcher};
+
+pub struct Model;
+
+impl Watcher for Model {
+    type Table = Table;
+    type Stream = Stream;
+
+    fn words(&self, count: usize) -> Table {
+        Table::lent(count)
+    }
+
+    fn resized(&self, table: &Table, count: usize) -> Table {
+        table.resized(count)
+    }
+
+    fn empty(&self, table: &mut Table) -> u32 {
+        table.empty()
+    }
+
+    fn add(&self, table: &mut Table, id: u32, flags: u32, pattern: &[u8]) -> (u32, usize) {
+        match table.add(id, flags, pattern) {
+            Ok(()) => (0, 0),
+            Err(refusal) => (refusal.number, refusal.place),
+        }
+    }
+
+    fn open(&self, table: &Table) -> (u32, Stream) {
+        table.open()
+    }
+
+    fn scan(
+        &self,
+        table: &Table,
+        stream: Stream,
+        block: &[u8],
+        ids: &mut [u32],
+        offsets: &mut [u64],
+    ) -> Answer<Stream> {
+        answer(stream.scan(table, block, ids, offsets))
+    }
+
+    fn close(
+        &self,
+        table: &Table,
+        stream: Stream,
+        ids: &mut [u32],
+        offsets: &mut [u64],
+    ) -> Answer<Stream> {
+        answer(stream.close(table, ids, offsets))
+    }
+
+    fn busy(&self, stream: &Stream) -> usize {
+        stream.busy()
+    }
+
+    fn changed(&self, stream: &Stream, change: Change) -> Option<Stream> {
+        match change {
+            Change::Total(total) => stream.with_total(total),
+            Change::Live(position) => stream.with_stray_live(position),
+            Change::Mark(rule) => stream.with_mark(rule),
+        }
+    }
+}
+
+fn answer(answer: reference::calls::Answer) -> Answer<Stream> {
+    Answer {
+        number: answer.number,
+        taken: answer.taken,
+        count: answer.count,
+        stream: answer.stream,
+    }
+}
+
+impl PatternReader for Model {
+    fn read(&self, flags: u32, pattern: &[u8]) -> Reading {
+        match rule::check(&[], 0, flags, pattern) {
+            Ok(rule) => Reading { number: 0, place: 0, positions: rule.positions },
+            Err(refusal) => Reading { number: refusal.number, place: refusal.place, positions: 0 },
+        }
+    }
+}
+
+impl Program for Model {
+    fn run(&self, rules: Option<&[u8]>, input: &[u8]) -> Vec<u8> {
+        program::run(rules.unwrap_or_default(), input)
+    }
+}

@@ -1,0 +1,175 @@
+//! The random mode: tables of a few rules over the whole subset, malformed ones among them, a log
+//! in which they have something to find, and a caller with blocks and report spaces of any size who
+//! now and then makes a call that is refused. Case i of a run depends on the seed and on i alone.
+
+use corpus::{Case, Line};
+use reference::rule::Rule;
+use reference::tree::Node;
+
+use crate::definition::add_all;
+use crate::patterns::{pattern, ODD_BYTES};
+use crate::play::play;
+use crate::rng::Rng;
+use crate::scenario::{predict, Addition, Scenario, Step};
+use crate::shrink::{describe, shrink};
+use crate::watcher::Watcher;
+
+#[derive(Clone, Debug, Default)]
+pub struct Count {
+    pub cases: u64,
+    /// Accepted rules, each with the log of its case.
+    pub pairs: u64,
+    pub calls: u64,
+    pub refused_calls: u64,
+    pub reports: u64,
+    /// Additions by their number, 0 to 17.
+    pub by_number: [u64; 18],
+}
+
+/// Runs the cases from `first` on; the first disagreement, made smaller, is the error.
+pub fn run<W: Watcher>(watcher: &W, seed: u64, first: u64, cases: u64) -> Result<Count, String> {
+    let mut count = Count::default();
+    for index in first..first + cases {
+        let scenario = scenario(&mut Rng::for_case(seed, index));
+        let case = predict(&scenario);
+        if play(watcher, &case).is_err() {
+            let small = describe(watcher, &shrink(watcher, &scenario));
+            return Err(format!("# random seed {seed}, case {index}\n{small}"));
+        }
+        tally(&case, &mut count);
+    }
+    Ok(count)
+}
+
+fn tally(case: &Case, count: &mut Count) {
+    count.cases += 1;
+    let mut opened = false;
+    for line in &case.lines {
+        match line {
+            Line::Open(_) => opened = true,
+            Line::Rule { number, .. } => {
+                count.by_number[*number as usize] += 1;
+                count.pairs += u64::from(*number == 0 && !opened);
+            }
+            Line::Call(call) => {
+                count.calls += 1;
+                count.refused_calls += u64::from(call.number != 0);
+                count.reports += call.count as u64;
+            }
+            _ => {}
+        }
+    }
+}
+
+pub fn scenario(rng: &mut Rng) -> Scenario {
+    let mut additions = Vec::new();
+    for _ in 0..[1, 1, 2, 2, 3, 4, 6][rng.below(7)] {
+        additions.push(addition(rng));
+    }
+    if rng.once_in(30) {
+        let pattern = rng.pick(&[&b"a{200}"[..], b"(ab){64}", b"b{2,127}", b"[ab]{254,}"]).to_vec();
+        additions.insert(0, Addition { id: 77, flags: 0, pattern });
+    }
+    if rng.once_in(40) {
+        let small = |id| Addition { id, flags: 0, pattern: vec![b'a' + (id % 3) as u8] };
+        additions.extend((100..100 + 28 + rng.below(8) as u32).map(small));
+    }
+    let (rules, _) = add_all(additions.iter().map(|a| (a.id, a.flags, &a.pattern[..])));
+    let log = log(rng, &rules);
+    let mut steps = Vec::new();
+    for _ in 0..rng.below(12) {
+        steps.push(step(rng, rules.len(), log.len()));
+    }
+    if rng.once_in(2) {
+        steps.push(Step::Offer { bytes: usize::MAX, space: rules.len() });
+        steps.push(Step::Figure);
+        steps.push(Step::Close { ids: rules.len().saturating_sub(1), offsets: 40 });
+    }
+    Scenario { additions, log, steps }
+}
+
+fn addition(rng: &mut Rng) -> Addition {
+    let id = match rng.below(6) {
+        0 => 0,
+        1 => u32::MAX,
+        2 => rng.word() as u32,
+        _ => rng.below(9) as u32,
+    };
+    let flags = match rng.below(30) {
+        0 => rng.word() as u32,
+        1 => 4,
+        _ => *rng.pick(&[0, 0, 0, 1, 2, 8, 8, 3, 9, 10, 11]),
+    };
+    Addition { id, flags, pattern: pattern(rng) }
+}
+
+fn step(rng: &mut Rng, rules: usize, log: usize) -> Step {
+    let ids = space(rng, rules);
+    let offsets = space(rng, rules);
+    match rng.below(24) {
+        0 => Step::Close { ids, offsets },
+        1 => Step::Close { ids: rules.saturating_sub(1), offsets },
+        2 => Step::ShortTable,
+        3 => Step::NoTable,
+        4 => Step::RefusedState,
+        5 => Step::GrownTable,
+        6 | 7 => Step::Add(addition(rng)),
+        8..=12 => Step::Figure,
+        13 => Step::Offer { bytes: rng.below(log + 2), space: ids },
+        _ => Step::Scan { bytes: rng.below(log + 2), ids, offsets, drop: rng.once_in(6) },
+    }
+}
+
+/// Mostly enough, often just enough, sometimes too little.
+fn space(rng: &mut Rng, rules: usize) -> usize {
+    match rng.below(8) {
+        0 => rng.below(rules + 1),
+        1..=4 => rules + rng.below(3),
+        _ => rules + rng.below(40),
+    }
+}
+
+/// A log of stretches that the rules match, broken stretches, and noise.
+pub fn log(rng: &mut Rng, rules: &[Rule]) -> Vec<u8> {
+    let mut log = Vec::new();
+    for _ in 0..rng.below(12) {
+        match rng.below(8) {
+            0 => log.push(*rng.pick(ODD_BYTES)),
+            1 => log.extend((0..rng.below(4)).map(|_| *rng.pick(b"abcABC"))),
+            2 => log.push(rng.byte()),
+            _ if rules.is_empty() => log.push(b'a'),
+            _ => {
+                let rule = rng.pick(rules);
+                sample(rng, &rule.tree, &mut log);
+                if rng.once_in(4) {
+                    log.pop();
+                }
+            }
+        }
+        log.truncate(40);
+    }
+    log
+}
+
+/// Bytes that the node could match, were its assertions true.
+fn sample(rng: &mut Rng, node: &Node, log: &mut Vec<u8>) {
+    match node {
+        Node::Item(set) => {
+            let members = set.members();
+            if !members.is_empty() {
+                log.push(*rng.pick(&members));
+            }
+        }
+        Node::Assert(_) => {}
+        Node::Sequence(parts) => parts.iter().for_each(|part| sample(rng, part, log)),
+        Node::Choice(branches) => {
+            let branch = rng.pick(branches);
+            sample(rng, branch, log);
+        }
+        Node::Repeat { of, low, high } => {
+            let most = high.unwrap_or(low + 2).min(low + 3);
+            let copies = low + rng.below((most - low + 1) as usize) as u32;
+            (0..copies.min(40)).for_each(|_| sample(rng, of, log));
+        }
+    }
+}

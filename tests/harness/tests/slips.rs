@@ -1,0 +1,232 @@
+//! The harness itself under test: watchers with one slip each, made from the model. The corpus and
+//! the random mode must find every one of them, and what the shrinker prints must be a small case
+//! that the corpus's reader reads and that still fails.
+
+use harness::exhaustive::{self, Bounds};
+use harness::model::Model;
+use harness::play::play;
+use harness::random;
+use harness::watcher::{Answer, Change, Watcher};
+use reference::calls::{Stream, Table};
+
+#[derive(Clone, Copy, Debug, PartialEq)]
+enum Slip {
+    PlaceOfTheMark,
+    EndFaultAtTheStart,
+    HalfOfAByte,
+    StopsEarly,
+    WritesPastTheCount,
+    FallingIds,
+    SmallFigure,
+    SilentClosing,
+    RefusedClosingCloses,
+    ForgetsSingleMatch,
+    RefusedAdditionAdds,
+    TakesNoMoreWhenFull,
+    IgnoresTheShorterList,
+}
+
+use Slip::*;
+
+const SLIPS: [Slip; 13] = [
+    PlaceOfTheMark,
+    EndFaultAtTheStart,
+    HalfOfAByte,
+    StopsEarly,
+    WritesPastTheCount,
+    FallingIds,
+    SmallFigure,
+    SilentClosing,
+    RefusedClosingCloses,
+    ForgetsSingleMatch,
+    RefusedAdditionAdds,
+    TakesNoMoreWhenFull,
+    IgnoresTheShorterList,
+];
+
+impl Slip {
+    /// All bytes of the block are taken, and the reports are cut at the end of the space.
+    fn half_of_a_byte(
+        self,
+        table: &Table,
+        stream: Stream,
+        block: &[u8],
+        ids: &mut [u32],
+        offsets: &mut [u64],
+    ) -> Answer<Stream> {
+        let space = ids.len().min(offsets.len());
+        let mut all = (vec![0; 32 * block.len() + space], vec![0; 32 * block.len() + space]);
+        let mut answer = Model.scan(table, stream.clone(), block, &mut all.0, &mut all.1);
+        if answer.number != 0 {
+            return answer;
+        }
+        if answer.count > space && space > 0 {
+            let before = all.1[0] - 1;
+            let last = all.1[space - 1] - before;
+            let block = &block[..(last as usize).min(block.len())];
+            answer = Model.scan(table, stream, block, &mut all.0, &mut all.1);
+        }
+        answer.count = answer.count.min(space);
+        ids[..answer.count].copy_from_slice(&all.0[..answer.count]);
+        offsets[..answer.count].copy_from_slice(&all.1[..answer.count]);
+        answer
+    }
+}
+
+impl Watcher for Slip {
+    type Table = Table;
+    type Stream = Stream;
+
+    fn words(&self, count: usize) -> Table {
+        Model.words(count)
+    }
+
+    fn resized(&self, table: &Table, count: usize) -> Table {
+        Model.resized(table, count)
+    }
+
+    fn empty(&self, table: &mut Table) -> u32 {
+        Model.empty(table)
+    }
+
+    fn add(&self, table: &mut Table, id: u32, flags: u32, pattern: &[u8]) -> (u32, usize) {
+        let flags = if *self == ForgetsSingleMatch { flags & !8 } else { flags };
+        let (number, place) = Model.add(table, id, flags, pattern);
+        match (self, number) {
+            (PlaceOfTheMark, 14) => (number, place + 1),
+            (EndFaultAtTheStart, 12 | 15) => (number, 0),
+            (RefusedAdditionAdds, 16) => {
+                Model.add(table, id, flags, b"a");
+                (number, place)
+            }
+            _ => (number, place),
+        }
+    }
+
+    fn open(&self, table: &Table) -> (u32, Stream) {
+        Model.open(table)
+    }
+
+    fn scan(
+        &self,
+        table: &Table,
+        stream: Stream,
+        block: &[u8],
+        ids: &mut [u32],
+        offsets: &mut [u64],
+    ) -> Answer<Stream> {
+        let space = ids.len().min(offsets.len());
+        match self {
+            HalfOfAByte => return self.half_of_a_byte(table, stream, block, ids, offsets),
+            StopsEarly if block.len() > 1 => {
+                return Model.scan(table, stream, &block[..block.len() - 1], ids, offsets)
+            }
+            IgnoresTheShorterList if ids.len() > space => {
+                let mut longer = vec![0; ids.len()];
+                return Model.scan(table, stream, block, ids, &mut longer);
+            }
+            _ => {}
+        }
+        let whole = Model.scan(table, stream.clone(), block, ids, offsets);
+        if whole.number != 0 {
+            return whole;
+        }
+        match self {
+            WritesPastTheCount if whole.count < ids.len() => ids[whole.count] = 0,
+            FallingIds => ids[..whole.count].sort_by_key(|id| std::cmp::Reverse(*id)),
+            TakesNoMoreWhenFull if whole.count == space && space > 0 => {
+                let until = (1..=block.len()).find(|&n| {
+                    let answer = Model.scan(table, stream.clone(), &block[..n], ids, offsets);
+                    answer.count == space
+                });
+                let until = until.unwrap_or(block.len());
+                return Model.scan(table, stream, &block[..until], ids, offsets);
+            }
+            _ => {}
+        }
+        whole
+    }
+
+    fn close(
+        &self,
+        table: &Table,
+        stream: Stream,
+        ids: &mut [u32],
+        offsets: &mut [u64],
+    ) -> Answer<Stream> {
+        match self {
+            SilentClosing => {
+                let (mut other_ids, mut other_offsets) = (ids.to_vec(), offsets.to_vec());
+                let answer = Model.close(table, stream, &mut other_ids, &mut other_offsets);
+                Answer { count: 0, ..answer }
+            }
+            RefusedClosingCloses => {
+                let answer = Model.close(table, stream.clone(), ids, offsets);
+                if answer.number == 20 {
+                    let closed = Model.close(table, stream, &mut [0; 32], &mut [0; 32]);
+                    return Answer { stream: closed.stream, ..answer };
+                }
+                answer
+            }
+            _ => Model.close(table, stream, ids, offsets),
+        }
+    }
+
+    fn busy(&self, stream: &Stream) -> usize {
+        let figure = Model.busy(stream);
+        if *self == SmallFigure && figure > 2 {
+            figure - 1
+        } else {
+            figure
+        }
+    }
+
+    fn changed(&self, stream: &Stream, change: Change) -> Option<Stream> {
+        Model.changed(stream, change)
+    }
+}
+
+#[test]
+fn the_corpus_finds_every_slip() {
+    let cases = corpus::files::cases(corpus::files::folder()).unwrap();
+    for slip in SLIPS {
+        let found = cases.iter().any(|case| play(&slip, case).is_err());
+        assert!(found, "{slip:?} passes the corpus");
+    }
+}
+
+#[test]
+fn the_random_mode_finds_every_slip_and_makes_it_small() {
+    for slip in SLIPS {
+        let found = random::run(&slip, 1, 0, 3_000).expect_err("a disagreement");
+        let cases = corpus::files::cases_in("found", &found).unwrap();
+        assert_eq!(cases.len(), 1, "{slip:?}: {found}");
+        assert!(play(&slip, &cases[0]).is_err(), "{slip:?}: {found}");
+        assert!(play(&Model, &cases[0]).is_ok(), "{slip:?}: {found}");
+        assert!(cases[0].lines.len() <= 12, "{slip:?} is not small: {found}");
+    }
+}
+
+#[test]
+fn the_exhaustive_mode_finds_a_slip() {
+    let bounds = Bounds { tokens: 1, bytes: 2, part: (0, 1) };
+    for slip in [FallingIds, StopsEarly, ForgetsSingleMatch] {
+        assert!(exhaustive::run(&slip, &Model, bounds).is_err(), "{slip:?}");
+    }
+}
+
+#[test]
+fn the_model_agrees_with_the_definition() {
+    let bounds = Bounds { tokens: 2, bytes: 3, part: (0, 1) };
+    let count = exhaustive::run(&Model, &Model, bounds).unwrap();
+    assert_eq!(count.patterns, 1 + 19 + 19 * 19);
+    assert!(count.accepted > 40 && count.pairs == count.accepted * (1 + 4 + 16 + 64));
+    random::run(&Model, 2, 0, 500).unwrap();
+}
+
+#[test]
+fn a_seed_gives_the_same_cases() {
+    let scenario = |index| random::scenario(&mut harness::rng::Rng::for_case(5, index));
+    assert_eq!(scenario(3), scenario(3));
+    assert_ne!(scenario(3), scenario(4));
+}

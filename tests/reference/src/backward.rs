@@ -1,0 +1,52 @@
+//! Matching by looking back, for the model of the calls: at a moment, from which offsets does the
+//! written-out form match up to here? The form is read from right to left. This is a second way to
+//! the same meaning, on purpose unlike the definition's: other direction, other shape of the
+//! pattern, and nothing but the bytes taken so far.
+
+use crate::known::Known;
+use crate::offsets::{union, without, Offsets};
+use crate::written::Form;
+
+/// Does the form match from some earlier offset up to the last known byte?
+pub fn matches_up_to_now(form: &Form, known: &Known) -> bool {
+    let now = known.bytes.len();
+    starts(form, &[now], known).iter().any(|&start| start < now)
+}
+
+/// Is the position live: is there a way that has just taken the last known byte there?
+pub fn is_live(form: &Form, position: usize, known: &Known) -> bool {
+    matches_up_to_now(&form.up_to_position(position), known)
+}
+
+/// Where a match of the form can start that ends at one of `ends`.
+fn starts(form: &Form, ends: &[usize], known: &Known) -> Offsets {
+    if ends.is_empty() {
+        return Offsets::new();
+    }
+    match form {
+        Form::Position(_, set) => ends
+            .iter()
+            .filter(|&&end| end > 0 && known.byte_in(end - 1, set))
+            .map(|end| end - 1)
+            .collect(),
+        Form::Assert(assertion) => {
+            ends.iter().copied().filter(|&gap| known.holds(*assertion, gap)).collect()
+        }
+        Form::Sequence(parts) => {
+            parts.iter().rev().fold(ends.to_vec(), |at, part| starts(part, &at, known))
+        }
+        Form::Choice(branches) => branches
+            .iter()
+            .fold(Offsets::new(), |found, branch| union(&found, &starts(branch, ends, known))),
+        Form::Optional(of) => union(ends, &starts(of, ends, known)),
+        Form::Plus(of) => {
+            let mut found = Offsets::new();
+            let mut newest = ends.to_vec();
+            while !newest.is_empty() {
+                newest = without(&starts(of, &newest, known), &found);
+                found = union(&found, &newest);
+            }
+            found
+        }
+    }
+}

@@ -1,0 +1,243 @@
+//! A model of the calls: emptying, adding, opening, scanning, closing, the busy figure. It answers
+//! as the rules of the product say, refusals and lent lists included, but keeps its tables and
+//! states in the plainest shape: a table is the list of its rules, a state is the bytes taken.
+//!
+//! At each byte the rules are matched anew, looking back from that byte over the bytes taken so
+//! far. Nothing is carried from byte to byte but the bytes and the marks of single-match rules.
+//!
+//! A state may be handed to a table it was not opened on. If the counts agree it is valid, and its
+//! bytes count as bytes of that table's stream; for a state that has taken bytes under other rules
+//! this is not what a scanner that keeps live positions would say, so no comparison asks for it.
+
+use std::rc::Rc;
+
+use crate::backward::{is_live, matches_up_to_now};
+use crate::known::Known;
+use crate::refusal::{Refusal, MAX_STREAM, TABLE_WORDS};
+use crate::rule::{check, positions_of, Rule};
+
+/// Lent words: how many, and the rules they hold if they are a table.
+#[derive(Clone, Debug, PartialEq)]
+pub struct Table {
+    words: usize,
+    rules: Option<Rc<Vec<Rule>>>,
+}
+
+/// A stream state.
+#[derive(Clone, Debug, PartialEq)]
+pub struct Stream {
+    rule_count: usize,
+    position_count: usize,
+    /// The rules of the table it was opened on, of which the live positions are positions.
+    rules: Rc<Vec<Rule>>,
+    /// Bytes taken before the ones kept here: 0, unless set by hand.
+    base: u64,
+    bytes: Vec<u8>,
+    /// Indices of the rules marked "already reported", in the order of rising ids.
+    marks: Vec<usize>,
+    /// Live positions set by hand, of which none is among the table's.
+    stray_live: Vec<usize>,
+    closed: bool,
+}
+
+/// The answer of a scan or a closing. A closing takes no bytes.
+#[derive(Clone, Debug, PartialEq)]
+pub struct Answer {
+    pub number: u32,
+    pub taken: usize,
+    pub count: usize,
+    pub stream: Stream,
+}
+
+impl Table {
+    /// So many words that were never emptied: no table.
+    pub fn lent(words: usize) -> Table {
+        Table { words, rules: None }
+    }
+
+    /// The first words of these, or these and further ones.
+    pub fn resized(&self, words: usize) -> Table {
+        let rules = if words < TABLE_WORDS { None } else { self.rules.clone() };
+        Table { words, rules }
+    }
+
+    pub fn empty(&mut self) -> u32 {
+        if self.words < TABLE_WORDS {
+            return 1;
+        }
+        self.rules = Some(Rc::new(Vec::new()));
+        0
+    }
+
+    /// Check 1: the rules, kept by rising id, if enough words are lent and they are a table.
+    fn rules(&self) -> Result<&Rc<Vec<Rule>>, u32> {
+        if self.words < TABLE_WORDS {
+            return Err(1);
+        }
+        self.rules.as_ref().ok_or(1)
+    }
+
+    pub fn add(&mut self, id: u32, flags: u32, pattern: &[u8]) -> Result<(), Refusal> {
+        let rules = self.rules().map_err(|number| Refusal::at(number, 0))?;
+        let rule = check(rules, id, flags, pattern)?;
+        let mut more = rules.to_vec();
+        more.push(rule);
+        more.sort_by_key(|rule| rule.id);
+        self.rules = Some(Rc::new(more));
+        Ok(())
+    }
+
+    /// The number, and a fresh state, or for a refusal a closed state with all else zero.
+    pub fn open(&self) -> (u32, Stream) {
+        match self.rules() {
+            Ok(rules) => (0, Stream::new(rules.clone(), false)),
+            Err(number) => (number, Stream::new(Rc::new(Vec::new()), true)),
+        }
+    }
+}
+
+impl Stream {
+    fn new(rules: Rc<Vec<Rule>>, closed: bool) -> Stream {
+        Stream {
+            rule_count: rules.len(),
+            position_count: positions_of(&rules),
+            rules,
+            base: 0,
+            bytes: Vec::new(),
+            marks: Vec::new(),
+            stray_live: Vec::new(),
+            closed,
+        }
+    }
+
+    fn total(&self) -> u64 {
+        self.base.saturating_add(self.bytes.len() as u64)
+    }
+
+    /// The number of live positions.
+    pub fn busy(&self) -> usize {
+        let known = Known { base: self.base, bytes: &self.bytes, end: false };
+        let live =
+            |rule: &Rule| (0..rule.positions).filter(|&p| is_live(&rule.form, p, &known)).count();
+        self.rules.iter().map(live).sum::<usize>() + self.stray_live.len()
+    }
+
+    /// This fresh state with another total, set by hand.
+    pub fn with_total(&self, total: u64) -> Option<Stream> {
+        self.bytes.is_empty().then(|| Stream { base: total, ..self.clone() })
+    }
+
+    /// This state with a live position that none of its table's rules has, set by hand.
+    pub fn with_stray_live(&self, position: usize) -> Option<Stream> {
+        let mut next = self.clone();
+        next.stray_live.push(position);
+        (position >= self.position_count).then_some(next)
+    }
+
+    /// This state with a mark "already reported", set by hand.
+    pub fn with_mark(&self, rule: usize) -> Option<Stream> {
+        let mut next = self.clone();
+        next.marks.push(rule);
+        Some(next)
+    }
+
+    /// Check 18: is the state valid for these rules?
+    fn valid_for(&self, rules: &[Rule]) -> bool {
+        self.rule_count == rules.len()
+            && self.position_count == positions_of(rules)
+            && self.stray_live.iter().all(|&p| p < self.position_count)
+            && self.marks.iter().all(|&i| rules.get(i).is_some_and(Rule::single_match))
+            && self.total() <= MAX_STREAM
+    }
+
+    /// The checks of a scan in their order 1, 18, 19, 21, 20. An empty block never gets 21, so a
+    /// closing has the same checks with an empty block.
+    fn checked<'t>(&self, table: &'t Table, block: usize, space: usize) -> Result<&'t [Rule], u32> {
+        let rules = table.rules()?;
+        if !self.valid_for(rules) {
+            return Err(18);
+        }
+        if self.closed {
+            return Err(19);
+        }
+        if block as u64 > MAX_STREAM - self.total() {
+            return Err(21);
+        }
+        if space < rules.len() {
+            return Err(20);
+        }
+        Ok(rules)
+    }
+
+    fn refused(self, number: u32) -> Answer {
+        Answer { number, taken: 0, count: 0, stream: self }
+    }
+
+    /// Takes bytes one at a time and stops before the first whose reports would not all fit.
+    pub fn scan(
+        mut self,
+        table: &Table,
+        block: &[u8],
+        ids: &mut [u32],
+        offsets: &mut [u64],
+    ) -> Answer {
+        let space = ids.len().min(offsets.len());
+        let rules = match self.checked(table, block.len(), space) {
+            Ok(rules) => rules,
+            Err(number) => return self.refused(number),
+        };
+        let mut taken = 0;
+        let mut count = 0;
+        for &byte in block {
+            self.bytes.push(byte);
+            let reporting = self.reporting(rules, false);
+            if reporting.len() > space - count {
+                self.bytes.pop();
+                break;
+            }
+            for index in reporting {
+                ids[count] = rules[index].id;
+                offsets[count] = self.total();
+                count += 1;
+                if rules[index].single_match() {
+                    self.marks.push(index);
+                }
+            }
+            taken += 1;
+        }
+        Answer { number: 0, taken, count, stream: self }
+    }
+
+    /// Reports the pairs that need the end, and sets the closed mark; nothing else changes.
+    pub fn close(mut self, table: &Table, ids: &mut [u32], offsets: &mut [u64]) -> Answer {
+        let space = ids.len().min(offsets.len());
+        let rules = match self.checked(table, 0, space) {
+            Ok(rules) => rules,
+            Err(number) => return self.refused(number),
+        };
+        let given = self.matching(rules, false);
+        let mut count = 0;
+        for index in self.reporting(rules, true) {
+            if !given.contains(&index) {
+                ids[count] = rules[index].id;
+                offsets[count] = self.total();
+                count += 1;
+            }
+        }
+        self.closed = true;
+        Answer { number: 0, taken: 0, count, stream: self }
+    }
+
+    /// The rules, by rising id, that match up to the last byte taken, as far as is known.
+    fn matching(&self, rules: &[Rule], end: bool) -> Vec<usize> {
+        let known = Known { base: self.base, bytes: &self.bytes, end };
+        (0..rules.len()).filter(|&i| matches_up_to_now(&rules[i].form, &known)).collect()
+    }
+
+    /// Those of them that are not marked.
+    fn reporting(&self, rules: &[Rule], end: bool) -> Vec<usize> {
+        let mut found = self.matching(rules, end);
+        found.retain(|index| !self.marks.contains(index));
+        found
+    }
+}

@@ -1,0 +1,102 @@
+//! Escapes. Comes in: a pattern and the index of a `\`. Goes out: what the escape stands for and
+//! where it ends, or the number of its fault. Whether it stands in a class matters for `\b`, `\N`,
+//! `\A` and `\z` only.
+
+use crate::bytes::{type_named, ByteSet};
+use crate::tree::Assertion;
+
+#[derive(Clone, Debug)]
+pub enum Escaped {
+    Byte(u8),
+    Type(ByteSet),
+    NotNewline,
+    Assertion(Assertion),
+}
+
+/// An escape read: its meaning or the number of its fault, and the index after it. An escape with
+/// fault 6 is unfinished; it is taken to reach the pattern's end.
+pub struct Escape {
+    pub meaning: Result<Escaped, u32>,
+    pub end: usize,
+}
+
+pub fn read(pattern: &[u8], at: usize, in_class: bool) -> Escape {
+    let Some(&letter) = pattern.get(at + 1) else {
+        return unfinished(pattern);
+    };
+    let two = |meaning| Escape { meaning, end: at + 2 };
+    if !letter.is_ascii_alphanumeric() {
+        return two(Ok(Escaped::Byte(letter)));
+    }
+    if let Some(set) = type_named(letter) {
+        return two(Ok(Escaped::Type(set)));
+    }
+    match letter {
+        b'a' => two(Ok(Escaped::Byte(7))),
+        b'e' => two(Ok(Escaped::Byte(27))),
+        b'f' => two(Ok(Escaped::Byte(12))),
+        b'n' => two(Ok(Escaped::Byte(10))),
+        b'r' => two(Ok(Escaped::Byte(13))),
+        b't' => two(Ok(Escaped::Byte(9))),
+        b'0' => few_digits(pattern, at + 2, 8),
+        b'x' if pattern.get(at + 2) != Some(&b'{') => few_digits(pattern, at + 2, 16),
+        b'x' => in_braces(pattern, at + 2, 16),
+        b'o' => in_braces(pattern, at + 2, 8),
+        b'c' => control(pattern, at),
+        b'b' if in_class => two(Ok(Escaped::Byte(8))),
+        b'N' if !in_class => two(Ok(Escaped::NotNewline)),
+        b'A' if !in_class => two(Ok(Escaped::Assertion(Assertion::Start))),
+        b'z' if !in_class => two(Ok(Escaped::Assertion(Assertion::End))),
+        _ => two(Err(14)),
+    }
+}
+
+fn unfinished(pattern: &[u8]) -> Escape {
+    Escape { meaning: Err(6), end: pattern.len() }
+}
+
+/// The value of an ASCII digit in a base, if it is one.
+fn digit(byte: u8, base: u32) -> Option<u32> {
+    (byte as char).to_digit(base)
+}
+
+/// Up to two digits from `at` on; none gives 0. Two hex digits reach 255, two octal ones 63.
+fn few_digits(pattern: &[u8], at: usize, base: u32) -> Escape {
+    let mut value = 0;
+    let mut end = at;
+    while end < pattern.len() && end < at + 2 {
+        let Some(d) = digit(pattern[end], base) else { break };
+        value = value * base + d;
+        end += 1;
+    }
+    Escape { meaning: Ok(Escaped::Byte(value as u8)), end }
+}
+
+/// `{`, one or more digits, `}` from `at` on, or fault 6; a value over 255 is fault 7. The value is
+/// held at 256 once it is too big, so that any number of digits can be read.
+fn in_braces(pattern: &[u8], at: usize, base: u32) -> Escape {
+    if pattern.get(at) != Some(&b'{') {
+        return unfinished(pattern);
+    }
+    let mut value = 0;
+    let mut end = at + 1;
+    while let Some(d) = pattern.get(end).and_then(|&b| digit(b, base)) {
+        value = (value * base + d).min(256);
+        end += 1;
+    }
+    if end == at + 1 || pattern.get(end) != Some(&b'}') {
+        return unfinished(pattern);
+    }
+    let meaning = if value > 255 { Err(7) } else { Ok(Escaped::Byte(value as u8)) };
+    Escape { meaning, end: end + 1 }
+}
+
+/// `\c` and a byte from 32 to 126, raised to upper case, its 64 bit flipped.
+fn control(pattern: &[u8], at: usize) -> Escape {
+    match pattern.get(at + 2) {
+        Some(&b) if (32..=126).contains(&b) => {
+            Escape { meaning: Ok(Escaped::Byte(b.to_ascii_uppercase() ^ 64)), end: at + 3 }
+        }
+        _ => unfinished(pattern),
+    }
+}
