@@ -1,0 +1,139 @@
+-- Emptying. The words of `emptied t` are known one by one, so what the loop writes is `emptied t`; the result passes the test and describes the automaton
+-- with no rules.
+use mathlib.Core.Path.{_≡_, refl, sym, ap, _∙_}
+use mathlib.Core.Bool.{true, false, cond, _&&_}
+use mathlib.Core.List.{List, _++_}
+use Prim.Native.Nat.{ℕ, zero, suc, pred, _+_, _-_, _≤_, _<_}
+use native.Mathlib.Nat.{le-of-suc-le-suc}
+use native.Mathlib.Omega.{arith}
+use lib.Dec.{ltb}
+use lib.ListN.{length, getD, set, drop, length-append, length-drop, length-set, length-replicate, getD-replicate, List·getD-append}
+use lib.Seq.{getD-append-add, getD-drop, getD-set-same, getD-set-other}
+use borrow.Author.Tests.{lt-ltb, le-ltb}
+use Rattle.table.specs.Layout.{tableWords, maxRules, maxPositions, bytes, format, rulesOf, firstAt, firstAtStartAt, lastAt, lastAtEndAt, followAt, takersAt, recordAt, recordWord, rowHas}
+use Rattle.table.specs.Table.{isTable, emptyTable, emptyNumber, emptied}
+use Rattle.table.specs.Automaton.{Automaton, automaton}
+use Rattle.table.proofs.Over.{over, over-is}
+use Rattle.table.proofs.Rows.{under, row-empty}
+use Rattle.table.proofs.Test.{accepted}
+
+-- no rules, no positions
+unfoldable pub noRules : Automaton
+noRules = record {
+  rules = 0;
+  positions = 0;
+  id = λ a. 0;
+  flags = λ a. 0;
+  first = λ q. false;
+  firstAtStart = λ q. false;
+  follow = λ p q. false;
+  takes = λ x q. false;
+  last = λ a p. false;
+  lastAtEnd = λ a p. false;
+}
+
+-- ---- the empty table, word by word
+
+length-empty : length emptyTable ≡ tableWords
+unfolding emptyTable
+length-empty = ap suc (length-replicate {A = ℕ} (pred tableWords) 0)
+
+empty-zero : (w : ℕ) → 0 < w → w < tableWords → getD emptyTable w 0 ≡ 0
+unfolding emptyTable
+empty-zero zero a h = absurd (omega arith)
+empty-zero (suc w) a h = getD-replicate (pred tableWords) w 0 0 (le-of-suc-le-suc h)
+
+-- words too few for a table are left alone, with answer 1
+pub emptied-short : (t : List ℕ) → length t < tableWords → (1 ≡ emptyNumber t) × (t ≡ emptied t)
+unfolding emptyNumber emptied
+emptied-short t h = (rw (lt-ltb (length t) tableWords h), rw (lt-ltb (length t) tableWords h))
+
+module _ (t : List ℕ) (h : tableWords ≤ length t) where
+  pub number-long : 0 ≡ emptyNumber t
+  unfolding emptyNumber
+  number-long = rw (le-ltb (length t) tableWords h)
+
+  emptied-long : emptied t ≡ emptyTable ++ drop tableWords t
+  unfolding emptied
+  emptied-long = rw (le-ltb (length t) tableWords h)
+
+  pub length-emptied : length (emptied t) ≡ length t
+  length-emptied = ap length emptied-long ∙ length-append emptyTable (drop tableWords t) ∙ omega (arith, length-empty, length-drop tableWords t)
+
+  front : (w : ℕ) → w < tableWords → getD (emptied t) w 0 ≡ getD emptyTable w 0
+  front w l = ap (λ (s : List ℕ). getD s w 0) emptied-long ∙ List·getD-append emptyTable (drop tableWords t) 0 w (omega (arith, length-empty))
+
+  pub emptied-format : getD (emptied t) 0 0 ≡ format
+  unfolding emptyTable
+  emptied-format = front 0 (omega arith)
+
+  pub emptied-zero : (w : ℕ) → 0 < w → w < tableWords → getD (emptied t) w 0 ≡ 0
+  emptied-zero w a b = front w b ∙ empty-zero w a b
+
+  -- the words beyond are kept
+  pub emptied-past : (w : ℕ) → tableWords ≤ w → getD (emptied t) w 0 ≡ getD t w 0
+  emptied-past w a =
+      let e : length emptyTable + (w - tableWords) ≡ w = omega (arith, length-empty) in
+      let f : tableWords + (w - tableWords) ≡ w = omega arith in
+      ap (λ (s : List ℕ). getD s w 0) emptied-long
+      ∙ ap (λ (i : ℕ). getD (emptyTable ++ drop tableWords t) i 0) (sym e)
+      ∙ getD-append-add emptyTable (drop tableWords t) (w - tableWords) 0
+      ∙ getD-drop tableWords t (w - tableWords) 0 ∙ ap (λ (i : ℕ). getD t i 0) f
+
+  -- the format first, then zeros
+  pub emptied-is : over 1 tableWords (λ w. 0) (set t 0 format) ≡ emptied t
+  emptied-is =
+      sym (over-is 1 tableWords (λ w. 0) (set t 0 format) (emptied t) (length-emptied ∙ sym (length-set t 0 format))
+      (λ w a b l. emptied-zero w a b)
+      (λ w a. low w (omega arith))
+      (λ w a. emptied-past w a ∙ sym (getD-set-other t 0 w format 0 (omega arith))))
+    where
+      low : (w : ℕ) → w ≡ 0 → getD (emptied t) w 0 ≡ getD (set t 0 format) w 0
+      low w e =
+          ap (λ (i : ℕ). getD (emptied t) i 0) e ∙ emptied-format ∙ sym (getD-set-same t 0 format 0 (omega arith))
+          ∙ ap (λ (i : ℕ). getD (set t 0 format) i 0) (sym e)
+
+  -- ---- it is a table
+
+  none : rulesOf (emptied t) ≡ 0
+  none = emptied-zero 1 (omega arith) (omega arith)
+
+  pub empty-passes : isTable (emptied t) ≡ true
+  empty-passes =
+      accepted (emptied t) (record {
+        long = omega (arith, length-emptied);
+        marked = emptied-format;
+        rules = omega (arith, none);
+        positions = omega (arith, emptied-zero 2 (omega arith) (omega arith));
+        rising = λ a b l m. absurd (omega (arith, none));
+        small = λ a l. absurd (omega (arith, none));
+        known = λ a l. absurd (omega (arith, none));
+        ordered = λ a l. absurd (omega (arith, none));
+        inside = λ a l. absurd (omega (arith, none));
+      })
+
+  -- ---- it describes the automaton with no rules
+
+  pub empty-automaton : automaton (emptied t) ≡ noRules
+  unfolding automaton noRules
+  empty-automaton = λ i. record {
+    rules = none i;
+    positions = emptied-zero 2 (omega arith) (omega arith) i;
+    id = λ a. number a 0 (omega arith) i;
+    flags = λ a. number a 1 (omega arith) i;
+    first = λ q. no-member firstAt (omega arith) (omega arith) q i;
+    firstAtStart = λ q. no-member firstAtStartAt (omega arith) (omega arith) q i;
+    follow = λ p q. test maxPositions followAt (λ p h. (omega arith, omega arith)) p q i;
+    takes = λ x q. test bytes takersAt (λ x h. (omega arith, omega arith)) x q i;
+    last = λ a p. test maxRules lastAt (λ a h. (omega arith, omega arith)) a p i;
+    lastAtEnd = λ a p. test maxRules lastAtEndAt (λ a h. (omega arith, omega arith)) a p i;
+  }
+    where
+      number : (a f : ℕ) → f < 16 → cond (ltb a maxRules) (recordWord (emptied t) a f) 0 ≡ 0
+      number a f l = under maxRules a (λ b. cond b (recordWord (emptied t) a f) 0) (λ b. 0) (λ m. emptied-zero (recordAt a + f) (omega arith) (omega arith)) refl
+
+      no-member : (at : ℕ) → 0 < at → at + 4 ≤ tableWords → (q : ℕ) → rowHas (emptied t) at q ≡ false
+      no-member at a b = row-empty (emptied t) at (λ i l. emptied-zero (at + i) (omega arith) (omega arith))
+
+      test : (n : ℕ) (place : ℕ → ℕ) → ((k : ℕ) → k < n → (0 < place k) × (place k + 4 ≤ tableWords)) → (k q : ℕ) → (ltb k n && rowHas (emptied t) (place k) q) ≡ false
+      test n place fits k q = under n k (λ b. b && rowHas (emptied t) (place k) q) (λ b. false) (λ m. no-member (place k) (fits k m .0) (fits k m .1) q) refl

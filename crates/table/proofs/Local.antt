@@ -1,0 +1,76 @@
+-- Words beyond the first 4,096 count for nothing: lists that agree up to there describe the same automaton, and pass the test alike. Each part of the automaton
+-- and each fact of the test reads words below 4,096, which are the same in both lists.
+use mathlib.Core.Path.{_≡_, refl, sym, ap, _∙_, subst}
+use mathlib.Core.Bool.{Bool, true, false, true≢false, cond, _&&_}
+use mathlib.Core.List.{List}
+use Prim.Native.Nat.{ℕ, _+_, _≤_, _<_}
+use native.Mathlib.Omega.{arith}
+use lib.Bits.{bitAnd}
+use lib.Dec.{ltb}
+use lib.ListN.{length, getD, take}
+use lib.Seq.{getD-take}
+use Rattle.table.specs.Layout.{tableWords, maxRules, maxPositions, bytes, rulesOf, positionsOf, firstAt, firstAtStartAt, lastAt, lastAtEndAt, followAt, takersAt, recordAt, recordWord, rowHas}
+use Rattle.table.specs.Table.{knownFlags, isTable}
+use Rattle.table.specs.Automaton.{automaton}
+use Rattle.table.proofs.Test.{Passes, passes, accepted, refused}
+use Rattle.table.proofs.Rows.{under, row-same}
+
+module _ (t u : List ℕ) (same : take tableWords t ≡ take tableWords u) where
+  pub same-word : (w : ℕ) → w < tableWords → getD t w 0 ≡ getD u w 0
+  same-word w h = sym (getD-take tableWords t w 0 h) ∙ ap (λ (l : List ℕ). getD l w 0) same ∙ getD-take tableWords u w 0 h
+
+  same-row : (at : ℕ) → at + 4 ≤ tableWords → (q : ℕ) → rowHas t at q ≡ rowHas u at q
+  same-row at h = row-same t u at at (λ i l. same-word (at + i) (omega arith))
+
+  pub automaton-local : automaton t ≡ automaton u
+  unfolding automaton
+  automaton-local = λ i. record {
+    rules = same-word 1 (omega arith) i;
+    positions = same-word 2 (omega arith) i;
+    id = λ a. number a 0 (omega arith) i;
+    flags = λ a. number a 1 (omega arith) i;
+    first = λ q. same-row firstAt (omega arith) q i;
+    firstAtStart = λ q. same-row firstAtStartAt (omega arith) q i;
+    follow = λ p q. test maxPositions followAt (λ p h. omega arith) p q i;
+    takes = λ x q. test bytes takersAt (λ x h. omega arith) x q i;
+    last = λ a p. test maxRules lastAt (λ a h. omega arith) a p i;
+    lastAtEnd = λ a p. test maxRules lastAtEndAt (λ a h. omega arith) a p i;
+  }
+    where
+      number : (a f : ℕ) → f < 16 → cond (ltb a maxRules) (recordWord t a f) 0 ≡ cond (ltb a maxRules) (recordWord u a f) 0
+      number a f l = under maxRules a (λ b. cond b (recordWord t a f) 0) (λ b. cond b (recordWord u a f) 0) (λ h. same-word (recordAt a + f) (omega arith)) refl
+
+      test : (n : ℕ) (place : ℕ → ℕ) → ((k : ℕ) → k < n → place k + 4 ≤ tableWords) → (k q : ℕ) → (ltb k n && rowHas t (place k) q) ≡ (ltb k n && rowHas u (place k) q)
+      test n place fits k q = under n k (λ b. b && rowHas t (place k) q) (λ b. b && rowHas u (place k) q) (λ h. same-row (place k) (fits k h) q) refl
+
+  -- each fact of the test carries over
+  kept : tableWords ≤ length u → Passes t → Passes u
+  kept long p =
+      record {
+        long = long;
+        marked = sym (same-word 0 (omega arith)) ∙ p .marked;
+        rules = omega (arith, rules, p .rules);
+        positions = omega (arith, positions, p .positions);
+        rising = λ a b l m. omega (arith, field a 0 (omega arith) (omega arith), field b 0 m (omega arith), p .rising a b l (omega (arith, rules)));
+        small = λ a l. omega (arith, field a 0 l (omega arith), p .small a (omega (arith, rules)));
+        known = λ a l. subst (λ (f : ℕ). bitAnd f knownFlags ≡ f) (field a 1 l (omega arith)) (p .known a (omega (arith, rules)));
+        ordered = λ a l. omega (arith, field a 2 l (omega arith), field a 3 l (omega arith), p .ordered a (omega (arith, rules)));
+        inside = λ a l. omega (arith, positions, field a 3 l (omega arith), p .inside a (omega (arith, rules)));
+      }
+    where
+      rules : rulesOf t ≡ rulesOf u
+      rules = same-word 1 (omega arith)
+
+      positions : positionsOf t ≡ positionsOf u
+      positions = same-word 2 (omega arith)
+
+      field : (a f : ℕ) → a < rulesOf u → f < 16 → recordWord t a f ≡ recordWord u a f
+      field a f h l = same-word (recordAt a + f) (omega (arith, rules, p .rules))
+
+-- words that are long enough for a table pass the test by their first 4,096
+pub isTable-local : (t u : List ℕ) → take tableWords t ≡ take tableWords u → tableWords ≤ length t → tableWords ≤ length u → isTable t ≡ isTable u
+isTable-local t u same long-t long-u = go (isTable t) refl
+  where
+    go : (b : Bool) → isTable t ≡ b → isTable t ≡ isTable u
+    go true e = e ∙ sym (accepted u (kept t u same long-u (passes t e)))
+    go false e = e ∙ sym (refused u (λ p. true≢false (sym (accepted t (kept u t (sym same) long-t p)) ∙ e)))

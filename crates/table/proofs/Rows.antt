@@ -1,0 +1,102 @@
+-- Sets and records in a list of words: each depends on its own words alone, so a write elsewhere leaves it (`row-below`, `row-above`, `record-below`,
+-- `record-above`), and a write to its own words is read back digit by digit.
+use mathlib.Core.Path.{_≡_, refl, sym, ap, _∙_}
+use mathlib.Core.Bool.{Bool, true, false, _&&_, _||_}
+use mathlib.Core.List.{List}
+use Prim.Native.Nat.{ℕ, _+_, _/_, _%_, _≤_, _<_}
+use native.Mathlib.Nat.{zero-add}
+use native.Mathlib.Decide.{decLt}
+use native.Mathlib.Omega.{arith}
+use lib.Bits.{bitOr}
+use lib.Dec.{ltb}
+use lib.ListN.{length, getD}
+use borrow.Author.Tests.{lt-ltb, le-ltb, ltb-true}
+use Rattle.sets.specs.Set.{on, has}
+use Rattle.sets.proofs.Laws.{fourOf, getD-fourOf, on-zero, on-or}
+use Rattle.table.specs.Layout.{maxPositions, recordAt, recordWord, rowHas}
+use Rattle.table.proofs.Over.{over, over-in, over-below, over-above}
+
+-- what is asked below a limit only is settled there
+pub under : {A : Type 0} (n k : ℕ) (f g : Bool → A) → (k < n → f true ≡ g true) → f false ≡ g false → f (ltb k n) ≡ g (ltb k n)
+under n k f g inside past = go (ltb k n) refl
+  where
+    go : (b : Bool) → ltb k n ≡ b → f b ≡ g b
+    go true e = inside (ltb-true k n e)
+    go false e = past
+
+-- ---- a set in a list
+
+-- a member of the set at `at` is a digit of one of its four words
+pub row-member : (t : List ℕ) (at q : ℕ) → q < maxPositions → rowHas t at q ≡ on (getD t (at + q / 64) 0) (q % 64)
+unfolding rowHas
+row-member t at q h = ap (λ (b : Bool). b && on (getD t (at + q / 64) 0) (q % 64)) (lt-ltb q maxPositions h)
+
+-- no member is past the last position
+pub row-past : (t : List ℕ) (at q : ℕ) → maxPositions ≤ q → rowHas t at q ≡ false
+unfolding rowHas
+row-past t at q h = ap (λ (b : Bool). b && on (getD t (at + q / 64) 0) (q % 64)) (le-ltb q maxPositions h)
+
+-- two sets with the same words have the same members
+pub row-same : (t u : List ℕ) (at at' : ℕ) → ((i : ℕ) → i < 4 → getD t (at + i) 0 ≡ getD u (at' + i) 0) → (q : ℕ) → rowHas t at q ≡ rowHas u at' q
+row-same t u at at' e q = go (decLt q maxPositions)
+  where
+    go : Dec (q < maxPositions) → rowHas t at q ≡ rowHas u at' q
+    go (yes h) =
+        row-member t at q h ∙ ap (λ (x : ℕ). on x (q % 64)) (e (q / 64) (omega arith)) ∙ sym (row-member u at' q h)
+    go (no h) = row-past t at q (omega arith) ∙ sym (row-past u at' q (omega arith))
+
+-- four words 0 are the empty set
+pub row-empty : (t : List ℕ) (at : ℕ) → ((i : ℕ) → i < 4 → getD t (at + i) 0 ≡ 0) → (q : ℕ) → rowHas t at q ≡ false
+row-empty t at e q = go (decLt q maxPositions)
+  where
+    go : Dec (q < maxPositions) → rowHas t at q ≡ false
+    go (yes h) = row-member t at q h ∙ ap (λ (x : ℕ). on x (q % 64)) (e (q / 64) (omega arith)) ∙ on-zero (q % 64)
+    go (no h) = row-past t at q (omega arith)
+
+-- the four words by themselves
+abbrev pub row : List ℕ → ℕ → List ℕ
+row t at = fourOf (λ i. getD t (at + i) 0)
+
+pub has-row : (t : List ℕ) (at q : ℕ) → q < maxPositions → has (row t at) q ≡ rowHas t at q
+unfolding has
+has-row t at q h =
+    ap (λ (x : ℕ). on x (q % 64)) (getD-fourOf (λ i. getD t (at + i) 0) (q / 64) (omega arith)) ∙ sym (row-member t at q h)
+
+-- a list of four words is the set in its front
+pub row-whole : (s : List ℕ) (q : ℕ) → q < maxPositions → rowHas s 0 q ≡ has s q
+unfolding has
+row-whole s q h = row-member s 0 q h ∙ ap (λ (i : ℕ). on (getD s i 0) (q % 64)) (zero-add (q / 64))
+
+-- words or-ed with those of s: the set gains the members of s
+pub row-or : (t u s : List ℕ) (at : ℕ) → ((i : ℕ) → i < 4 → getD u (at + i) 0 ≡ bitOr (getD t (at + i) 0) (getD s i 0))
+    → (q : ℕ) → q < maxPositions → rowHas u at q ≡ (rowHas t at q || has s q)
+unfolding has
+row-or t u s at e q h =
+    row-member u at q h ∙ ap (λ (x : ℕ). on x (q % 64)) (e (q / 64) (omega arith)) ∙ on-or (getD t (at + q / 64) 0) (getD s (q / 64) 0) (q % 64)
+    ∙ ap (λ (b : Bool). b || has s q) (sym (row-member t at q h))
+
+-- ---- after a write
+
+module _ (lo hi : ℕ) (g : ℕ → ℕ) (t : List ℕ) where
+  -- a set outside the range is as it was
+  pub row-below : (at : ℕ) → at + 4 ≤ lo → (q : ℕ) → rowHas (over lo hi g t) at q ≡ rowHas t at q
+  row-below at h = row-same (over lo hi g t) t at at (λ i l. over-below lo hi g t (at + i) (omega arith))
+
+  pub row-above : (at : ℕ) → hi ≤ at → (q : ℕ) → rowHas (over lo hi g t) at q ≡ rowHas t at q
+  row-above at h = row-same (over lo hi g t) t at at (λ i l. over-above lo hi g t (at + i) (omega arith))
+
+  -- inside, its members are the digits of the new words
+  pub row-in : (at : ℕ) → lo ≤ at → at + 4 ≤ hi → at + 4 ≤ length t → (q : ℕ) → q < maxPositions → rowHas (over lo hi g t) at q ≡ on (g (at + q / 64)) (q % 64)
+  row-in at a b l q h =
+      row-member (over lo hi g t) at q h ∙ ap (λ (x : ℕ). on x (q % 64)) (over-in lo hi g t (at + q / 64) (omega arith) (omega arith) (omega arith))
+
+  -- a record outside the range is as it was
+  pub record-below : (a i : ℕ) → i < 16 → recordAt a + 16 ≤ lo → recordWord (over lo hi g t) a i ≡ recordWord t a i
+  record-below a i l h = over-below lo hi g t (recordAt a + i) (omega arith)
+
+  pub record-above : (a i : ℕ) → hi ≤ recordAt a → recordWord (over lo hi g t) a i ≡ recordWord t a i
+  record-above a i h = over-above lo hi g t (recordAt a + i) (omega arith)
+
+  -- inside, its words are the new ones
+  pub record-in : (a i : ℕ) → i < 16 → lo ≤ recordAt a → recordAt a + 16 ≤ hi → recordAt a + 16 ≤ length t → recordWord (over lo hi g t) a i ≡ g (recordAt a + i)
+  record-in a i l b h m = over-in lo hi g t (recordAt a + i) (omega arith) (omega arith) (omega arith)

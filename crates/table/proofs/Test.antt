@@ -1,0 +1,175 @@
+-- What passing the test gives, and the other way round. `isTable` is a chain of tests, so words pass exactly where each link holds (`Passes`): a call that
+-- refuses shows that one link fails (`refused`), and a proof about accepted words takes the facts from `passes`.
+use mathlib.Core.Path.{_≡_, refl, sym, ap, ap₂, _∙_, subst}
+use mathlib.Core.Bool.{Bool, true, false, true≢false, _&&_}
+use mathlib.Core.List.{List}
+use mathlib.Core.Logic.{_⊎_, inl, inr, ⊎-elim}
+use Prim.Native.Nat.{ℕ, zero, suc, _+_, _^_, _≤_, _<_, zero-le}
+use native.Mathlib.Nat.{not-suc-le-zero, le-of-suc-le-suc, eq-or-lt-of-le, lt-trans}
+use native.Mathlib.Numerals.{add-one}
+use native.Mathlib.Omega.{arith}
+use lib.Bits.{bitAnd, and-le-r}
+use lib.Dec.{eqb, leb, ltb}
+use lib.ListN.{length, getD}
+use borrow.Author.Tests.{lt-ltb, le-leb, eq-eqb, leb-true, ltb-true, eqb-true}
+use Rattle.sets.specs.Set.{on}
+use Rattle.sets.proofs.Digits.{on-and, on-bound}
+use Rattle.table.specs.Layout.{tableWords, maxRules, maxPositions, format, rulesOf, positionsOf, recordWord}
+use Rattle.table.specs.Table.{knownFlags, leastId, recordOk, all, isTable}
+
+-- ---- a test of every number below n
+
+both : (x y : Bool) → (x && y) ≡ true → (x ≡ true) × (y ≡ true)
+both true y e = (refl, e)
+both false y e = absurd (true≢false (sym e))
+
+pub all-none : (f : ℕ → Bool) → all 0 f ≡ true
+unfolding all
+all-none f = refl
+
+pub all-more : (f : ℕ → Bool) (k : ℕ) → all k f ≡ true → f k ≡ true → all (k + 1) f ≡ true
+unfolding all
+all-more f k a b = ap (λ (n : ℕ). all n f) (add-one k) ∙ ap₂ (λ (x y : Bool). x && y) a b
+
+pub all-at : (f : ℕ → Bool) (n : ℕ) → all n f ≡ true → (k : ℕ) → k < n → f k ≡ true
+unfolding all
+all-at f zero e k h = absurd (not-suc-le-zero h)
+all-at f (suc n) e k h =
+    let each = both (all n f) (f n) e in
+    ⊎-elim (λ l. ap f l ∙ each .1) (λ l. all-at f n (each .0) k l) (eq-or-lt-of-le (le-of-suc-le-suc h))
+
+pub at-all : (f : ℕ → Bool) (n : ℕ) → ((k : ℕ) → k < n → f k ≡ true) → all n f ≡ true
+unfolding all
+at-all f zero h = refl
+at-all f (suc n) h = ap₂ (λ (x y : Bool). x && y) (at-all f n (λ k l. h k (omega arith))) (h n (omega arith))
+
+pub all-false : (f : ℕ → Bool) (n k : ℕ) → k < n → f k ≡ false → all n f ≡ false
+all-false f n k h e = go (all n f) refl
+  where
+    go : (b : Bool) → all n f ≡ b → all n f ≡ false
+    go true p = absurd (true≢false (sym (all-at f n p k h) ∙ e))
+    go false p = p
+
+-- ---- one record
+
+pub record Fine (t : List ℕ) (a : ℕ) : Type 0 where
+  pub least : leastId t a ≤ recordWord t a 0
+  pub small : recordWord t a 0 < 2 ^ 32
+  pub known : bitAnd (recordWord t a 1) knownFlags ≡ recordWord t a 1
+  pub ordered : recordWord t a 2 ≤ recordWord t a 3
+  pub inside : recordWord t a 3 ≤ positionsOf t
+
+pub fine : (t : List ℕ) (a : ℕ) → recordOk t a ≡ true → Fine t a
+unfolding recordOk
+fine t a e =
+    let p = both (leb (leastId t a) (recordWord t a 0)) _ e in
+    let q = both (ltb (recordWord t a 0) (2 ^ 32)) _ (p .1) in
+    let r = both (eqb (bitAnd (recordWord t a 1) knownFlags) (recordWord t a 1)) _ (q .1) in
+    let s = both (leb (recordWord t a 2) (recordWord t a 3)) _ (r .1) in
+    record {
+      least = leb-true (leastId t a) (recordWord t a 0) (p .0);
+      small = ltb-true (recordWord t a 0) (2 ^ 32) (q .0);
+      known = eqb-true (bitAnd (recordWord t a 1) knownFlags) (recordWord t a 1) (r .0);
+      ordered = leb-true (recordWord t a 2) (recordWord t a 3) (s .0);
+      inside = leb-true (recordWord t a 3) (positionsOf t) (s .1);
+    }
+
+pub fine-ok : (t : List ℕ) (a : ℕ) → Fine t a → recordOk t a ≡ true
+unfolding recordOk
+fine-ok t a f =
+    ap₂ (λ (x y : Bool). x && y) (le-leb (leastId t a) (recordWord t a 0) (f .least))
+    (ap₂ (λ (x y : Bool). x && y) (lt-ltb (recordWord t a 0) (2 ^ 32) (f .small))
+    (ap₂ (λ (x y : Bool). x && y) (eq-eqb (bitAnd (recordWord t a 1) knownFlags) (recordWord t a 1) (f .known))
+    (ap₂ (λ (x y : Bool). x && y) (le-leb (recordWord t a 2) (recordWord t a 3) (f .ordered)) (le-leb (recordWord t a 3) (positionsOf t) (f .inside)))))
+
+-- ---- the whole test
+
+pub record Passes (t : List ℕ) : Type 0 where
+  pub long : tableWords ≤ length t
+  pub marked : getD t 0 0 ≡ format
+  pub rules : rulesOf t ≤ maxRules
+  pub positions : positionsOf t ≤ maxPositions
+  pub rising : (a b : ℕ) → a < b → b < rulesOf t → recordWord t a 0 < recordWord t b 0
+  pub small : (a : ℕ) → a < rulesOf t → recordWord t a 0 < 2 ^ 32
+  pub known : (a : ℕ) → a < rulesOf t → bitAnd (recordWord t a 1) knownFlags ≡ recordWord t a 1
+  pub ordered : (a : ℕ) → a < rulesOf t → recordWord t a 2 ≤ recordWord t a 3
+  pub inside : (a : ℕ) → a < rulesOf t → recordWord t a 3 ≤ positionsOf t
+
+-- ids that rise from each record to the next rise from each record to every later one
+rise : (t : List ℕ) (n : ℕ) → ((a : ℕ) → a < n → Fine t a) → (a b : ℕ) → a < b → b < n → recordWord t a 0 < recordWord t b 0
+rise t n f a zero h l = absurd (not-suc-le-zero h)
+rise t n f a (suc b) h l =
+    ⊎-elim (λ e. subst (λ (c : ℕ). recordWord t c 0 < recordWord t (suc b) 0) (sym e) next)
+    (λ m. lt-trans (rise t n f a b m (omega arith)) next) (eq-or-lt-of-le (le-of-suc-le-suc h))
+  where
+    next : recordWord t b 0 < recordWord t (suc b) 0
+    next = f (suc b) l .least
+
+pub passes : (t : List ℕ) → isTable t ≡ true → Passes t
+unfolding isTable
+passes t e =
+    let p = both (leb tableWords (length t)) _ e in
+    let q = both (eqb (getD t 0 0) format) _ (p .1) in
+    let r = both (leb (rulesOf t) maxRules) _ (q .1) in
+    let s = both (leb (positionsOf t) maxPositions) _ (r .1) in
+    let each : ((a : ℕ) → a < rulesOf t → Fine t a) = λ a h. fine t a (all-at (recordOk t) (rulesOf t) (s .1) a h) in
+    record {
+      long = leb-true tableWords (length t) (p .0);
+      marked = eqb-true (getD t 0 0) format (q .0);
+      rules = leb-true (rulesOf t) maxRules (r .0);
+      positions = leb-true (positionsOf t) maxPositions (s .0);
+      rising = rise t (rulesOf t) each;
+      small = λ a h. each a h .small;
+      known = λ a h. each a h .known;
+      ordered = λ a h. each a h .ordered;
+      inside = λ a h. each a h .inside;
+    }
+
+-- with a header in order, the records decide
+pub by-records : (t : List ℕ) → tableWords ≤ length t → getD t 0 0 ≡ format → rulesOf t ≤ maxRules → positionsOf t ≤ maxPositions
+    → isTable t ≡ all (rulesOf t) (recordOk t)
+unfolding isTable
+by-records t l m r p =
+    rw (le-leb tableWords (length t) l, eq-eqb (getD t 0 0) format m, le-leb (rulesOf t) maxRules r, le-leb (positionsOf t) maxPositions p)
+
+pub accepted : (t : List ℕ) → Passes t → isTable t ≡ true
+accepted t p =
+    by-records t (p .long) (p .marked) (p .rules) (p .positions)
+    ∙ at-all (recordOk t) (rulesOf t) (λ a h. fine-ok t a (record {
+      least = least a h;
+      small = p .small a h;
+      known = p .known a h;
+      ordered = p .ordered a h;
+      inside = p .inside a h;
+    }))
+  where
+    least : (a : ℕ) → a < rulesOf t → leastId t a ≤ recordWord t a 0
+    least zero h = zero-le
+    least (suc a) h = p .rising a (suc a) (omega arith) h
+
+pub refused : (t : List ℕ) → (Passes t → ⊥) → isTable t ≡ false
+refused t h = go (isTable t) refl
+  where
+    go : (b : Bool) → isTable t ≡ b → isTable t ≡ false
+    go true e = absurd (h (passes t e))
+    go false e = e
+
+-- ---- the flags
+
+-- 1, 2 and 8 are digits 0, 1 and 3: known flags have no other
+pub flag-known : (f k : ℕ) → bitAnd f knownFlags ≡ f → on f k ≡ true → (k ≡ 0) ⊎ (k ≡ 1) ⊎ (k ≡ 3)
+unfolding on
+flag-known f k e o = digit k (both (on f k) (on knownFlags k) (sym (on-and f knownFlags k) ∙ ap (λ (x : ℕ). on x k) e ∙ o) .1)
+  where
+    none : on knownFlags 2 ≡ false
+    none = refl
+
+    digit : (k : ℕ) → on knownFlags k ≡ true → (k ≡ 0) ⊎ (k ≡ 1) ⊎ (k ≡ 3)
+    digit zero p = inl refl
+    digit (suc zero) p = inr (inl refl)
+    digit (suc (suc zero)) p = absurd (true≢false (sym p ∙ none))
+    digit (suc (suc (suc zero))) p = inr (inr refl)
+    digit (suc (suc (suc (suc k)))) p = absurd (omega (arith, on-bound 4 knownFlags (suc (suc (suc (suc k)))) (omega arith) p))
+
+pub flags-small : (f : ℕ) → bitAnd f knownFlags ≡ f → f ≤ knownFlags
+flags-small f e = subst (λ (x : ℕ). x ≤ knownFlags) e (and-le-r f knownFlags)

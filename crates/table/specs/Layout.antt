@@ -1,0 +1,64 @@
+-- The words of a rule table, by name. Assumes nothing: these are definitions.
+use mathlib.Core.Bool.{Bool, cond, _&&_}
+use mathlib.Core.List.{List}
+use Prim.Native.Nat.{ℕ, _+_, _*_, _/_, _%_}
+use lib.Dec.{ltb}
+use lib.ListN.{getD}
+use Rattle.sets.specs.Set.{on}
+
+-- "Table: 4,096 64-bit words; words beyond are never touched." "Rules in a table: 32." "Positions in a table: 256."
+abbrev pub tableWords : ℕ
+tableWords = 4096
+
+abbrev pub maxRules : ℕ
+maxRules = 32
+
+abbrev pub maxPositions : ℕ
+maxPositions = 256
+
+abbrev pub bytes : ℕ
+bytes = 256
+
+-- word 0 marks a rule table of this format: the bytes `watcher1` as a number
+abbrev pub format : ℕ
+format = 0x77617463_68657231
+
+-- the number of rules, and of positions
+abbrev pub rulesOf : List ℕ → ℕ
+rulesOf t = getD t 1 0
+
+abbrev pub positionsOf : List ℕ → ℕ
+positionsOf t = getD t 2 0
+
+-- four-word sets of positions: those that can take a first byte inside the stream, and at its start
+abbrev pub firstAt : ℕ
+firstAt = 4
+
+abbrev pub firstAtStartAt : ℕ
+firstAtStartAt = 8
+
+-- rule records of 16 words, by rising id: id, flags, first position, position after the last, the set of last positions, the set of last positions at the
+-- stream's end, four words unused
+abbrev pub recordAt : ℕ → ℕ
+recordAt a = 64 + a * 16
+
+abbrev pub lastAt : ℕ → ℕ
+lastAt a = recordAt a + 4
+
+abbrev pub lastAtEndAt : ℕ → ℕ
+lastAtEndAt a = recordAt a + 8
+
+-- for each position the set of those that can follow it, and for each byte the set of those that take it
+abbrev pub followAt : ℕ → ℕ
+followAt p = 1024 + p * 4
+
+abbrev pub takersAt : ℕ → ℕ
+takersAt x = 2048 + x * 4
+
+-- word i of record a
+abbrev pub recordWord : List ℕ → ℕ → ℕ → ℕ
+recordWord t a i = getD t (recordAt a + i) 0
+
+-- q is in the set whose four words stand at `at`
+unfoldable pub rowHas : List ℕ → ℕ → ℕ → Bool
+rowHas t at q = ltb q maxPositions && on (getD t (at + q / 64) 0) (q % 64)

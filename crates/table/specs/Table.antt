@@ -1,0 +1,50 @@
+-- Which words are a table, and the one empty table. Assumes nothing: these are definitions.
+use mathlib.Core.Bool.{Bool, true, false, cond, _&&_}
+use mathlib.Core.List.{List, _∷_, _++_}
+use Prim.Native.Nat.{ℕ, zero, suc, pred, _+_, _-_, _^_}
+use lib.Bits.{bitAnd}
+use lib.Dec.{eqb, leb, ltb}
+use lib.ListN.{length, drop, replicate}
+use Rattle.table.specs.Layout.{tableWords, maxRules, maxPositions, format, rulesOf, positionsOf, recordWord}
+
+-- "Flags: 1 caseless, 2 dot matches all, 8 single match"
+abbrev pub knownFlags : ℕ
+knownFlags = 11
+
+-- the least id that record a may have: ids rise strictly
+abbrev pub leastId : List ℕ → ℕ → ℕ
+leastId t zero = 0
+leastId t (suc a) = suc (recordWord t a 0)
+
+-- a rule record: a 32-bit id above the one before, known flags, positions within the count
+unfoldable pub recordOk : List ℕ → ℕ → Bool
+recordOk t a =
+    leb (leastId t a) (recordWord t a 0)
+    && (ltb (recordWord t a 0) (2 ^ 32)
+    && (eqb (bitAnd (recordWord t a 1) knownFlags) (recordWord t a 1)
+    && (leb (recordWord t a 2) (recordWord t a 3) && leb (recordWord t a 3) (positionsOf t))))
+
+-- f holds of each number below n
+unfoldable pub all : ℕ → (ℕ → Bool) → Bool
+all zero f = true
+all (suc n) f = all n f && f n
+
+-- the yes-or-no test: enough words, the format, counts within the limits, each record in order
+unfoldable pub isTable : List ℕ → Bool
+isTable t =
+    leb tableWords (length t)
+    && (eqb (lib.ListN.getD t 0 0) format
+    && (leb (rulesOf t) maxRules
+    && (leb (positionsOf t) maxPositions
+    && all (rulesOf t) (recordOk t))))
+
+-- the one empty table
+unfoldable pub emptyTable : List ℕ
+emptyTable = format ∷ replicate (pred tableWords) 0
+
+-- "Emptying writes the one empty table there and is refused (1) only for too few words."
+unfoldable pub emptyNumber : List ℕ → ℕ
+emptyNumber t = cond (ltb (length t) tableWords) 1 0
+
+unfoldable pub emptied : List ℕ → List ℕ
+emptied t = cond (ltb (length t) tableWords) t (emptyTable ++ drop tableWords t)

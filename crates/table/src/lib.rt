@@ -1,0 +1,95 @@
+// The rule table: 4,096 words that the caller lends. This crate has its layout, the yes-or-no test for any words, and emptying. Nothing is required of a
+// caller. docs/TABLE.md lists the words; specs/Layout.antt names them, specs/Table.antt is the test, specs/Automaton.antt says what passing words describe.
+pub mod layout;
+
+use layout::ACCEPTED;
+use layout::FLAGS;
+use layout::FORMAT;
+use layout::FORMAT_AT;
+use layout::FROM;
+use layout::ID;
+use layout::ID_LIMIT;
+use layout::KNOWN_FLAGS;
+use layout::MAX_POSITIONS;
+use layout::MAX_RULES;
+use layout::NO_TABLE;
+use layout::POSITIONS_AT;
+use layout::RECORD_WORDS;
+use layout::RECORDS_AT;
+use layout::RULES_AT;
+use layout::TABLE_WORDS;
+use layout::TO;
+ghost use mathlib.Core.Path.{_≡_};
+ghost use Prim.Native.Nat.{_<_, _≤_};
+ghost use lib.ListN.{length};
+ghost use Rattle.table.specs.Layout.{tableWords, maxRules, positionsOf};
+ghost use Rattle.table.specs.Table.{leastId, recordOk, all, isTable, emptyNumber, emptied};
+
+// Whether record a is in order: an id of 32 bits from `least` on, known flags, positions within the count.
+fn record_ok(words: &[u64], a: usize, least: u64, positions: u64) -> bool
+    requires { ⌜ (tableWords ≤ length (now words)) × (a < maxRules) × (least ≡ leastId (now words) a) × (positions ≡ positionsOf (now words)) ⌝ }
+    ensures { λ r. ⌜ r ≡ recordOk (now (words .entry)) a ⌝ }
+{
+    let at = RECORDS_AT + a * RECORD_WORDS;
+    let id = words[at + ID];
+    let flags = words[at + FLAGS];
+    let from = words[at + FROM];
+    let to = words[at + TO];
+    (least <= id)
+        & ((id < ID_LIMIT) & ((flags & KNOWN_FLAGS == flags) & ((from <= to) & (to <= positions))))
+}
+
+// Whether each of the records is in order, by rising id.
+fn records_ok(words: &[u64], rules: usize, positions: u64) -> bool
+    requires { ⌜ (tableWords ≤ length (now words)) × (rules ≤ maxRules) × (positions ≡ positionsOf (now words)) ⌝ }
+    ensures { λ r. ⌜ r ≡ all rules (recordOk (now (words .entry))) ⌝ }
+{
+    let mut least: u64 = 0;
+    let mut a: usize = 0;
+    while a < rules {
+        if record_ok(words, a, least, positions) {
+            least = words[RECORDS_AT + a * RECORD_WORDS + ID] + 1;
+            a += 1;
+        } else {
+            return false;
+        }
+    }
+    true
+}
+
+// Whether the words are a table. It reads the header and the rule records only, since it runs at every call.
+pub fn is_table(words: &[u64]) -> bool
+    ensures { λ r. ⌜ r ≡ isTable (now (words .entry)) ⌝ }
+{
+    if TABLE_WORDS > words.len() {
+        return false;
+    }
+    if words[FORMAT_AT] != FORMAT {
+        return false;
+    }
+    let rules = words[RULES_AT];
+    if MAX_RULES < rules {
+        return false;
+    }
+    let positions = words[POSITIONS_AT];
+    if MAX_POSITIONS < positions {
+        return false;
+    }
+    records_ok(words, rules as usize, positions)
+}
+
+// Writes the empty table over the first 4,096 words; fewer words are left as they are, and refused.
+pub fn empty(words: &mut [u64]) -> u32
+    ensures { λ r. ⌜ (r ≡ emptyNumber (now (words .entry))) × (now (words .exit) ≡ emptied (now (words .entry))) ⌝ }
+{
+    if words.len() < TABLE_WORDS {
+        return NO_TABLE;
+    }
+    words[FORMAT_AT] = FORMAT;
+    let mut w: usize = 1;
+    while w < TABLE_WORDS {
+        words[w] = 0;
+        w += 1;
+    }
+    ACCEPTED
+}
