@@ -10,7 +10,7 @@ use native.Mathlib.Decide.{decLt}
 use lib.Dec.{T}
 use lib.ListN.{length}
 use Rattle.regex.specs.Rule.{Rule, MatchEnds, Reported, Distinct}
-use Rattle.regex.specs.Ordered.{closing, Settled, Falls, Earlier, Stays, Entry, entry, Before, Rising, Owed, IsList, Pair, pair, Ordered}
+use Rattle.regex.specs.Ordered.{closing, Settled, Falls, Earlier, Stays, Entry, entry, Before, Rising, Owed, IsList, Pair, pair, Ordered, Once}
 use Rattle.regex.proofs.Moments.{within, stays-settled, falls-when, falls-some, settled-whole}
 
 module _ (bytes : List ℕ) (r : Rule) where
@@ -107,11 +107,6 @@ map-out : (l : List Entry) (p : Pair) → List·Memᴰ p (map pair l) → (x : E
 map-out [] p m = absurd (List·Memᴰ·not-nil m)
 map-out (x ∷ l) p (List·Memᴰ·head e) = (x, List·Memᴰ·head refl, e)
 map-out (x ∷ l) p (List·Memᴰ·tail m) = let r : (x : Entry) × List·Memᴰ x l × (p ≡ pair x) = map-out l p m in (r .0, List·Memᴰ·tail (r .1), r .2)
-
--- no pair of the list stands in it again
-unfoldable pub Once : List Pair → Type 0
-Once [] = Unit {0}
-Once (p ∷ l) = (¬ List·Memᴰ p l) × Once l
 
 once-rising : (l : List Entry) → Rising l → ((m j e i : ℕ) → List·Memᴰ (entry m e i) l → List·Memᴰ (entry j e i) l → m ≡ j) → Once (map pair l)
 unfolding Once Rising

@@ -77,6 +77,11 @@ Pair = ℕ × ℕ
 abbrev pub pair : Entry → Pair
 pair (entry m e i) = (i, e)
 
+-- no pair stands twice
+unfoldable pub Once : List Pair → Type 0
+Once [] = Unit {0}
+Once (p ∷ l) = (¬ List·Memᴰ p l) × Once l
+
 -- the reports alone
 pub record Ordered (rules : List Rule) (bytes : List ℕ) (reports : List Pair) : Type 0 where
   pub list : List Entry

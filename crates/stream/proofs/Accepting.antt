@@ -1,0 +1,156 @@
+-- When a call is accepted. Each test of a state is read off words, the number of a call is settled by the first test that fails, and number 0 says that all
+-- of them hold (`Accepted`).
+use mathlib.Core.Path.{_≡_, refl, sym, ap, ap₂, _∙_}
+use mathlib.Core.Bool.{Bool, true, false, true≢false, cond, not, _&&_}
+use mathlib.Core.List.{List}
+use Prim.Native.Nat.{ℕ, _-_, _^_, _<_, _≤_}
+use native.Mathlib.Nat.{lt-of-le-of-lt}
+use native.Mathlib.Omega.{arith}
+use lib.Bits.{bitAnd, and-le-l}
+use lib.Dec.{eqb, leb, ltb}
+use borrow.Author.Tests.{eq-eqb, ne-eqb, lt-ltb, le-ltb, ltb-false, le-leb, leb-true, eqb-true}
+use Rattle.sets.specs.Set.{on, has, wordOf, any, fullSet, intersectionOf, complementOf, keptBelow, isEmpty}
+use Rattle.sets.proofs.Digits.{on-zero, on-wordOf, wordOf-lt, off-zero}
+use Rattle.sets.proofs.Laws.{has-full, has-intersection, has-complement, has-below, any-none, any-some}
+use Rattle.table.specs.Layout.{maxPositions, rulesOf}
+use Rattle.table.specs.Table.{isTable}
+use Rattle.table.specs.Automaton.{Automaton, automaton}
+use Rattle.stream.specs.declared.Stream.{Stream}
+use Rattle.stream.specs.Valid.{streamLimit, sameCounts, liveInside, marksSingle, underLimit, valid}
+use Rattle.stream.specs.Calls.{spaceNumber, scanNumber, closeNumber}
+use Rattle.stream.proofs.Members.{any-ext, not-below, on-without}
+
+-- ---- the tests in words
+
+pub inside-test : (live : List ℕ) (n : ℕ) → isEmpty (intersectionOf live (complementOf (keptBelow fullSet n))) ≡ not (any maxPositions (λ q. has live q && leb n q))
+unfolding isEmpty
+inside-test live n =
+    ap not (any-ext maxPositions (has (intersectionOf live (complementOf (keptBelow fullSet n)))) (λ q. has live q && leb n q)
+    (λ q h. has-intersection live (complementOf (keptBelow fullSet n)) q h
+    ∙ ap (λ (b : Bool). has live q && b)
+    (has-complement (keptBelow fullSet n) q h
+    ∙ ap not (has-below fullSet n q h ∙ ap (λ (b : Bool). b && ltb q n) (has-full q h)) ∙ not-below q n)))
+
+-- no digit is left where each that is set holds of f
+pub marks-test : (marks singles : ℕ) (f : ℕ → Bool) → marks < 2 ^ 64 → singles ≡ wordOf 64 f
+    → eqb (bitAnd marks (2 ^ 64 - 1 - singles)) 0 ≡ not (any 64 (λ a. on marks a && not (f a)))
+marks-test marks singles f h e = go (any 64 (λ a. on marks a && not (f a))) refl
+  where
+    rest : ℕ
+    rest = bitAnd marks (2 ^ 64 - 1 - wordOf 64 f)
+
+    digit : (a : ℕ) → a < 64 → on rest a ≡ (on marks a && not (f a))
+    digit a l = on-without marks (wordOf 64 f) a (wordOf-lt 64 f) l ∙ ap (λ (b : Bool). on marks a && not b) (on-wordOf 64 f a l)
+
+    go : (b : Bool) → any 64 (λ a. on marks a && not (f a)) ≡ b → eqb (bitAnd marks (2 ^ 64 - 1 - singles)) 0 ≡ not (any 64 (λ a. on marks a && not (f a)))
+    go true p =
+        let r = any-some 64 (λ a. on marks a && not (f a)) p in
+        ap (λ (x : ℕ). eqb (bitAnd marks (2 ^ 64 - 1 - x)) 0) e
+        ∙ ne-eqb rest 0 (λ z. true≢false (sym (r .2) ∙ sym (digit (r .0) (r .1)) ∙ ap (λ (x : ℕ). on x (r .0)) z ∙ on-zero (r .0))) ∙ ap not (sym p)
+    go false p =
+        ap (λ (x : ℕ). eqb (bitAnd marks (2 ^ 64 - 1 - x)) 0) e
+        ∙ eq-eqb rest 0 (off-zero 64 rest (lt-of-le-of-lt (and-le-l marks (2 ^ 64 - 1 - wordOf 64 f)) h)
+        (λ a l. digit a l ∙ any-none 64 (λ a. on marks a && not (f a)) p a l)) ∙ ap not (sym p)
+
+-- ---- what a valid state gives
+
+both : (x y : Bool) → (x && y) ≡ true → (x ≡ true) × (y ≡ true)
+both true y e = (refl, e)
+both false y e = absurd (true≢false (sym e))
+
+pub record Fitting (w : Automaton) (s : Stream) : Type 0 where
+  pub rules-same : s .rules ≡ w .rules
+  pub positions-same : s .positions ≡ w .positions
+  pub live : liveInside w s ≡ true
+  pub marks : marksSingle w s ≡ true
+  pub limit : s .taken ≤ streamLimit
+
+pub fitting : (w : Automaton) (s : Stream) → valid w s ≡ true → Fitting w s
+unfolding valid sameCounts underLimit
+fitting w s e =
+    let p = both (sameCounts w s) _ e in
+    let q = both (liveInside w s) _ (p .1) in
+    let r = both (marksSingle w s) _ (q .1) in
+    let c = both (eqb (s .rules) (w .rules)) _ (p .0) in
+    record {
+      rules-same = eqb-true (s .rules) (w .rules) (c .0);
+      positions-same = eqb-true (s .positions) (w .positions) (c .1);
+      live = q .0;
+      marks = r .0;
+      limit = leb-true (s .taken) streamLimit (r .1);
+    }
+
+pub fitted : (w : Automaton) (s : Stream) → Fitting w s → valid w s ≡ true
+unfolding valid sameCounts underLimit
+fitted w s h =
+    ap₂ (λ (a b : Bool). a && b)
+    (ap₂ (λ (a b : Bool). a && b) (eq-eqb (s .rules) (w .rules) (h .rules-same)) (eq-eqb (s .positions) (w .positions) (h .positions-same)))
+    (ap₂ (λ (a b : Bool). a && b) (h .live) (ap₂ (λ (a b : Bool). a && b) (h .marks) (le-leb (s .taken) streamLimit (h .limit))))
+
+-- ---- the number of a call
+
+module _ (t : List ℕ) (s : Stream) (len room : ℕ) where
+  pub refused-table : isTable t ≡ false → 1 ≡ scanNumber t s len room
+  unfolding scanNumber
+  refused-table e = rw e
+
+  module _ (table : isTable t ≡ true) where
+    pub refused-state : valid (automaton t) s ≡ false → 18 ≡ scanNumber t s len room
+    unfolding scanNumber
+    refused-state e = rw (table, e)
+
+    module _ (state : valid (automaton t) s ≡ true) where
+      pub refused-closed : s .closed ≡ true → 19 ≡ scanNumber t s len room
+      unfolding scanNumber
+      refused-closed e = rw (table, state, e)
+
+      module _ (open-still : s .closed ≡ false) where
+        pub refused-long : streamLimit - s .taken < len → 21 ≡ scanNumber t s len room
+        unfolding scanNumber
+        refused-long h = rw (table, state, open-still, lt-ltb (streamLimit - s .taken) len h)
+
+        module _ (short : len ≤ streamLimit - s .taken) where
+          pub refused-space : room < rulesOf t → 20 ≡ scanNumber t s len room
+          unfolding scanNumber spaceNumber
+          refused-space h = rw (table, state, open-still, le-ltb (streamLimit - s .taken) len short, lt-ltb room (rulesOf t) h)
+
+          pub not-refused : rulesOf t ≤ room → 0 ≡ scanNumber t s len room
+          unfolding scanNumber spaceNumber
+          not-refused h = rw (table, state, open-still, le-ltb (streamLimit - s .taken) len short, le-ltb room (rulesOf t) h)
+
+-- number 0 says that all holds
+pub record Accepted (t : List ℕ) (s : Stream) (len room : ℕ) : Type 0 where
+  pub table : isTable t ≡ true
+  pub state : Fitting (automaton t) s
+  pub still-open : s .closed ≡ false
+  pub short : len ≤ streamLimit - s .taken
+  pub space : rulesOf t ≤ room
+
+pub accepted : (t : List ℕ) (s : Stream) (len room : ℕ) → scanNumber t s len room ≡ 0 → Accepted t s len room
+unfolding scanNumber spaceNumber
+accepted t s len room e =
+    go (isTable t) refl (valid (automaton t) s) refl (s .closed) refl (ltb (streamLimit - s .taken) len) refl (ltb room (rulesOf t)) refl e
+  where
+    go : (a : Bool) → isTable t ≡ a → (b : Bool) → valid (automaton t) s ≡ b → (c : Bool) → s .closed ≡ c
+        → (d : Bool) → ltb (streamLimit - s .taken) len ≡ d → (f : Bool) → ltb room (rulesOf t) ≡ f
+        → _≡_ {A = ℕ} (cond a (cond b (cond c 19 (cond d 21 (cond f 20 0))) 18) 1) 0 → Accepted t s len room
+    go true a true b false c false d false f z =
+        record {
+          table = a;
+          state = fitting (automaton t) s b;
+          still-open = c;
+          short = ltb-false (streamLimit - s .taken) len d;
+          space = ltb-false room (rulesOf t) f;
+        }
+    go true a true b false c false d true f z = absurd (omega arith)
+    go true a true b false c true d f g z = absurd (omega arith)
+    go true a true b true c d f g h z = absurd (omega arith)
+    go true a false b c d f g h i z = absurd (omega arith)
+    go false a b c d f g h i j z = absurd (omega arith)
+
+-- a closing is numbered as a scan of no bytes
+pub close-number : (t : List ℕ) (s : Stream) (room : ℕ) → scanNumber t s 0 room ≡ closeNumber t s room
+unfolding scanNumber closeNumber
+close-number t s room =
+    ap (λ (b : Bool). cond (isTable t) (cond (valid (automaton t) s) (cond (s .closed) 19 (cond b 21 (spaceNumber t room))) 18) 1)
+    (le-ltb (streamLimit - s .taken) 0 (omega arith))

@@ -1,0 +1,235 @@
+-- Some bytes of a block, one more at a time. The ids and offsets only grow, with at most as many reports a byte as there are rules, so `fits` is the one number
+-- of bytes whose reports fit while those of the next byte do not. What the parts of a block give is joined in `two-parts`.
+use mathlib.Core.Path.{_≡_, refl, sym, ap, ap₂, _∙_, subst}
+use mathlib.Core.Bool.{Bool, true, false, cond}
+use mathlib.Core.Logic.{⊎-elim}
+use mathlib.Core.List.{List, _++_, append-nil, append-assoc}
+use Prim.Native.Nat.{ℕ, zero, suc, _+_, _<_, _≤_, zero-le}
+use native.Mathlib.Nat.{add-zero, add-suc, eq-or-lt-of-le, le-refl}
+use native.Mathlib.Decide.{le-ind}
+use native.Mathlib.Numerals.{add-one}
+use native.Mathlib.Omega.{arith}
+use lib.Dec.{leb}
+use lib.ListN.{length, getD, drop, replicate, length-append, length-replicate, List·getD-append}
+use lib.Seq.{getD-drop, drop-append-seam}
+use borrow.Author.Tests.{le-leb, lt-leb, leb-true, leb-false}
+use Rattle.table.specs.Automaton.{Automaton}
+use Rattle.stream.specs.declared.Stream.{Stream}
+use Rattle.stream.specs.Byte.{nextLive, ends, byteIds, byteState, stateAfter, idsOf, endsOf, fits}
+use Rattle.stream.proofs.Runs.{run-few}
+
+module _ (w : Automaton) (s : Stream) (block : List ℕ) where
+  -- ---- one more byte
+
+  pub state-more : (k : ℕ) → stateAfter w s block (k + 1) ≡ byteState w (stateAfter w s block k) (getD block k 0)
+  unfolding stateAfter
+  state-more k = ap (stateAfter w s block) (add-one k)
+
+  ids-none : length (idsOf w s block 0) ≡ 0
+  unfolding idsOf
+  ids-none = refl
+
+  pub ids-more : (k : ℕ) → idsOf w s block (k + 1) ≡ idsOf w s block k ++ byteIds w (stateAfter w s block k) (getD block k 0)
+  unfolding idsOf
+  ids-more k = ap (idsOf w s block) (add-one k)
+
+  pub ends-more : (k : ℕ) → endsOf w s block (k + 1) ≡ endsOf w s block k ++ replicate (length (byteIds w (stateAfter w s block k) (getD block k 0))) (s .taken + (k + 1))
+  unfolding endsOf
+  ends-more k =
+      ap (endsOf w s block) (add-one k)
+      ∙ ap (λ (n : ℕ). endsOf w s block k ++ replicate (length (byteIds w (stateAfter w s block k) (getD block k 0))) (s .taken + n)) (sym (add-one k))
+
+  -- ---- what does not change, and what is counted
+
+  pub taken-after : (k : ℕ) → stateAfter w s block k .taken ≡ s .taken + k
+  unfolding stateAfter byteState
+  taken-after zero = sym (add-zero (s .taken))
+  taken-after (suc k) = ap suc (taken-after k) ∙ sym (add-suc (s .taken) k)
+
+  pub rules-after : (k : ℕ) → stateAfter w s block k .rules ≡ s .rules
+  unfolding stateAfter byteState
+  rules-after zero = refl
+  rules-after (suc k) = rules-after k
+
+  pub positions-after : (k : ℕ) → stateAfter w s block k .positions ≡ s .positions
+  unfolding stateAfter byteState
+  positions-after zero = refl
+  positions-after (suc k) = positions-after k
+
+  pub closed-after : (k : ℕ) → stateAfter w s block k .closed ≡ s .closed
+  unfolding stateAfter byteState
+  closed-after zero = refl
+  closed-after (suc k) = closed-after k
+
+  -- each id has an offset
+  pub ends-count : (k : ℕ) → length (endsOf w s block k) ≡ length (idsOf w s block k)
+  unfolding idsOf endsOf
+  ends-count zero = refl
+  ends-count (suc k) =
+      length-append (endsOf w s block k) (replicate (length new) (s .taken + suc k))
+      ∙ ap₂ (λ (x y : ℕ). x + y) (ends-count k) (length-replicate (length new) (s .taken + suc k))
+      ∙ sym (length-append (idsOf w s block k) new)
+    where
+      new : List ℕ
+      new = byteIds w (stateAfter w s block k) (getD block k 0)
+
+  -- a byte has at most as many reports as there are rules
+  pub byte-few : (k : ℕ) → length (idsOf w s block (k + 1)) ≤ length (idsOf w s block k) + w .rules
+  unfolding byteIds
+  byte-few k =
+      omega (
+        arith,
+        ap length (ids-more k),
+        length-append (idsOf w s block k) (byteIds w (stateAfter w s block k) (getD block k 0)),
+        run-few w (ends w (nextLive w (stateAfter w s block k) (getD block k 0))) (stateAfter w s block k .reported) (w .rules),
+      )
+
+  pub ids-grow : (j k : ℕ) → j ≤ k → length (idsOf w s block j) ≤ length (idsOf w s block k)
+  ids-grow j k h =
+      le-ind (λ (n : ℕ). length (idsOf w s block j) ≤ length (idsOf w s block n)) (le-refl (length (idsOf w s block j)))
+      (λ n l e. omega (arith, more n)) k h
+    where
+      more : (n : ℕ) → length (idsOf w s block n) ≤ length (idsOf w s block (suc n))
+      more n =
+          omega (
+            arith,
+            ap (λ (i : ℕ). length (idsOf w s block i)) (add-one n),
+            ap length (ids-more n),
+            length-append (idsOf w s block n) (byteIds w (stateAfter w s block n) (getD block n 0)),
+          )
+
+  -- ---- how many bytes fit
+
+  pub fits-le : (room k : ℕ) → fits w s block room k ≤ k
+  unfolding fits
+  fits-le room zero = zero-le
+  fits-le room (suc k) = go (leb (length (idsOf w s block (suc k))) room) (fits-le room k)
+    where
+      go : (b : Bool) → fits w s block room k ≤ k → cond b (suc k) (fits w s block room k) ≤ suc k
+      go true h = le-refl (suc k)
+      go false h = omega arith
+
+  -- their reports fit
+  pub fits-room : (room k : ℕ) → length (idsOf w s block (fits w s block room k)) ≤ room
+  unfolding fits
+  fits-room room zero = omega (arith, ids-none)
+  fits-room room (suc k) = go (leb (length (idsOf w s block (suc k))) room) refl (fits-room room k)
+    where
+      go : (b : Bool) → leb (length (idsOf w s block (suc k))) room ≡ b → length (idsOf w s block (fits w s block room k)) ≤ room
+          → length (idsOf w s block (cond b (suc k) (fits w s block room k))) ≤ room
+      go true e h = leb-true (length (idsOf w s block (suc k))) room e
+      go false e h = h
+
+  -- a number of bytes whose reports fit, while those of one more would not
+  pub fits-is : (room at k : ℕ) → at ≤ k → length (idsOf w s block at) ≤ room → (at < k → room < length (idsOf w s block (at + 1))) → fits w s block room k ≡ at
+  unfolding fits
+  fits-is room at zero h f n = omega arith
+  fits-is room at (suc k) h f n = ⊎-elim last (before (λ l. fits-is room at k (omega arith) f (λ m. n (omega arith)))) (eq-or-lt-of-le h)
+    where
+      last : at ≡ suc k → cond (leb (length (idsOf w s block (suc k))) room) (suc k) (fits w s block room k) ≡ at
+      last e =
+          ap (λ (b : Bool). cond b (suc k) (fits w s block room k))
+          (le-leb (length (idsOf w s block (suc k))) room (subst (λ (i : ℕ). length (idsOf w s block i) ≤ room) e f)) ∙ sym e
+
+      before : (at < suc k → fits w s block room k ≡ at) → at < suc k → cond (leb (length (idsOf w s block (suc k))) room) (suc k) (fits w s block room k) ≡ at
+      before ih l =
+          ap (λ (b : Bool). cond b (suc k) (fits w s block room k))
+          (lt-leb (length (idsOf w s block (suc k))) room (omega (arith, n l, ids-grow (at + 1) (suc k) (omega arith))))
+          ∙ ih l
+
+  -- no fewer than any number of bytes whose reports fit
+  pub fits-most : (room at k : ℕ) → at ≤ k → length (idsOf w s block at) ≤ room → at ≤ fits w s block room k
+  unfolding fits
+  fits-most room at zero h f = h
+  fits-most room at (suc k) h f = go (leb (length (idsOf w s block (suc k))) room) refl (λ l. fits-most room at k l f)
+    where
+      go : (b : Bool) → leb (length (idsOf w s block (suc k))) room ≡ b → (at ≤ k → at ≤ fits w s block room k) → at ≤ cond b (suc k) (fits w s block room k)
+      go true e ih = h
+      go false e ih =
+          ⊎-elim (λ q. absurd (omega (arith, leb-false (length (idsOf w s block (suc k))) room e, ap (λ (i : ℕ). length (idsOf w s block i)) q)))
+          (λ l. ih (omega arith)) (eq-or-lt-of-le h)
+
+  -- where a byte's reports fit, one byte is taken
+  pub one-fits : (room k : ℕ) → 0 < k → w .rules ≤ room → 0 < fits w s block room k
+  one-fits room k h l = omega (arith, fits-most room 1 k (omega arith) (omega (arith, byte-few 0, ids-none)))
+
+-- ---- a block in two parts
+
+-- the bytes after the first j are those of the rest of the block, from the state after the first j
+module _ (w : Automaton) (s : Stream) (block : List ℕ) (j : ℕ) where
+  pub state-later : (k : ℕ) → stateAfter w s block (j + k) ≡ stateAfter w (stateAfter w s block j) (drop j block) k
+  unfolding stateAfter
+  state-later zero = ap (stateAfter w s block) (add-zero j)
+  state-later (suc k) =
+      ap (stateAfter w s block) (add-suc j k) ∙ ap₂ (byteState w) (state-later k) (sym (getD-drop j block k 0))
+
+  byte-later : (k : ℕ) → byteIds w (stateAfter w s block (j + k)) (getD block (j + k) 0)
+      ≡ byteIds w (stateAfter w (stateAfter w s block j) (drop j block) k) (getD (drop j block) k 0)
+  byte-later k = ap₂ (byteIds w) (state-later k) (sym (getD-drop j block k 0))
+
+  pub ids-later : (k : ℕ) → idsOf w s block (j + k) ≡ idsOf w s block j ++ idsOf w (stateAfter w s block j) (drop j block) k
+  unfolding idsOf
+  ids-later zero = ap (idsOf w s block) (add-zero j) ∙ sym (append-nil (idsOf w s block j))
+  ids-later (suc k) =
+      ap (idsOf w s block) (add-suc j k) ∙ ap₂ (λ (x y : List ℕ). x ++ y) (ids-later k) (byte-later k)
+      ∙ append-assoc (idsOf w s block j) (idsOf w (stateAfter w s block j) (drop j block) k) (byteIds w (stateAfter w (stateAfter w s block j) (drop j block) k) (getD (drop j block) k 0))
+
+  pub ends-later : (k : ℕ) → endsOf w s block (j + k) ≡ endsOf w s block j ++ endsOf w (stateAfter w s block j) (drop j block) k
+  unfolding endsOf
+  ends-later zero = ap (endsOf w s block) (add-zero j) ∙ sym (append-nil (endsOf w s block j))
+  ends-later (suc k) =
+      let offset : s .taken + suc (j + k) ≡ stateAfter w s block j .taken + suc k = omega (arith, taken-after w s block j) in
+      ap (endsOf w s block) (add-suc j k)
+      ∙ ap₂ (λ (x y : List ℕ). x ++ y) (ends-later k) (ap₂ (λ (l : List ℕ) (n : ℕ). replicate (length l) n) (byte-later k) offset)
+      ∙ append-assoc (endsOf w s block j) (endsOf w (stateAfter w s block j) (drop j block) k)
+      (replicate (length (byteIds w (stateAfter w (stateAfter w s block j) (drop j block) k) (getD (drop j block) k 0))) (stateAfter w s block j .taken + suc k))
+
+-- bytes past those that are taken do not count
+module _ (w : Automaton) (s : Stream) (a b : List ℕ) where
+  pub state-front : (k : ℕ) → k ≤ length a → stateAfter w s (a ++ b) k ≡ stateAfter w s a k
+  unfolding stateAfter
+  state-front zero h = refl
+  state-front (suc k) h = ap₂ (byteState w) (state-front k (omega arith)) (List·getD-append a b 0 k h)
+
+  byte-front : (k : ℕ) → k < length a → byteIds w (stateAfter w s (a ++ b) k) (getD (a ++ b) k 0) ≡ byteIds w (stateAfter w s a k) (getD a k 0)
+  byte-front k h = ap₂ (byteIds w) (state-front k (omega arith)) (List·getD-append a b 0 k h)
+
+  pub ids-front : (k : ℕ) → k ≤ length a → idsOf w s (a ++ b) k ≡ idsOf w s a k
+  unfolding idsOf
+  ids-front zero h = refl
+  ids-front (suc k) h = ap₂ (λ (x y : List ℕ). x ++ y) (ids-front k (omega arith)) (byte-front k h)
+
+  pub ends-front : (k : ℕ) → k ≤ length a → endsOf w s (a ++ b) k ≡ endsOf w s a k
+  unfolding endsOf
+  ends-front zero h = refl
+  ends-front (suc k) h =
+      ap₂ (λ (x y : List ℕ). x ++ y) (ends-front k (omega arith)) (ap (λ (l : List ℕ). replicate (length l) (s .taken + suc k)) (byte-front k h))
+
+-- a block in two parts, one after the other, gives the ids, the offsets and the state of the whole
+pub record TwoParts (w : Automaton) (s : Stream) (a b : List ℕ) : Type 0 where
+  pub state : stateAfter w s (a ++ b) (length (a ++ b)) ≡ stateAfter w (stateAfter w s a (length a)) b (length b)
+  pub ids : idsOf w s (a ++ b) (length (a ++ b)) ≡ idsOf w s a (length a) ++ idsOf w (stateAfter w s a (length a)) b (length b)
+  pub offsets : endsOf w s (a ++ b) (length (a ++ b)) ≡ endsOf w s a (length a) ++ endsOf w (stateAfter w s a (length a)) b (length b)
+
+pub two-parts : (w : Automaton) (s : Stream) (a b : List ℕ) → TwoParts w s a b
+two-parts w s a b =
+    record {
+      state =
+          ap (stateAfter w s (a ++ b)) whole ∙ state-later w s (a ++ b) (length a) (length b)
+          ∙ ap₂ (λ (z : Stream) (l : List ℕ). stateAfter w z l (length b)) middle rest;
+      ids =
+          ap (idsOf w s (a ++ b)) whole ∙ ids-later w s (a ++ b) (length a) (length b)
+          ∙ ap₂ (λ (x y : List ℕ). x ++ y) (ids-front w s a b (length a) (le-refl (length a))) (ap₂ (λ (z : Stream) (l : List ℕ). idsOf w z l (length b)) middle rest);
+      offsets =
+          ap (endsOf w s (a ++ b)) whole ∙ ends-later w s (a ++ b) (length a) (length b)
+          ∙ ap₂ (λ (x y : List ℕ). x ++ y) (ends-front w s a b (length a) (le-refl (length a))) (ap₂ (λ (z : Stream) (l : List ℕ). endsOf w z l (length b)) middle rest);
+    }
+  where
+    whole : length (a ++ b) ≡ length a + length b
+    whole = length-append a b
+
+    middle : stateAfter w s (a ++ b) (length a) ≡ stateAfter w s a (length a)
+    middle = state-front w s a b (length a) (le-refl (length a))
+
+    rest : drop (length a) (a ++ b) ≡ b
+    rest = drop-append-seam a b

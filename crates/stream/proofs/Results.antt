@@ -1,0 +1,189 @@
+-- What callers may count on. An accepted scan takes some byte, since there is space for the reports of one; the state that comes back is valid again, since a live
+-- set is kept below the count, a mark is set for single-match rules alone, and the bytes stay within the limit.
+use mathlib.Core.Path.{_≡_, refl, sym, ap, ap₂, _∙_}
+use mathlib.Core.Bool.{Bool, true, false, cond, not, _||_, _&&_}
+use mathlib.Core.List.{List}
+use Prim.Native.Nat.{ℕ, zero, suc, _+_, _<_, _≤_, zero-le}
+use native.Mathlib.Omega.{arith}
+use lib.Dec.{eqb, leb, ltb}
+use lib.ListN.{length, getD}
+use borrow.Author.Tests.{eq-eqb, eqb-true, not-true}
+use Rattle.sets.specs.Set.{on, has, setOf, wordOf, any, emptySet, sizeOf}
+use Rattle.sets.proofs.Digits.{on-zero, on-wordOf}
+use Rattle.sets.proofs.Laws.{has-setOf, has-empty, any-none}
+use Rattle.table.specs.Layout.{maxPositions, rulesOf, positionsOf}
+use Rattle.table.specs.Table.{isTable}
+use Rattle.table.specs.Automaton.{Automaton, automaton, single}
+use Rattle.stream.specs.declared.Stream.{Stream}
+use Rattle.stream.specs.declared.Scanned.{Scanned}
+use Rattle.stream.specs.declared.Closed.{Closed}
+use Rattle.stream.specs.Byte.{starts, nextLive, ends, runMarks, byteState, stateAfter}
+use Rattle.stream.specs.Valid.{streamLimit, sameCounts, liveInside, marksSingle, underLimit, valid}
+use Rattle.stream.specs.Calls.{fresh, opened, space, scanNumber, closeNumber, takenBy, scanned, shut, closed, busyOf}
+use Rattle.stream.proofs.Members.{any-never, count-never, not-below}
+use Rattle.stream.proofs.Blocks.{fits-le, one-fits, taken-after, rules-after, positions-after}
+use Rattle.stream.proofs.Accepting.{Fitting, fitted, Accepted, accepted, close-number}
+
+-- ---- an opened stream
+
+-- nothing is live
+pub busy-fresh : (rules positions : ℕ) (shut : Bool) → busyOf (fresh rules positions shut) ≡ 0
+unfolding sizeOf
+busy-fresh rules positions shut = count-never maxPositions (has emptySet) has-empty
+
+opened-stream : (t : List ℕ) → isTable t ≡ true → opened t .stream ≡ fresh (rulesOf t) (positionsOf t) false
+unfolding opened
+opened-stream t e = rw e
+
+-- the state is valid for the words
+pub opened-valid : (t : List ℕ) → isTable t ≡ true → valid (automaton t) (opened t .stream) ≡ true
+unfolding automaton liveInside marksSingle
+opened-valid t e =
+    ap (valid (automaton t)) (opened-stream t e)
+    ∙ fitted (automaton t) (fresh (rulesOf t) (positionsOf t) false) (record {
+      rules-same = refl;
+      positions-same = refl;
+      live = ap not (any-never maxPositions (λ q. has emptySet q && leb (positionsOf t) q) (λ q h. ap (λ (b : Bool). b && leb (positionsOf t) q) (has-empty q h)));
+      marks =
+          ap not (any-never 64 (λ a. on 0 a && not (ltb a (rulesOf t) && single (automaton t) a))
+          (λ a h. ap (λ (b : Bool). b && not (ltb a (rulesOf t) && single (automaton t) a)) (on-zero a)));
+      limit = zero-le;
+    })
+
+-- ---- a valid state stays valid
+
+-- a live set is kept below the count
+inside-next : (w : Automaton) (s : Stream) (x : ℕ) → liveInside w (byteState w s x) ≡ true
+unfolding liveInside byteState nextLive
+inside-next w s x =
+    ap not (any-never maxPositions (λ q. has (setOf takers) q && leb (w .positions) q)
+    (λ q h. ap₂ (λ (a b : Bool). a && b) (has-setOf takers q h) (sym (not-below q (w .positions))) ∙ apart (ltb q (w .positions)) (rest q)))
+  where
+    rest : ℕ → Bool
+    rest q = w .takes x q && (starts w s q || any maxPositions (λ p. has (s .live) p && w .follow p q))
+
+    takers : ℕ → Bool
+    takers q = ltb q (w .positions) && rest q
+
+    apart : (a b : Bool) → ((a && b) && not a) ≡ false
+    apart true true = refl
+    apart true false = refl
+    apart false b = refl
+
+-- a mark is set for single-match rules alone
+single-next : (w : Automaton) (s : Stream) (x : ℕ) → marksSingle w s ≡ true → marksSingle w (byteState w s x) ≡ true
+unfolding marksSingle byteState runMarks
+single-next w s x e =
+    ap not (any-never 64 (λ a. on (wordOf 64 marked) a && not (ltb a (w .rules) && single w a))
+    (λ a h. ap (λ (b : Bool). b && not (ltb a (w .rules) && single w a)) (on-wordOf 64 marked a h)
+    ∙ apart (on (s .reported) a) (ltb a (w .rules)) (single w a) (ends w (nextLive w s x) a)
+    (any-none 64 (λ a. on (s .reported) a && not (ltb a (w .rules) && single w a)) (not-true (any 64 (λ a. on (s .reported) a && not (ltb a (w .rules) && single w a))) e) a h)))
+  where
+    marked : ℕ → Bool
+    marked a = on (s .reported) a || (ltb a (w .rules) && (single w a && ends w (nextLive w s x) a))
+
+    apart : (m a b c : Bool) → (m && not (a && b)) ≡ false → ((m || (a && (b && c))) && not (a && b)) ≡ false
+    apart true a b c f = f
+    apart false true true true f = refl
+    apart false true true false f = refl
+    apart false true false c f = refl
+    apart false false b c f = refl
+
+module _ (w : Automaton) (s : Stream) (block : List ℕ) (h : Fitting w s) where
+  live-after : (k : ℕ) → liveInside w (stateAfter w s block k) ≡ true
+  unfolding stateAfter
+  live-after zero = h .live
+  live-after (suc k) = inside-next w (stateAfter w s block k) (getD block k 0)
+
+  marks-after : (k : ℕ) → marksSingle w (stateAfter w s block k) ≡ true
+  unfolding stateAfter
+  marks-after zero = h .marks
+  marks-after (suc k) = single-next w (stateAfter w s block k) (getD block k 0) (marks-after k)
+
+  pub fitting-after : (k : ℕ) → s .taken + k ≤ streamLimit → Fitting w (stateAfter w s block k)
+  fitting-after k l =
+      record {
+        rules-same = rules-after w s block k ∙ h .rules-same;
+        positions-same = positions-after w s block k ∙ h .positions-same;
+        live = live-after k;
+        marks = marks-after k;
+        limit = omega (arith, taken-after w s block k);
+      }
+
+-- ---- an accepted scan
+
+by-test : {A : Type 0} (P : A → Type 0) (b : Bool) {x y : A} → (b ≡ true → P x) → (b ≡ false → P y) → P (cond b x y)
+by-test P true f g = f refl
+by-test P false f g = g refl
+
+module _ (t : List ℕ) (s : Stream) (block ids offsets : List ℕ) where
+  -- the number in the answer is the call's number
+  pub scan-number : scanned t s block ids offsets .number ≡ scanNumber t s (length block) (space ids offsets)
+  unfolding scanned
+  scan-number = by-test (λ (r : Scanned). r .number ≡ n) (eqb n 0) (λ e. sym (eqb-true n 0 e)) (λ e. refl)
+    where
+      n : ℕ
+      n = scanNumber t s (length block) (space ids offsets)
+
+  -- at most all bytes are taken
+  pub taken-within : scanned t s block ids offsets .taken ≤ length block
+  unfolding scanned takenBy
+  taken-within =
+      by-test (λ (r : Scanned). r .taken ≤ length block) (eqb (scanNumber t s (length block) (space ids offsets)) 0)
+      (λ e. fits-le (automaton t) s block (space ids offsets) (length block)) (λ e. zero-le)
+
+  module _ (ok : scanned t s block ids offsets .number ≡ 0) where
+    yes-accepted : eqb (scanNumber t s (length block) (space ids offsets)) 0 ≡ true
+    yes-accepted = eq-eqb (scanNumber t s (length block) (space ids offsets)) 0 (sym scan-number ∙ ok)
+
+    scan-taken : scanned t s block ids offsets .taken ≡ takenBy t s block (space ids offsets)
+    unfolding scanned
+    scan-taken = rw yes-accepted
+
+    scan-stream : scanned t s block ids offsets .stream ≡ stateAfter (automaton t) s block (takenBy t s block (space ids offsets))
+    unfolding scanned
+    scan-stream = rw yes-accepted
+
+    held : Accepted t s (length block) (space ids offsets)
+    held = accepted t s (length block) (space ids offsets) (sym scan-number ∙ ok)
+
+    -- an accepted scan of a block with a byte takes one
+    pub progress : 0 < length block → 0 < scanned t s block ids offsets .taken
+    unfolding takenBy automaton
+    progress h =
+        omega (arith, scan-taken, one-fits (automaton t) s block (space ids offsets) (length block) h (held .space))
+
+    -- and gives back a state that is valid for the same words
+    pub scanned-valid : valid (automaton t) (scanned t s block ids offsets .stream) ≡ true
+    unfolding takenBy
+    scanned-valid =
+        ap (valid (automaton t)) scan-stream
+        ∙ fitted (automaton t) (stateAfter (automaton t) s block (takenBy t s block (space ids offsets)))
+        (fitting-after (automaton t) s block (held .state) (takenBy t s block (space ids offsets))
+        (omega (arith, held .short, held .state .limit, fits-le (automaton t) s block (space ids offsets) (length block))))
+
+-- ---- an accepted closing
+
+-- the closed mark is no part of the test
+shut-valid : (w : Automaton) (s : Stream) → valid w (shut s) ≡ valid w s
+unfolding valid sameCounts liveInside marksSingle underLimit
+shut-valid w s = refl
+
+module _ (t : List ℕ) (s : Stream) (ids offsets : List ℕ) where
+  pub close-number-is : closed t s ids offsets .number ≡ closeNumber t s (space ids offsets)
+  unfolding closed
+  close-number-is = by-test (λ (r : Closed). r .number ≡ n) (eqb n 0) (λ e. sym (eqb-true n 0 e)) (λ e. refl)
+    where
+      n : ℕ
+      n = closeNumber t s (space ids offsets)
+
+  module _ (ok : closed t s ids offsets .number ≡ 0) where
+    close-stream : closed t s ids offsets .stream ≡ shut s
+    unfolding closed
+    close-stream = rw (eq-eqb (closeNumber t s (space ids offsets)) 0 (sym close-number-is ∙ ok))
+
+    -- it gives back a state that is valid for the same words
+    pub closed-valid : valid (automaton t) (closed t s ids offsets .stream) ≡ true
+    closed-valid =
+        ap (valid (automaton t)) close-stream ∙ shut-valid (automaton t) s
+        ∙ fitted (automaton t) s (accepted t s 0 (space ids offsets) (close-number t s (space ids offsets) ∙ sym close-number-is ∙ ok) .state)

@@ -1,0 +1,99 @@
+-- `stream::Stream::scan` meets its contract: the number settles which way it goes, and what the loop leaves is put back into the state.
+use borrow.Author.Needs.{needs}
+use mathlib.Core.Path.{sym, ap, _∙_}
+use native.Mathlib.Omega.{arith}
+use denote.Ref.{now}
+use lib.ListN.{length}
+use Rattle.table.specs.Automaton.{automaton}
+use Rattle.stream.specs.Calls.{space, scanNumber}
+use Rattle.stream.specs.Invariants.{stateOf}
+use Rattle.stream.proofs.Blocks.{fits-le}
+use Rattle.stream.proofs.Accepting.{accepted}
+use Rattle.stream.proofs.Answers.{scan-refused, scan-refused-ids, scan-refused-offsets, scan-accepted, scan-accepted-ids, scan-accepted-offsets}
+use Rattle.stream.proofs.Stream.scan.Statement.{statement}
+use Rattle.stream.proofs.Stream.scan.Tie as tie
+
+least-requires : tie.Need-least-requires
+least-requires c κs = search needs
+
+refusal-requires : tie.Need-refusal-requires
+refusal-requires c κs = search needs
+
+returns : tie.Need-returns
+returns c =
+    let c-start = c .before .before .before .before .before .before .before in
+    let c-refusal = c .before .refusal in
+    let c-least = c .before .before .least in
+    let c-if1 = c .if1 in
+    let a = c-start .args in
+    let t = now (a .words) in
+    let number = c-refusal .ensures ∙ ap (scanNumber t (a .self) (length (now (a .block)))) (c-least .ensures) in (
+      scan-refused t (a .self) (now (a .block)) (now (a .ids)) (now (a .offsets)) (c-refusal .result) number (c-if1 .taken),
+      (
+        scan-refused-ids t (a .self) (now (a .block)) (now (a .ids)) (now (a .offsets)) (c-refusal .result) number (c-if1 .taken),
+        scan-refused-offsets t (a .self) (now (a .block)) (now (a .ids)) (now (a .offsets)) (c-refusal .result) number (c-if1 .taken),
+      ),
+    )
+
+run-requires : tie.Need-run-requires
+run-requires c κs =
+    let c-start = c .before .before .before .before .before .before .before .before .before .before in
+    let c-least = c .before .before .before .before .before .least in
+    let c-refusal = c .before .before .before .before .refusal in
+    let c-if1 = c .before .before .before .if1 in
+    let a = c-start .args in
+    let ok = accepted (now (a .words)) (a .self) (length (now (a .block))) (c-least .result) (sym (c-refusal .ensures) ∙ c-if1 .left) in
+    (ok .table, omega (arith, ok .short, ok .state .limit))
+
+add-self : tie.Need-add-self
+add-self c =
+    let c-start = c .before .before .before .before .before .before .before .before .before .before .before .before .before .before .before .before .before in
+    let c-least = c .before .before .before .before .before .before .before .before .before .before .before .before .least in
+    let c-refusal = c .before .before .before .before .before .before .before .before .before .before .before .refusal in
+    let c-if1 = c .before .before .before .before .before .before .before .before .before .before .if1 in
+    let c-run = c .before .before .before .before .before .before .run in
+    let a = c-start .args in
+    let s = a .self in
+    let ok = accepted (now (a .words)) s (length (now (a .block))) (c-least .result) (sym (c-refusal .ensures) ∙ c-if1 .left) in
+    let taken = c-run .ensures .taken-is in
+    let few = fits-le (automaton (now (a .words))) (stateOf (s .live) (s .reported) (s .taken)) (now (a .block)) (space (now (a .ids)) (now (a .offsets))) (length (now (a .block))) in
+    omega (arith, ok .short, ok .state .limit, taken, few)
+
+same-length : tie.Need-same-length
+same-length c = search needs
+
+same-length-2 : tie.Need-same-length-2
+same-length-2 c = search needs
+
+returns-2 : tie.Need-returns-2
+returns-2 c =
+    let c-start = c .before .before .before .before .before .before .before .before .before .before .before .before .before .before .before .before .before in
+    let c-refusal = c .before .before .before .before .before .before .before .before .before .before .before .refusal in
+    let c-least = c .before .before .before .before .before .before .before .before .before .before .before .before .least in
+    let c-run = c .before .before .before .before .before .before .run in
+    let c-if1 = c .before .before .before .before .before .before .before .before .before .before .if1 in
+    let a = c-start .args in
+    let t = now (a .words) in
+    let number = c-refusal .ensures ∙ ap (scanNumber t (a .self) (length (now (a .block)))) (c-least .ensures) in
+    let r = c-run .result in
+    let ilast = c-run .last .1 .1 .1 .1 .1 .0 in
+    let olast = c-run .last .1 .1 .1 .1 .1 .1 .0 in (
+      scan-accepted t (a .self) (now (a .block)) (now (a .ids)) (now (a .offsets)) (c-refusal .result) number (c-if1 .left) (r .live) (r .reported) (r .taken) (r .reports) ilast olast (c-run .ensures),
+      (
+        scan-accepted-ids t (a .self) (now (a .block)) (now (a .ids)) (now (a .offsets)) (c-refusal .result) number (c-if1 .left) (r .live) (r .reported) (r .taken) (r .reports) ilast olast (c-run .ensures),
+        scan-accepted-offsets t (a .self) (now (a .block)) (now (a .ids)) (now (a .offsets)) (c-refusal .result) number (c-if1 .left) (r .live) (r .reported) (r .taken) (r .reports) ilast olast (c-run .ensures),
+      ),
+    )
+
+pub scan-spec : {M : Type 1} → statement M
+scan-spec =
+    tie.close
+    (tie.spec
+    least-requires
+    refusal-requires
+    returns
+    run-requires
+    add-self
+    same-length
+    same-length-2
+    returns-2)

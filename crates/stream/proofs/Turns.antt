@@ -1,0 +1,289 @@
+-- The scanning loop. `Running` says what holds once `at` bytes are taken: live set, marks and lists are those of the definitions. Each way through a turn has
+-- one law: a byte whose run is written, a byte with which no rule ends, bytes passed over; and where the loop leaves, `at` is what `fits` says.
+use mathlib.Core.Path.{_≡_, refl, sym, ap, ap₂, _∙_, subst}
+use mathlib.Core.Bool.{Bool, true, false, not, _&&_}
+use mathlib.Core.List.{List, [], _++_, append-nil, append-assoc}
+use Prim.Native.Nat.{ℕ, zero, suc, _+_, _-_, _^_, _<_, _≤_, zero-le}
+use native.Mathlib.Nat.{add-zero, le-refl}
+use native.Mathlib.Omega.{arith}
+use lib.Dec.{ltb}
+use lib.ListN.{length, getD, take, drop, replicate, length-drop, length-append, length-replicate, drop-of-length-le}
+use lib.Seq.{drop-drop, drop-at, take-at, take-all}
+use borrow.Rule.Slice.PartMut.{putMid}
+use borrow.Author.Count.{below-more}
+use borrow.Author.Tests.{lt-ltb}
+use Rattle.sets.specs.Set.{on, has, any, count, emptySet}
+use Rattle.sets.proofs.Laws.{has-setOf, has-empty, any-none}
+use Rattle.table.specs.Layout.{maxRules, maxPositions, rulesOf, lastAt, lastAtEndAt, rowHas}
+use Rattle.table.specs.Automaton.{Automaton, automaton, single}
+use Rattle.table.proofs.Test.{Passes}
+use Rattle.stream.specs.declared.Stream.{Stream}
+use Rattle.stream.specs.Byte.{nextLive, ends, endsAtEnd, runIds, runMarks, byteIds, byteState, stateAfter, idsOf, endsOf}
+use Rattle.stream.specs.Calls.{space, written}
+use Rattle.stream.specs.Invariants.{stateOf, Wrote, Skipped, Ran}
+use Rattle.stream.proofs.Members.{any-ext, any-never, placesBelow, on-places}
+use Rattle.stream.proofs.TableSets.{meeting, lastsBelow}
+use Rattle.stream.proofs.Runs.{run-ext, marks-ext, run-none, marks-none, marks-small, due-count}
+use Rattle.stream.proofs.Steps.{next-parts}
+use Rattle.stream.proofs.Blocks.{state-more, ids-more, ends-more, taken-after, ends-count, fits-is}
+
+-- ---- the rules that end, as a word
+
+-- the rules below the count that a live set meets in their last sets are those that end
+pub ends-word : (t live : List ℕ) (a : ℕ) → rulesOf t ≤ maxRules → a < rulesOf t → on (placesBelow (rulesOf t) (meeting t live 4)) a ≡ ends (automaton t) live a
+unfolding ends automaton
+ends-word t live a few h =
+    on-places (meeting t live 4) (rulesOf t) a h (omega arith)
+    ∙ any-ext maxPositions (λ p. has live p && rowHas t (lastAt a) p) (λ p. has live p && (ltb a maxRules && rowHas t (lastAt a) p))
+    (λ p l. ap (λ (b : Bool). has live p && (b && rowHas t (lastAt a) p)) (sym (lt-ltb a maxRules (omega arith))))
+
+-- and in their last sets at the stream's end, those that end there
+pub ends-at-end-word : (t live : List ℕ) (a : ℕ) → rulesOf t ≤ maxRules → a < rulesOf t → on (placesBelow (rulesOf t) (meeting t live 8)) a ≡ endsAtEnd (automaton t) live a
+unfolding endsAtEnd automaton
+ends-at-end-word t live a few h =
+    on-places (meeting t live 8) (rulesOf t) a h (omega arith)
+    ∙ any-ext maxPositions (λ p. has live p && rowHas t (lastAtEndAt a) p) (λ p. has live p && (ltb a maxRules && rowHas t (lastAtEndAt a) p))
+    (λ p l. ap (λ (b : Bool). has live p && (b && rowHas t (lastAtEndAt a) p)) (sym (lt-ltb a maxRules (omega arith))))
+
+-- the gate: a set that does not meet the union of the last sets ends no rule
+pub gate : (t live : List ℕ) (a : ℕ) → a < rulesOf t → any maxPositions (λ q. has live q && has (lastsBelow t (rulesOf t)) q) ≡ false → ends (automaton t) live a ≡ false
+unfolding ends automaton
+gate t live a h e =
+    any-never maxPositions (λ p. has live p && (ltb a maxRules && rowHas t (lastAt a) p))
+    (λ p l. shut (has live p) (ltb a maxRules) (rowHas t (lastAt a) p)
+    (λ x. any-none (rulesOf t) (λ a. rowHas t (lastAt a) p)
+    (sym (has-setOf (λ p. any (rulesOf t) (λ a. rowHas t (lastAt a) p)) p l)
+    ∙ sym (ap (λ (b : Bool). b && has (lastsBelow t (rulesOf t)) p) x)
+    ∙ any-none maxPositions (λ q. has live q && has (lastsBelow t (rulesOf t)) q) e p l) a h))
+  where
+    shut : (x y z : Bool) → (x ≡ true → z ≡ false) → (x && (y && z)) ≡ false
+    shut true true z f = f refl
+    shut true false z f = refl
+    shut false y z f = refl
+
+pub ends-empty : (w : Automaton) (a : ℕ) → ends w emptySet a ≡ false
+unfolding ends
+ends-empty w a = any-never maxPositions (λ p. has emptySet p && w .last a p) (λ p l. ap (λ (b : Bool). b && w .last a p) (has-empty p l))
+
+-- ---- what is settled once a call
+
+pub record Settled (t ids₀ offsets₀ last : List ℕ) (singles room : ℕ) : Type 0 where
+  pub passed : Passes t
+  pub last-is : last ≡ lastsBelow t (rulesOf t)
+  pub singles-are : singles ≡ placesBelow (rulesOf t) (single (automaton t))
+  pub room-is : room ≡ space ids₀ offsets₀
+
+module _ (t ids₀ offsets₀ last : List ℕ) (singles room : ℕ) (h : Settled t ids₀ offsets₀ last singles room) (next : List ℕ) where
+  -- a live set that does not meet the last sets ends no rule
+  pub gate-shut : (b : Bool) → b ≡ any maxPositions (λ q. has next q && has last q) → b ≡ false → (a : ℕ) → a < automaton t .rules → ends (automaton t) next a ≡ false
+  unfolding automaton
+  gate-shut b m e a l = gate t next a l (ap (λ (x : List ℕ). any maxPositions (λ q. has next q && has x q)) (sym (h .last-is)) ∙ sym m ∙ e)
+
+  module _ (found : ℕ) (is : found ≡ placesBelow (rulesOf t) (meeting t next 4)) where
+    -- the rules found are those that end
+    pub found-ends : (a : ℕ) → a < automaton t .rules → on found a ≡ ends (automaton t) next a
+    unfolding automaton
+    found-ends a l = ap (λ (x : ℕ). on x a) is ∙ ends-word t next a (h .passed .rules) l
+
+    -- and those that are due are as many as the run has ids
+    pub found-due : (reported d : ℕ) → d ≡ count 64 (λ a. on found a && not (on reported a)) → d ≡ length (runIds (automaton t) (on found) reported (rulesOf t))
+    found-due reported d e =
+        e ∙ ap (λ (x : ℕ). count 64 (λ a. on x a && not (on reported a))) is
+        ∙ due-count (automaton t) (meeting t next 4) reported (rulesOf t) (omega (arith, h .passed .rules))
+        ∙ ap (λ (x : ℕ). length (runIds (automaton t) (on x) reported (rulesOf t))) (sym is)
+
+-- ---- bytes passed over
+
+module _ (w : Automaton) (block : List ℕ) (taken from : ℕ) where
+  pub skipped-none : (live : List ℕ) → from ≤ length block → Skipped w live block taken from from
+  skipped-none live h = record { rises = le-refl from; inside = h; empty = λ l. absurd (omega arith); still = λ j l m. absurd (omega arith) }
+
+  pub skipped-more : (at : ℕ) → Skipped w emptySet block taken from at → at < length block → nextLive w (stateOf emptySet 0 (taken + at)) (getD block at 0) ≡ emptySet
+      → Skipped w emptySet block taken from (at + 1)
+  skipped-more at h l e =
+      record {
+        rises = omega (arith, h .rises);
+        inside = omega arith;
+        empty = λ m. refl;
+        still = λ j f g.
+            below-more (λ (i : ℕ). from ≤ i → nextLive w (stateOf emptySet 0 (taken + i)) (getD block i 0) ≡ emptySet) at (λ i m k. h .still i k m) (λ k. e) j g f;
+      }
+
+  pub skipped-live : (at : ℕ) (live : List ℕ) → live ≡ emptySet → Skipped w emptySet block taken from at → Skipped w live block taken from at
+  skipped-live at live e h = record { rises = h .rises; inside = h .inside; empty = λ l. e; still = h .still }
+
+-- ---- the loop
+
+pub record Running (w : Automaton) (s : Stream) (block ids₀ offsets₀ live : List ℕ) (reported : ℕ) (ids offsets : List ℕ) (count at : ℕ) : Type 0 where
+  pub inside : at ≤ length block
+  pub live-is : live ≡ stateAfter w s block at .live
+  pub marks-are : reported ≡ stateAfter w s block at .reported
+  pub small : reported < 2 ^ 64
+  pub count-is : count ≡ length (idsOf w s block at)
+  pub room : count ≤ space ids₀ offsets₀
+  pub ids-are : ids ≡ idsOf w s block at ++ drop count ids₀
+  pub offsets-are : offsets ≡ endsOf w s block at ++ drop count offsets₀
+  pub ids-long : length ids ≡ length ids₀
+  pub offsets-long : length offsets ≡ length offsets₀
+
+-- a part from a on that came back: x was I ++ drop a x₀, and D was put at the part's front
+grow : (I D x x₀ last : List ℕ) (a : ℕ) → length I ≡ a → a ≤ length x → x ≡ I ++ drop a x₀ → last ≡ written D (take (length x - a) (drop a x))
+    → putMid a (length x - a) x last ≡ (I ++ D) ++ drop (a + length D) x₀
+grow I D x x₀ last a el h ex e =
+    let d : drop a x ≡ drop a x₀ = ap (drop a) ex ∙ drop-at I (drop a x₀) a el in
+    let all : take (length x - a) (drop a x) ≡ drop a x = take-all (length x - a) (drop a x) (omega (arith, length-drop a x)) in
+    let none : drop (length x - a) (drop a x) ≡ [] = drop-of-length-le (drop a x) {i = length x - a} (omega (arith, length-drop a x)) in
+    ap₂ (λ (p q : List ℕ). p ++ q) (ap (take a) ex ∙ take-at I (drop a x₀) a el)
+    (ap₂ (λ (p q : List ℕ). p ++ q) (e ∙ ap (λ (l : List ℕ). D ++ drop (length D) l) (all ∙ d) ∙ ap (λ (l : List ℕ). D ++ l) (drop-drop (length D) a x₀)) none
+    ∙ append-nil (D ++ drop (a + length D) x₀))
+    ∙ sym (append-assoc I D (drop (a + length D) x₀))
+
+module _ (w : Automaton) (s : Stream) (block ids₀ offsets₀ : List ℕ) where
+  pub running-start : s .reported < 2 ^ 64 → Running w s block ids₀ offsets₀ (s .live) (s .reported) ids₀ offsets₀ 0 0
+  unfolding stateAfter idsOf endsOf
+  running-start h = record {
+    inside = zero-le;
+    live-is = refl;
+    marks-are = refl;
+    small = h;
+    count-is = refl;
+    room = zero-le;
+    ids-are = refl;
+    offsets-are = refl;
+    ids-long = refl;
+    offsets-long = refl;
+  }
+
+  module _ (live : List ℕ) (reported : ℕ) (ids offsets : List ℕ) (count at : ℕ) (h : Running w s block ids₀ offsets₀ live reported ids offsets count at)
+      (next : List ℕ) (step : next ≡ nextLive w (stateOf live 0 (s .taken + at)) (getD block at 0)) where
+    -- what the definitions say of the next byte, in terms of the locals
+    next-is : nextLive w (stateAfter w s block at) (getD block at 0) ≡ next
+    next-is =
+        next-parts w (stateAfter w s block at) (getD block at 0)
+        ∙ ap₂ (λ (l : List ℕ) (n : ℕ). nextLive w (stateOf l 0 n) (getD block at 0)) (sym (h .live-is)) (taken-after w s block at) ∙ sym step
+
+    live-more : next ≡ stateAfter w s block (at + 1) .live
+    unfolding byteState
+    live-more = sym next-is ∙ sym (ap (λ (z : Stream). z .live) (state-more w s block at))
+
+    marks-more : runMarks w (ends w next) reported ≡ stateAfter w s block (at + 1) .reported
+    unfolding byteState
+    marks-more = ap₂ (λ (l : List ℕ) (m : ℕ). runMarks w (ends w l) m) (sym next-is) (h .marks-are) ∙ sym (ap (λ (z : Stream). z .reported) (state-more w s block at))
+
+    new : byteIds w (stateAfter w s block at) (getD block at 0) ≡ runIds w (ends w next) reported (w .rules)
+    unfolding byteIds
+    new = ap₂ (λ (l : List ℕ) (m : ℕ). runIds w (ends w l) m (w .rules)) next-is (sym (h .marks-are))
+
+    ids-next : idsOf w s block (at + 1) ≡ idsOf w s block at ++ runIds w (ends w next) reported (w .rules)
+    ids-next = ids-more w s block at ∙ ap (λ (l : List ℕ). idsOf w s block at ++ l) new
+
+    ends-next : endsOf w s block (at + 1) ≡ endsOf w s block at ++ replicate (length (runIds w (ends w next) reported (w .rules))) (s .taken + (at + 1))
+    ends-next = ends-more w s block at ∙ ap (λ (l : List ℕ). endsOf w s block at ++ replicate (length l) (s .taken + (at + 1))) new
+
+    -- what the reports up to the next byte come to, where the rules that end are a word's digits
+    pub count-more : (ending : ℕ) → ((a : ℕ) → a < w .rules → on ending a ≡ ends w next a)
+        → count + length (runIds w (on ending) reported (w .rules)) ≡ length (idsOf w s block (at + 1))
+    count-more ending same =
+        ap₂ (λ (x y : ℕ). x + y) (h .count-is) (ap length (run-ext w (on ending) (ends w next) reported (w .rules) same))
+        ∙ sym (ap length ids-next ∙ length-append (idsOf w s block at) (runIds w (ends w next) reported (w .rules)))
+
+    -- a byte whose run is written into the tails of both lists
+    pub running-run : (ending reports marks end : ℕ) (ilast olast : List ℕ) → at < length block → ((a : ℕ) → a < w .rules → on ending a ≡ ends w next a)
+        → end ≡ s .taken + (at + 1) → count + reports ≤ space ids₀ offsets₀
+        → Wrote w (on ending) reported end (take (length ids - count) (drop count ids)) (take (length offsets - count) (drop count offsets)) reports marks ilast olast
+        → length (putMid count (length ids - count) ids ilast) ≡ length ids → length (putMid count (length offsets - count) offsets olast) ≡ length offsets
+        → Running w s block ids₀ offsets₀ next marks (putMid count (length ids - count) ids ilast) (putMid count (length offsets - count) offsets olast) (count + reports) (at + 1)
+    running-run ending reports marks end ilast olast b same e r wrote li lo =
+        let run = run-ext w (on ending) (ends w next) reported (w .rules) same in
+        let n : length (runIds w (on ending) reported (w .rules)) ≡ reports = sym (wrote .reports-are) in
+        record {
+          inside = omega arith;
+          live-is = live-more;
+          marks-are = wrote .marks-are ∙ marks-ext w (on ending) (ends w next) reported same ∙ marks-more;
+          small = subst (λ (x : ℕ). x < 2 ^ 64) (sym (wrote .marks-are)) (marks-small w (on ending) reported);
+          count-is = ap (λ (x : ℕ). count + x) (wrote .reports-are) ∙ count-more ending same;
+          room = r;
+          ids-are =
+              grow (idsOf w s block at) (runIds w (on ending) reported (w .rules)) ids ids₀ ilast count (sym (h .count-is)) (omega (arith, h .ids-long, h .room)) (h .ids-are) (wrote .ids-are)
+              ∙ ap₂ (λ (l : List ℕ) (x : ℕ). l ++ drop (count + x) ids₀) (ap (λ (l : List ℕ). idsOf w s block at ++ l) run ∙ sym ids-next) n;
+          offsets-are =
+              grow (endsOf w s block at) (replicate (length (runIds w (on ending) reported (w .rules))) end) offsets offsets₀ olast count (ends-count w s block at ∙ sym (h .count-is))
+              (omega (arith, h .offsets-long, h .room)) (h .offsets-are) (wrote .offsets-are)
+              ∙ ap₂ (λ (l : List ℕ) (x : ℕ). l ++ drop (count + x) offsets₀)
+              (ap (λ (l : List ℕ). endsOf w s block at ++ l) (ap₂ (λ (l : List ℕ) (x : ℕ). replicate (length l) x) run e) ∙ sym ends-next)
+              (length-replicate (length (runIds w (on ending) reported (w .rules))) end ∙ n);
+          ids-long = li ∙ h .ids-long;
+          offsets-long = lo ∙ h .offsets-long;
+        }
+
+    -- a byte with which no rule ends
+    pub running-silent : at < length block → ((a : ℕ) → a < w .rules → ends w next a ≡ false) → Running w s block ids₀ offsets₀ next reported ids offsets count (at + 1)
+    running-silent b none =
+        let nothing = run-none w (ends w next) reported (w .rules) none in
+        let ids-same : idsOf w s block (at + 1) ≡ idsOf w s block at = ids-next ∙ ap (λ (l : List ℕ). idsOf w s block at ++ l) nothing ∙ append-nil (idsOf w s block at) in
+        let ends-same : endsOf w s block (at + 1) ≡ endsOf w s block at =
+        ends-next ∙ ap (λ (l : List ℕ). endsOf w s block at ++ replicate (length l) (s .taken + (at + 1))) nothing ∙ append-nil (endsOf w s block at) in
+        record {
+          inside = omega arith;
+          live-is = live-more;
+          marks-are = sym (marks-none w (ends w next) reported (h .small) none) ∙ marks-more;
+          small = h .small;
+          count-is = h .count-is ∙ sym (ap length ids-same);
+          room = h .room;
+          ids-are = h .ids-are ∙ ap (λ (l : List ℕ). l ++ drop count ids₀) (sym ids-same);
+          offsets-are = h .offsets-are ∙ ap (λ (l : List ℕ). l ++ drop count offsets₀) (sym ends-same);
+          ids-long = h .ids-long;
+          offsets-long = h .offsets-long;
+        }
+
+  module _ (live : List ℕ) (reported : ℕ) (ids offsets : List ℕ) (count : ℕ) where
+    -- bytes passed over
+    pub running-skip : (at to : ℕ) → Running w s block ids₀ offsets₀ live reported ids offsets count at → Skipped w live block (s .taken) at to
+        → Running w s block ids₀ offsets₀ live reported ids offsets count to
+    running-skip at to h q =
+        let whole : at + (to - at) ≡ to = omega (arith, q .rises) in
+        subst (λ (n : ℕ). Running w s block ids₀ offsets₀ live reported ids offsets count n) whole (over (to - at) (omega (arith, q .rises)))
+      where
+        one : (n : ℕ) → at ≤ n → n < to → Running w s block ids₀ offsets₀ live reported ids offsets count n → Running w s block ids₀ offsets₀ live reported ids offsets count (n + 1)
+        one n l m r =
+            let empty : live ≡ emptySet = q .empty (omega arith) in
+            running-silent live reported ids offsets count n r live
+            (empty ∙ sym (q .still n l m) ∙ ap (λ (x : List ℕ). nextLive w (stateOf x 0 (s .taken + n)) (getD block n 0)) (sym empty)) (omega (arith, q .inside))
+            (λ a f. ap (λ (x : List ℕ). ends w x a) empty ∙ ends-empty w a)
+
+        over : (d : ℕ) → at + d ≤ to → Running w s block ids₀ offsets₀ live reported ids offsets count (at + d)
+        over zero l = subst (λ (n : ℕ). Running w s block ids₀ offsets₀ live reported ids offsets count n) (sym (add-zero at)) h
+        over (suc d) l =
+            let next : at + d + 1 ≡ at + suc d = omega arith in
+            subst (λ (n : ℕ). Running w s block ids₀ offsets₀ live reported ids offsets count n) next (one (at + d) (omega arith) (omega arith) (over d (omega arith)))
+
+    -- where the loop leaves: at the block's end, or before a byte whose reports do not fit
+    pub running-done : (at : ℕ) → Running w s block ids₀ offsets₀ live reported ids offsets count at
+        → (at < length block → space ids₀ offsets₀ < length (idsOf w s block (at + 1))) → Ran w s block ids₀ offsets₀ live reported at count ids offsets
+    running-done at h stopped =
+        record {
+          taken-is = sym (fits-is w s block (space ids₀ offsets₀) at (length block) (h .inside) (omega (arith, h .count-is, h .room)) stopped);
+          live-is = h .live-is;
+          marks-are = h .marks-are;
+          reports-are = h .count-is;
+          ids-are = h .ids-are ∙ ap (λ (n : ℕ). idsOf w s block at ++ drop n ids₀) (h .count-is);
+          offsets-are = h .offsets-are ∙ ap (λ (n : ℕ). endsOf w s block at ++ drop n offsets₀) (h .count-is ∙ sym (ends-count w s block at));
+        }
+
+  -- other names for the same locals
+  pub running-same : (live : List ℕ) (reported : ℕ) (ids offsets : List ℕ) (count at : ℕ) → Running w s block ids₀ offsets₀ live reported ids offsets count at
+      → (reported′ : ℕ) (ids′ offsets′ : List ℕ) (count′ : ℕ) → reported′ ≡ reported → ids′ ≡ ids → offsets′ ≡ offsets → count′ ≡ count
+      → Running w s block ids₀ offsets₀ live reported′ ids′ offsets′ count′ at
+  running-same live reported ids offsets count at h reported′ ids′ offsets′ count′ m p q r =
+      record {
+        inside = h .inside;
+        live-is = h .live-is;
+        marks-are = m ∙ h .marks-are;
+        small = omega (arith, m, h .small);
+        count-is = r ∙ h .count-is;
+        room = omega (arith, r, h .room);
+        ids-are = p ∙ h .ids-are ∙ ap (λ (n : ℕ). idsOf w s block at ++ drop n ids₀) (sym r);
+        offsets-are = q ∙ h .offsets-are ∙ ap (λ (n : ℕ). endsOf w s block at ++ drop n offsets₀) (sym r);
+        ids-long = ap length p ∙ h .ids-long;
+        offsets-long = ap length q ∙ h .offsets-long;
+      }

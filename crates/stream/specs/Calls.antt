@@ -1,0 +1,98 @@
+-- The four calls on a stream: the answer and both lists afterwards, for any words, state, block and lists. Assumes nothing: these are definitions.
+use mathlib.Core.Bool.{Bool, true, false, cond}
+use mathlib.Core.List.{List, _++_}
+use Prim.Native.Nat.{ℕ, _-_, min}
+use lib.Dec.{eqb, ltb}
+use lib.ListN.{length, drop, replicate}
+use Rattle.sets.specs.Set.{emptySet, sizeOf}
+use Rattle.table.specs.Layout.{rulesOf, positionsOf}
+use Rattle.table.specs.Table.{isTable}
+use Rattle.table.specs.Automaton.{automaton}
+use Rattle.stream.specs.declared.Stream.{Stream}
+use Rattle.stream.specs.declared.Opened.{Opened}
+use Rattle.stream.specs.declared.Scanned.{Scanned}
+use Rattle.stream.specs.declared.Closed.{Closed}
+use Rattle.stream.specs.Byte.{stateAfter, idsOf, endsOf, fits, closeIds}
+use Rattle.stream.specs.Valid.{valid, streamLimit}
+
+-- a state with nothing taken
+abbrev pub fresh : (rules positions : ℕ) → Bool → Stream
+fresh rules positions closed = record { live = emptySet; reported = 0; taken = 0; rules = rules; positions = positions; closed = closed }
+
+-- Opening checks 1. "A refused opening hands back a closed state, all else in it zero."
+unfoldable pub opened : List ℕ → Opened
+opened t =
+    cond (isTable t) (record { number = 0; stream = fresh (rulesOf t) (positionsOf t) false }) (record { number = 1; stream = fresh 0 0 true })
+
+-- the report space: "the space is the shorter one"
+abbrev pub space : List ℕ → List ℕ → ℕ
+space ids offsets = min (length ids) (length offsets)
+
+-- 20: "report space smaller than the number of rules"
+unfoldable pub spaceNumber : List ℕ → ℕ → ℕ
+spaceNumber t room = cond (ltb room (rulesOf t)) 20 0
+
+-- "Scans check 1, 18, 19, 21, 20": 21 is "bytes taken so far plus this block over the limit"
+unfoldable pub scanNumber : List ℕ → Stream → (len room : ℕ) → ℕ
+scanNumber t s len room =
+    cond (isTable t)
+    (cond (valid (automaton t) s)
+    (cond (s .closed) 19
+    (cond (ltb (streamLimit - s .taken) len) 21
+    (spaceNumber t room)))
+    18)
+    1
+
+-- "closing the same without 21"
+unfoldable pub closeNumber : List ℕ → Stream → (room : ℕ) → ℕ
+closeNumber t s room = cond (isTable t) (cond (valid (automaton t) s) (cond (s .closed) 19 (spaceNumber t room)) 18) 1
+
+-- how many bytes an accepted scan takes
+unfoldable pub takenBy : List ℕ → Stream → List ℕ → (room : ℕ) → ℕ
+takenBy t s block room = fits (automaton t) s block room (length block)
+
+-- a list with these reports at its front: "slots past the count keep their values"
+abbrev pub written : List ℕ → List ℕ → List ℕ
+written new old = new ++ drop (length new) old
+
+module _ (t : List ℕ) (s : Stream) (block ids offsets : List ℕ) where
+  unfoldable pub scanned : Scanned
+  scanned =
+      let k : ℕ = takenBy t s block (space ids offsets) in
+      let number : ℕ = scanNumber t s (length block) (space ids offsets) in
+      cond (eqb number 0)
+      (record { number = 0; taken = k; reports = length (idsOf (automaton t) s block k); stream = stateAfter (automaton t) s block k })
+      (record { number = number; taken = 0; reports = 0; stream = s })
+
+  unfoldable pub scannedIds : List ℕ
+  scannedIds =
+      cond (eqb (scanNumber t s (length block) (space ids offsets)) 0)
+      (written (idsOf (automaton t) s block (takenBy t s block (space ids offsets))) ids) ids
+
+  unfoldable pub scannedOffsets : List ℕ
+  scannedOffsets =
+      cond (eqb (scanNumber t s (length block) (space ids offsets)) 0)
+      (written (endsOf (automaton t) s block (takenBy t s block (space ids offsets))) offsets) offsets
+
+-- "Closing sets the closed mark and changes nothing else in the state."
+abbrev pub shut : Stream → Stream
+shut s = record { live = s .live; reported = s .reported; taken = s .taken; rules = s .rules; positions = s .positions; closed = true }
+
+module _ (t : List ℕ) (s : Stream) (ids offsets : List ℕ) where
+  unfoldable pub closed : Closed
+  closed =
+      let number : ℕ = closeNumber t s (space ids offsets) in
+      cond (eqb number 0)
+      (record { number = 0; reports = length (closeIds (automaton t) s); stream = shut s })
+      (record { number = number; reports = 0; stream = s })
+
+  unfoldable pub closedIds : List ℕ
+  closedIds = cond (eqb (closeNumber t s (space ids offsets)) 0) (written (closeIds (automaton t) s) ids) ids
+
+  unfoldable pub closedOffsets : List ℕ
+  closedOffsets =
+      cond (eqb (closeNumber t s (space ids offsets)) 0) (written (replicate (length (closeIds (automaton t) s)) (s .taken)) offsets) offsets
+
+-- "The state also shows its busy figure: the number of live positions."
+abbrev pub busyOf : Stream → ℕ
+busyOf s = sizeOf (s .live)

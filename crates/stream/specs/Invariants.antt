@@ -1,0 +1,38 @@
+-- What the private functions promise, where that is not an equation with a definition that a reader must believe. Assumes nothing: these are definitions.
+use mathlib.Core.Path.{_≡_}
+use mathlib.Core.Bool.{Bool, false}
+use mathlib.Core.List.{List}
+use Prim.Native.Nat.{ℕ, _+_, _<_, _≤_}
+use lib.ListN.{length, getD, replicate}
+use Rattle.sets.specs.Set.{emptySet}
+use Rattle.table.specs.Automaton.{Automaton}
+use Rattle.stream.specs.declared.Stream.{Stream}
+use Rattle.stream.specs.Byte.{nextLive, runIds, runMarks, stateAfter, idsOf, endsOf, fits}
+use Rattle.stream.specs.Calls.{space, written}
+
+-- a state of which the live set, the marks and the bytes taken count
+abbrev pub stateOf : (live : List ℕ) → (reported taken : ℕ) → Stream
+stateOf live reported taken = record { live = live; reported = reported; taken = taken; rules = 0; positions = 0; closed = false }
+
+-- a run of the rules that pass the test, written with this end offset
+pub record Wrote (w : Automaton) (test : ℕ → Bool) (marks end : ℕ) (ids offsets : List ℕ) (reports marks′ : ℕ) (ids′ offsets′ : List ℕ) : Type 0 where
+  pub reports-are : reports ≡ length (runIds w test marks (w .rules))
+  pub marks-are : marks′ ≡ runMarks w test marks
+  pub ids-are : ids′ ≡ written (runIds w test marks (w .rules)) ids
+  pub offsets-are : offsets′ ≡ written (replicate (length (runIds w test marks (w .rules))) end) offsets
+
+-- nothing is live and the bytes of the block from `from` up to `to` leave it so, `taken` bytes of the stream before the block
+pub record Skipped (w : Automaton) (live block : List ℕ) (taken from to : ℕ) : Type 0 where
+  pub rises : from ≤ to
+  pub inside : to ≤ length block
+  pub empty : from < to → live ≡ emptySet
+  pub still : (j : ℕ) → from ≤ j → j < to → nextLive w (stateOf emptySet 0 (taken + j)) (getD block j 0) ≡ emptySet
+
+-- as many bytes of the block as have reports that fit, the state after them and both lists
+pub record Ran (w : Automaton) (s : Stream) (block ids offsets live : List ℕ) (reported taken reports : ℕ) (ids′ offsets′ : List ℕ) : Type 0 where
+  pub taken-is : taken ≡ fits w s block (space ids offsets) (length block)
+  pub live-is : live ≡ stateAfter w s block taken .live
+  pub marks-are : reported ≡ stateAfter w s block taken .reported
+  pub reports-are : reports ≡ length (idsOf w s block taken)
+  pub ids-are : ids′ ≡ written (idsOf w s block taken) ids
+  pub offsets-are : offsets′ ≡ written (endsOf w s block taken) offsets

@@ -1,0 +1,29 @@
+-- When a state fits a table. 18 is exactly the four reasons of the rules, one named test each. Assumes nothing: these are definitions.
+use mathlib.Core.Bool.{Bool, not, _&&_}
+use Prim.Native.Nat.{ℕ}
+use lib.Dec.{eqb, leb, ltb}
+use Rattle.sets.specs.Set.{on, has, any}
+use Rattle.table.specs.Layout.{maxPositions}
+use Rattle.table.specs.Automaton.{Automaton, single}
+use Rattle.stream.specs.declared.Stream.{Stream}
+
+-- "Stream: 1,099,511,627,775 bytes"
+abbrev pub streamLimit : ℕ
+streamLimit = 1099511627775
+
+-- "A state carries the rule and position counts of its table; if they differ, or a live bit has no position, or a mark "already reported" has no
+-- single-match rule, or the total is over the limit, it is refused with 18."
+unfoldable pub sameCounts : Automaton → Stream → Bool
+sameCounts w s = eqb (s .rules) (w .rules) && eqb (s .positions) (w .positions)
+
+unfoldable pub liveInside : Automaton → Stream → Bool
+liveInside w s = not (any maxPositions (λ q. has (s .live) q && leb (w .positions) q))
+
+unfoldable pub marksSingle : Automaton → Stream → Bool
+marksSingle w s = not (any 64 (λ a. on (s .reported) a && not (ltb a (w .rules) && single w a)))
+
+unfoldable pub underLimit : Stream → Bool
+underLimit s = leb (s .taken) streamLimit
+
+unfoldable pub valid : Automaton → Stream → Bool
+valid w s = sameCounts w s && (liveInside w s && (marksSingle w s && underLimit s))

@@ -1,0 +1,78 @@
+// Whether a call is accepted: the tests of a state against a table, and the number of the first reason that refuses it.
+use super::Stream;
+use super::rows::singles;
+use table::layout::POSITIONS_AT;
+use table::layout::RULES_AT;
+ghost use mathlib.Core.Path.{_≡_};
+ghost use mathlib.Core.Bool.{not, _&&_};
+ghost use Prim.Native.Nat.{_≤_, min};
+ghost use lib.Dec.{leb, ltb};
+ghost use lib.ListN.{length};
+ghost use Rattle.sets.specs.Set.{on, has, any};
+ghost use Rattle.table.specs.Layout.{tableWords, maxRules, maxPositions, rulesOf};
+ghost use Rattle.table.specs.Automaton.{automaton, single};
+ghost use Rattle.stream.specs.Valid.{valid};
+ghost use Rattle.stream.specs.Calls.{scanNumber};
+
+// How many bytes a stream may have.
+const STREAM_LIMIT: u64 = 1_099_511_627_775;
+
+// The smaller of two numbers.
+pub(super) fn least(a: usize, b: usize) -> usize
+    ensures { λ r. ⌜ r ≡ min a b ⌝ }
+{
+    if a < b { a } else { b }
+}
+
+// Whether every live digit has a position.
+fn live_inside(live: [u64; 4], positions: usize) -> bool
+    ensures { λ r. ⌜ r ≡ not (any maxPositions (λ q. has live q && leb positions q)) ⌝ }
+{
+    let outside = sets::complement(sets::below(sets::full(), positions));
+    sets::is_empty(sets::intersection(live, outside))
+}
+
+// Whether every mark has a single-match rule.
+fn marks_single(reported: u64, words: &[u64], rules: usize) -> bool
+    requires { ⌜ (tableWords ≤ length (now words)) × (rules ≤ maxRules) ⌝ }
+    ensures { λ r. ⌜ r ≡ not (any 64 (λ a. on reported a && not (ltb a rules && single (automaton (now (words .entry))) a))) ⌝ }
+{
+    reported & !singles(words, rules) == 0
+}
+
+// Whether a state fits a table.
+fn is_valid(s: Stream, words: &[u64]) -> bool
+    requires { ⌜ (tableWords ≤ length (now words)) × (rulesOf (now words) ≤ maxRules) ⌝ }
+    ensures { λ r. ⌜ r ≡ valid (automaton (now (words .entry))) s ⌝ }
+{
+    let rules = words[RULES_AT];
+    let positions = words[POSITIONS_AT];
+    let live = s.live;
+    let same = (s.rules as u64 == rules) & (s.positions as u64 == positions);
+    let inside = live_inside(live, positions as usize);
+    let marked = marks_single(s.reported, words, rules as usize);
+    same & (inside & (marked & (s.taken <= STREAM_LIMIT)))
+}
+
+// The number of a scan of `len` bytes with this report space. A closing is numbered as a scan of no bytes, which 21 never refuses.
+pub(super) fn refusal(s: Stream, words: &[u64], len: usize, space: usize) -> u32
+    ensures { λ r. ⌜ r ≡ scanNumber (now (words .entry)) s len space ⌝ }
+{
+    if !table::is_table(words) {
+        return 1;
+    }
+    if !is_valid(s, words) {
+        return 18;
+    }
+    if s.closed {
+        return 19;
+    }
+    let rules = words[RULES_AT];
+    if STREAM_LIMIT - s.taken < len as u64 {
+        return 21;
+    }
+    if (space as u64) < rules {
+        return 20;
+    }
+    0
+}

@@ -1,0 +1,161 @@
+// The stream: opening, scanning, closing, and the busy figure. The state goes in by value and the next state comes back inside the answer.
+// Nothing is required of a caller: each promise holds for any words, state, block and lists. specs/Calls.antt says what each call gives.
+mod checks;
+mod reports;
+mod rows;
+mod scan;
+
+use checks::least;
+use checks::refusal;
+use reports::write_run;
+use rows::ending;
+use rows::singles;
+use scan::run;
+use table::layout::LAST;
+use table::layout::LAST_AT_END;
+use table::layout::POSITIONS_AT;
+use table::layout::RULES_AT;
+ghost use mathlib.Core.Path.{_≡_};
+ghost use Rattle.stream.specs.Calls.{fresh, opened, scanned, scannedIds, scannedOffsets, closed, closedIds, closedOffsets, busyOf};
+
+// A stream's state: the live positions, a mark for each single-match rule that has reported, the bytes taken, the counts of its table, and whether it is
+// closed.
+pub struct Stream {
+    pub live: [u64; 4],
+    pub reported: u64,
+    pub taken: u64,
+    pub rules: u32,
+    pub positions: u32,
+    pub closed: bool,
+}
+
+// The answer of an opening.
+pub struct Opened {
+    pub number: u32,
+    pub stream: Stream,
+}
+
+// The answer of a scan: its number, how many bytes it took, how many reports it wrote, the next state.
+pub struct Scanned {
+    pub number: u32,
+    pub taken: usize,
+    pub reports: usize,
+    pub stream: Stream,
+}
+
+// The answer of a closing.
+pub struct Closed {
+    pub number: u32,
+    pub reports: usize,
+    pub stream: Stream,
+}
+
+// A state with nothing taken.
+fn fresh_state(rules: u32, positions: u32, closed: bool) -> Stream
+    ensures { λ r. ⌜ r ≡ fresh rules positions closed ⌝ }
+{
+    let live = sets::empty();
+    Stream {
+        live,
+        reported: 0,
+        taken: 0,
+        rules,
+        positions,
+        closed,
+    }
+}
+
+impl Stream {
+    // Opens a stream over a table.
+    pub fn open(words: &[u64]) -> Opened
+        ensures { λ r. ⌜ r ≡ opened (now (words .entry)) ⌝ }
+    {
+        if !table::is_table(words) {
+            return Opened {
+                number: 1,
+                stream: fresh_state(0, 0, true),
+            };
+        }
+        Opened {
+            number: 0,
+            stream: fresh_state(words[RULES_AT] as u32, words[POSITIONS_AT] as u32, false),
+        }
+    }
+
+    // Scans the bytes of a block, and writes the reports at the front of both lists.
+    pub fn scan(
+        mut self,
+        words: &[u64],
+        block: &[u8],
+        ids: &mut [u32],
+        offsets: &mut [u64],
+    ) -> Scanned
+        ensures answer { λ r. ⌜ r ≡ scanned (now (words .entry)) self (now (block .entry)) (now (ids .entry)) (now (offsets .entry)) ⌝ }
+        ensures ids { λ r. ⌜ now (ids .exit) ≡ scannedIds (now (words .entry)) self (now (block .entry)) (now (ids .entry)) (now (offsets .entry)) ⌝ }
+        ensures offsets { λ r. ⌜ now (offsets .exit) ≡ scannedOffsets (now (words .entry)) self (now (block .entry)) (now (ids .entry)) (now (offsets .entry)) ⌝ }
+    {
+        let number = refusal(self, words, block.len(), least(ids.len(), offsets.len()));
+        if number != 0 {
+            return Scanned {
+                number,
+                taken: 0,
+                reports: 0,
+                stream: self,
+            };
+        }
+        let live = self.live;
+        let r = run(live, self.reported, self.taken, words, block, ids, offsets);
+        let after = r.live;
+        self.live = after;
+        self.reported = r.reported;
+        self.taken = self.taken + r.taken as u64;
+        Scanned {
+            number: 0,
+            taken: r.taken,
+            reports: r.reports,
+            stream: self,
+        }
+    }
+
+    // Closes the stream, and writes the reports that needed its end at the front of both lists.
+    pub fn close(mut self, words: &[u64], ids: &mut [u32], offsets: &mut [u64]) -> Closed
+        ensures answer { λ r. ⌜ r ≡ closed (now (words .entry)) self (now (ids .entry)) (now (offsets .entry)) ⌝ }
+        ensures ids { λ r. ⌜ now (ids .exit) ≡ closedIds (now (words .entry)) self (now (ids .entry)) (now (offsets .entry)) ⌝ }
+        ensures offsets { λ r. ⌜ now (offsets .exit) ≡ closedOffsets (now (words .entry)) self (now (ids .entry)) (now (offsets .entry)) ⌝ }
+    {
+        let number = refusal(self, words, 0, least(ids.len(), offsets.len()));
+        if number != 0 {
+            return Closed {
+                number,
+                reports: 0,
+                stream: self,
+            };
+        }
+        let live = self.live;
+        let rules = words[RULES_AT] as usize;
+        let found = ending(live, words, rules, LAST_AT_END) & !ending(live, words, rules, LAST);
+        let r = write_run(
+            found,
+            self.reported,
+            singles(words, rules),
+            words,
+            self.taken,
+            ids,
+            offsets,
+        );
+        self.closed = true;
+        Closed {
+            number: 0,
+            reports: r.reports,
+            stream: self,
+        }
+    }
+
+    // How many positions are live.
+    pub fn busy(self) -> u32
+        ensures { λ r. ⌜ r ≡ busyOf self ⌝ }
+    {
+        let live = self.live;
+        sets::size(live)
+    }
+}

@@ -1,0 +1,60 @@
+// One run of reports: one end offset, and the rules that end there by rising place, each a digit of a word.
+use table::layout::ID;
+use table::layout::RECORD_WORDS;
+use table::layout::RECORDS_AT;
+use table::layout::RULES_AT;
+ghost use mathlib.Core.Path.{_≡_};
+ghost use mathlib.Core.Bool.{true, not, _&&_};
+ghost use Prim.Native.Nat.{_≤_};
+ghost use lib.Dec.{ltb};
+ghost use lib.ListN.{length};
+ghost use Rattle.sets.specs.Set.{on, wordOf, count};
+ghost use Rattle.table.specs.Layout.{rulesOf};
+ghost use Rattle.table.specs.Table.{isTable};
+ghost use Rattle.table.specs.Automaton.{automaton, single};
+ghost use Rattle.stream.specs.Byte.{runIds};
+ghost use Rattle.stream.specs.Invariants.{Wrote};
+
+// What a run leaves: how many reports it wrote, and the marks afterwards.
+pub(super) struct Run {
+    pub reports: usize,
+    pub reported: u64,
+}
+
+// How many reports a run has: the rules that end, but for those with a mark.
+pub(super) fn due(ending: u64, reported: u64) -> usize
+    ensures { λ r. ⌜ r ≡ count 64 (λ a. on ending a && not (on reported a)) ⌝ }
+{
+    u64::count_ones(ending & !reported) as usize
+}
+
+// Writes one run at the front of both lists, and marks its single-match rules.
+pub(super) fn write_run(
+    ending: u64,
+    reported: u64,
+    singles: u64,
+    words: &[u64],
+    end: u64,
+    ids: &mut [u32],
+    offsets: &mut [u64],
+) -> Run
+    requires { ⌜ (isTable (now words) ≡ true) × (singles ≡ wordOf 64 (λ a. ltb a (rulesOf (now words)) && single (automaton (now words)) a)) × (length (runIds (automaton (now words)) (on ending) reported (rulesOf (now words))) ≤ length (now ids)) × (length (runIds (automaton (now words)) (on ending) reported (rulesOf (now words))) ≤ length (now offsets)) ⌝ }
+    ensures { λ r. ⌜ Wrote (automaton (now (words .entry))) (on ending) reported end (now (ids .entry)) (now (offsets .entry)) (r .reports) (r .reported) (now (ids .exit)) (now (offsets .exit)) ⌝ }
+{
+    let rules = words[RULES_AT] as usize;
+    let due = ending & !reported;
+    let mut n: usize = 0;
+    let mut a: usize = 0;
+    while a < rules {
+        if due >> a & 1 == 1 {
+            ids[n] = words[RECORDS_AT + a * RECORD_WORDS + ID] as u32;
+            offsets[n] = end;
+            n += 1;
+        }
+        a += 1;
+    }
+    Run {
+        reports: n,
+        reported: reported | ending & singles,
+    }
+}

@@ -1,0 +1,158 @@
+// The bytes of a block, one after the other: the next live set, the bytes that change nothing, the loop.
+use super::checks::least;
+use super::reports::due;
+use super::reports::write_run;
+use super::rows::ending;
+use super::rows::lasts;
+use super::rows::meets;
+use super::rows::row;
+use super::rows::singles;
+use table::layout::FIRST_AT;
+use table::layout::FIRST_AT_START_AT;
+use table::layout::FOLLOW_AT;
+use table::layout::LAST;
+use table::layout::MAX_POSITIONS;
+use table::layout::POSITIONS_AT;
+use table::layout::RULES_AT;
+use table::layout::SET_WORDS;
+use table::layout::TAKERS_AT;
+ghost use mathlib.Core.Path.{_≡_};
+ghost use mathlib.Core.Bool.{true};
+ghost use Prim.Native.Nat.{_+_, _^_, _<_, _≤_};
+ghost use lib.ListN.{length};
+ghost use Rattle.sets.specs.Set.{setOf, emptySet};
+ghost use Rattle.table.specs.Layout.{tableWords, positionsOf, takersAt, rowHas};
+ghost use Rattle.table.specs.Table.{isTable};
+ghost use Rattle.table.specs.Automaton.{automaton};
+ghost use Rattle.stream.specs.Byte.{starts, nextLive};
+ghost use Rattle.stream.specs.Invariants.{stateOf, Skipped, Ran};
+
+// The positions that can take the first byte of a match, `taken` bytes into the stream.
+fn firsts(words: &[u64], taken: u64) -> [u64; 4]
+    requires { ⌜ tableWords ≤ length (now words) ⌝ }
+    ensures { λ r. ⌜ r ≡ setOf (starts (automaton (now (words .entry))) (stateOf emptySet 0 taken)) ⌝ }
+{
+    if taken == 0 {
+        row(words, FIRST_AT_START_AT)
+    } else {
+        row(words, FIRST_AT)
+    }
+}
+
+// The positions that take a byte.
+fn takers(words: &[u64], byte: u8) -> [u64; 4]
+    requires { ⌜ tableWords ≤ length (now words) ⌝ }
+    ensures { λ r. ⌜ r ≡ setOf (rowHas (now (words .entry)) (takersAt byte)) ⌝ }
+{
+    row(words, TAKERS_AT + byte as usize * SET_WORDS)
+}
+
+// The live set after one more byte, `taken` bytes into the stream. It asks every position.
+fn step(live: [u64; 4], taken: u64, words: &[u64], positions: usize, byte: u8) -> [u64; 4]
+    requires { ⌜ (tableWords ≤ length (now words)) × (positions ≡ positionsOf (now words)) ⌝ }
+    ensures { λ r. ⌜ r ≡ nextLive (automaton (now (words .entry))) (stateOf live 0 taken) byte ⌝ }
+{
+    let mut next = firsts(words, taken);
+    let mut p: usize = 0;
+    while p < MAX_POSITIONS as usize {
+        if sets::contains(live, p as u8) {
+            let joined = sets::union(next, row(words, FOLLOW_AT + p * SET_WORDS));
+            next = joined;
+        }
+        p += 1;
+    }
+    sets::below(sets::intersection(next, takers(words, byte)), positions)
+}
+
+// The place of the next byte that has to be looked at. Where nothing is live inside the stream, bytes that start nothing are passed over.
+fn ahead(
+    live: [u64; 4],
+    taken: u64,
+    words: &[u64],
+    positions: usize,
+    block: &[u8],
+    from: usize,
+) -> usize
+    requires { ⌜ (tableWords ≤ length (now words)) × (positions ≡ positionsOf (now words)) × (from ≤ length (now block)) × (taken + length (now block) < 2 ^ 64) ⌝ }
+    ensures { λ r. ⌜ Skipped (automaton (now (words .entry))) live (now (block .entry)) taken from r ⌝ }
+{
+    if !sets::is_empty(live) {
+        return from;
+    }
+    if taken + from as u64 == 0 {
+        return from;
+    }
+    let first = sets::below(row(words, FIRST_AT), positions);
+    let mut at = from;
+    while at < block.len() {
+        if meets(first, takers(words, block[at])) {
+            return at;
+        }
+        at += 1;
+    }
+    at
+}
+
+// What the loop leaves: the live set and the marks, how many bytes it took, how many reports it wrote.
+pub(super) struct Taken {
+    pub live: [u64; 4],
+    pub reported: u64,
+    pub taken: usize,
+    pub reports: usize,
+}
+
+// Takes bytes of the block up to its end, or up to the first whose reports do not all fit in the free space.
+pub(super) fn run(
+    from: [u64; 4],
+    marks: u64,
+    taken: u64,
+    words: &[u64],
+    block: &[u8],
+    ids: &mut [u32],
+    offsets: &mut [u64],
+) -> Taken
+    requires { ⌜ (isTable (now words) ≡ true) × (taken + length (now block) < 2 ^ 64) ⌝ }
+    ensures { λ r. ⌜ Ran (automaton (now (words .entry))) (stateOf from marks taken) (now (block .entry)) (now (ids .entry)) (now (offsets .entry)) (r .live) (r .reported) (r .taken) (r .reports) (now (ids .exit)) (now (offsets .exit)) ⌝ }
+{
+    let rules = words[RULES_AT] as usize;
+    let positions = words[POSITIONS_AT] as usize;
+    let last = lasts(words, rules);
+    let single = singles(words, rules);
+    let space = least(ids.len(), offsets.len());
+    let mut live = from;
+    let mut reported = marks;
+    let mut count: usize = 0;
+    let mut at: usize = 0;
+    while at < block.len() {
+        at = ahead(live, taken, words, positions, block, at);
+        if at == block.len() {
+            break;
+        }
+        let next = step(live, taken + at as u64, words, positions, block[at]);
+        if meets(next, last) {
+            let found = ending(next, words, rules, LAST);
+            if space - count < due(found, reported) {
+                break;
+            }
+            let run = write_run(
+                found,
+                reported,
+                single,
+                words,
+                taken + at as u64 + 1,
+                &mut ids[count..],
+                &mut offsets[count..],
+            );
+            count += run.reports;
+            reported = run.reported;
+        }
+        live = next;
+        at += 1;
+    }
+    Taken {
+        live,
+        reported,
+        taken: at,
+        reports: count,
+    }
+}

@@ -1,0 +1,191 @@
+-- How many bytes a token or a class takes: never more than there are, and at least one unless it is faulty. Callers cite `lexeme-takes`,
+-- `lexeme-fits` and `class-ends`. By cases on what the definitions ask, and by going down the bytes.
+use mathlib.Core.Path.{_≡_, sym}
+use mathlib.Core.Bool.{Bool, true, false, cond, not, _&&_, and-eq-true-iff, true≢false}
+use mathlib.Core.List.{List, [], _∷_}
+use Prim.Native.Nat.{ℕ, zero, suc, pred, _+_, _≤_, _<_}
+use native.Mathlib.Omega.{arith}
+use borrow.Author.Tests.{eqb-true, eqb-false}
+use lib.Dec.{eqb, leb, ltb}
+use lib.ListN.{length, getD, drop, length-drop}
+use Rattle.sets.specs.Set.{emptySet}
+use Rattle.tokens.specs.Number.{cap, numeralOf}
+use Rattle.tokens.specs.Class.{lower, joined, membersOf, classOf, memberAt}
+use Rattle.tokens.specs.Option.{plain, faulty, withCaseless, withDotAll, lettersOf, openingOf}
+use Rattle.tokens.specs.Quantifier.{noForm, bounded, open-ended, bracesOf, formOf, marked, quantifierOf}
+use Rattle.tokens.specs.Token.{escaped, lexemeOf}
+use Rattle.tokens.specs.declared.Part.{Part}
+use Rattle.tokens.specs.declared.Class.{Class}
+use Rattle.tokens.specs.declared.Options.{Options}
+use Rattle.tokens.specs.declared.Token.{Token}
+use Rattle.tokens.specs.declared.Form.{Form}
+use Rattle.tokens.specs.declared.Lexeme.{Lexeme}
+use Rattle.tokens.proofs.Suffixes.{inside}
+use Rattle.tokens.proofs.Sizes.{either, pick, byte-within, Stands, escape-stands}
+
+-- ---- quantifiers
+
+-- a quantifier that stands within n bytes
+pub record Counts (n : ℕ) (q : Form) : Type 0 where
+  pub fits : q .size ≤ n
+  pub takes : q .is ≡ true → 1 ≤ q .size
+
+none-counts : (n : ℕ) → Counts n noForm
+none-counts n = record { fits = omega arith; takes = λ e. absurd (true≢false (sym e)) }
+
+module _ (n k : ℕ) (l : 1 ≤ k) (h : k ≤ n) where
+  bounded-counts : (lo hi : ℕ) → Counts n (bounded k lo hi)
+  unfolding bounded
+  bounded-counts lo hi =
+      pick (Counts n) (ltb lo cap && (ltb hi cap && leb lo hi)) (λ e. record { fits = h; takes = λ z. l }) (record { fits = h; takes = λ z. l })
+
+  open-counts : (lo : ℕ) → Counts n (open-ended k lo)
+  unfolding open-ended
+  open-counts lo = pick (Counts n) (ltb lo cap) (λ e. record { fits = h; takes = λ z. l }) (record { fits = h; takes = λ z. l })
+
+braces-count : (v : List ℕ) → Counts (1 + length v) (bracesOf v)
+unfolding bracesOf
+braces-count v =
+    let a = numeralOf 10 v in
+    let b = numeralOf 10 (drop (a .size + 1) v) in
+    let n = 1 + length v in
+    pick (Counts n) (eqb (getD v (a .size) 0) 125)
+    (λ e.
+    let closed : a .size < length v = byte-within v (a .size) 124 e in
+    pick (Counts n) (a .some) (λ z. bounded-counts n (2 + a .size) (omega arith) (omega arith) _ _) (none-counts n))
+    (pick (Counts n) (eqb (getD v (a .size) 0) 44 && eqb (getD v (a .size + (1 + b .size)) 0) 125)
+    (λ e.
+    let brace = and-eq-true-iff (eqb (getD v (a .size) 0) 44) (eqb (getD v (a .size + (1 + b .size)) 0) 125) .0 e .1 in
+    let closed : a .size + (1 + b .size) < length v = byte-within v (a .size + (1 + b .size)) 124 brace in
+    let size : 3 + (a .size + b .size) ≤ n = omega arith in
+    pick (Counts n) (b .some) (λ z. bounded-counts n (3 + (a .size + b .size)) (omega arith) size _ _)
+    (pick (Counts n) (a .some) (λ z. open-counts n (3 + (a .size + b .size)) (omega arith) size _) (none-counts n)))
+    (none-counts n))
+
+pub form-counts : (v : List ℕ) → Counts (length v) (formOf v)
+unfolding formOf
+form-counts v =
+    let c = getD v 0 0 in
+    let n = length v in
+    pick (Counts n) (eqb c 63) (λ e. let h : 0 < n = byte-within v 0 62 e in record { fits = h; takes = λ z. omega arith })
+    (pick (Counts n) (eqb c 42) (λ e. let h : 0 < n = byte-within v 0 41 e in record { fits = h; takes = λ z. omega arith })
+    (pick (Counts n) (eqb c 43) (λ e. let h : 0 < n = byte-within v 0 42 e in record { fits = h; takes = λ z. omega arith })
+    (pick (Counts n) (eqb c 123)
+    (λ e.
+    let h : 0 < n = byte-within v 0 122 e in
+    let more : 1 + length (drop 1 v) ≡ n = omega (arith, length-drop 1 v) in
+    rw more at (braces-count (drop 1 v)))
+    (none-counts n))))
+
+-- ---- tokens
+
+-- a token that stands within n bytes
+pub record Takes (n : ℕ) (l : Lexeme) : Type 0 where
+  pub fits : l .size ≤ n
+  pub takes : l .fault ≡ 0 → 1 ≤ l .size
+
+plain-takes : (n k : ℕ) (t : Token) → 1 ≤ k → k ≤ n → Takes n (plain k t)
+plain-takes n k t l h = record { fits = h; takes = λ e. l }
+
+faulty-takes : (n f : ℕ) → (f ≡ 0 → ⊥) → Takes n (faulty f)
+faulty-takes n f h = record { fits = omega arith; takes = λ e. absurd (h e) }
+
+letters-take : (on any : Bool) (o : Options) (k : ℕ) (v : List ℕ) → Takes (k + length v) (lettersOf on any o k v)
+unfolding lettersOf
+letters-take on any o k [] = faulty-takes (k + 0) 14 (λ e. omega arith)
+letters-take on any o k (c ∷ v) =
+    let n = k + length (c ∷ v) in
+    let more : n ≡ k + 1 + length v = omega arith in
+    let bad : Takes n (faulty 14) = faulty-takes n 14 (λ e. omega arith) in
+    pick (Takes n) (eqb c 105) (λ e. rw more (letters-take on true (withCaseless on o) (k + 1) v))
+    (pick (Takes n) (eqb c 115) (λ e. rw more (letters-take on true (withDotAll on o) (k + 1) v))
+    (pick (Takes n) (eqb c 45) (λ e. pick (Takes n) on (λ z. rw more (letters-take false any o (k + 1) v)) bad)
+    (pick (Takes n) (eqb c 41) (λ e. pick (Takes n) any (λ z. plain-takes n (k + 1) _ (omega arith) (omega arith)) bad)
+    (pick (Takes n) (eqb c 58) (λ e. pick (Takes n) any (λ z. plain-takes n (k + 1) _ (omega arith) (omega arith)) bad) bad))))
+
+opening-takes : (o : Options) (v : List ℕ) → Takes (1 + length v) (openingOf o v)
+unfolding openingOf
+opening-takes o v =
+    let n = 1 + length v in
+    pick (Takes n) (eqb (getD v 0 0) 42) (λ e. faulty-takes n 14 (λ e. omega arith))
+    (pick (Takes n) (eqb (getD v 0 0) 63)
+    (λ e.
+    pick (Takes n) (eqb (getD v 1 0) 58) (λ z. plain-takes n 3 _ (omega arith) (omega (arith, byte-within v 1 57 z)))
+    (let more : 2 + length (drop 1 v) ≡ n = omega (arith, byte-within v 0 62 e, length-drop 1 v) in
+    rw more at (letters-take true false o 2 (drop 1 v))))
+    (plain-takes n 1 _ (omega arith) (omega arith)))
+
+marked-takes : (n : ℕ) (q : Form) (m : ℕ) → q .is ≡ true → Counts n q → (m ≡ 63 → suc (q .size) ≤ n) → Takes n (marked q m)
+unfolding marked
+marked-takes n q m e s h =
+    let fault = lower (q .fault) (cond (eqb m 43) 14 0) in
+    either (Takes n) (eqb fault 0)
+    (λ z.
+    record {
+      fits = pick (λ (k : ℕ). q .size + k ≤ n) (eqb m 63) (λ y. omega (arith, h (eqb-true m 63 y))) (omega (arith, s .fits));
+      takes = λ y. omega (arith, s .takes e);
+    })
+    (λ z. record { fits = omega arith; takes = λ y. absurd (eqb-false fault 0 z y) })
+
+escaped-takes : (n : ℕ) (p : Part) → Stands n p → Takes n (escaped p)
+unfolding escaped
+escaped-takes n p s =
+    either (Takes n) (eqb (p .fault) 0) (λ e. plain-takes n (p .size) _ (s .takes (eqb-true (p .fault) 0 e)) (s .fits))
+    (λ e. faulty-takes n (p .fault) (eqb-false (p .fault) 0 e))
+
+-- where the pattern has not ended, a token that is not faulty takes a byte at least, and no token more than there are
+pub lexeme-takes : (o : Options) (c : ℕ) (v : List ℕ) → Takes (length (c ∷ v)) (lexemeOf o (c ∷ v))
+unfolding lexemeOf quantifierOf
+lexeme-takes o c v =
+    let n = length (c ∷ v) in
+    let more : n ≡ 1 + length v = omega arith in
+    let byte : (t : Token) → Takes n (plain 1 t) = λ t. plain-takes n 1 t (omega arith) (omega arith) in
+    let q = formOf (c ∷ v) in
+    pick (Takes n) (eqb c 92) (λ e. escaped-takes n _ (rw more (escape-stands false v)))
+    (pick (Takes n) (eqb c 91) (λ e. byte _)
+    (pick (Takes n) (eqb c 40) (λ e. rw more (opening-takes o v))
+    (pick (Takes n) (eqb c 41) (λ e. byte _)
+    (pick (Takes n) (eqb c 124) (λ e. byte _)
+    (pick (Takes n) (eqb c 46) (λ e. byte _)
+    (pick (Takes n) (eqb c 94) (λ e. byte _)
+    (pick (Takes n) (eqb c 36) (λ e. byte _)
+    (pick (Takes n) (q .is)
+    (λ e. marked-takes n q (getD (c ∷ v) (q .size) 0) e (form-counts (c ∷ v)) (λ z. inside (c ∷ v) (q .size) (λ y. omega arith)))
+    (byte _)))))))))
+
+pub lexeme-fits : (o : Options) (v : List ℕ) → lexemeOf o v .size ≤ length v
+unfolding lexemeOf
+lexeme-fits o [] = omega arith
+lexeme-fits o (c ∷ v) = lexeme-takes o c v .fits
+
+-- ---- classes
+
+-- a class from place `at` on, with n bytes there, ends after its bracket or is refused at a place in it
+pub record Ends (at n : ℕ) (c : Class) : Type 0 where
+  pub after : c .number ≡ 0 → at < c .place
+  pub fits : c .place ≤ at + n
+
+members-end : (caseless negated first : Bool) (set : List ℕ) (k : ℕ) (v : List ℕ) (at : ℕ)
+    → Ends at (length v) (membersOf caseless negated first set k v at)
+unfolding membersOf
+members-end caseless negated first set k [] at = record { after = λ e. absurd (omega arith); fits = omega arith }
+members-end caseless negated first set (suc k) (c ∷ v) at =
+    let more = members-end caseless negated first set k v (at + 1) in
+    record { after = λ e. omega (arith, more .after e); fits = omega (arith, more .fits) }
+members-end caseless negated first set zero (c ∷ v) at =
+    let m = memberAt (c ∷ v) in
+    let more = members-end caseless negated false (joined set (m .low) (m .high)) (pred (m .size)) v (at + 1) in
+    let here = Ends at (length (c ∷ v)) in
+    pick here (eqb c 93 && not first) (λ e. record { after = λ z. omega arith; fits = omega arith })
+    (either here (eqb (m .fault) 0) (λ e. record { after = λ z. omega (arith, more .after z); fits = omega (arith, more .fits) })
+    (λ e. record { after = λ z. absurd (eqb-false (m .fault) 0 e z); fits = omega arith }))
+
+pub class-ends : (caseless : Bool) (v : List ℕ) (at : ℕ) → Ends at (length v) (classOf caseless v at)
+unfolding classOf
+class-ends caseless v at =
+    pick (Ends at (length v)) (eqb (getD v 0 0) 94)
+    (λ e.
+    let more = members-end caseless true true emptySet 0 (drop 1 v) (at + 1) in
+    let l : 0 < length v = byte-within v 0 93 e in
+    record { after = λ z. omega (arith, more .after z); fits = omega (arith, more .fits, length-drop 1 v) })
+    (members-end caseless false true emptySet 0 v at)

@@ -1,0 +1,52 @@
+-- The token at a place outside a class, and the set of bytes that an item takes. Assumes nothing: these are definitions.
+use mathlib.Core.Bool.{false, cond}
+use mathlib.Core.List.{List, [], _∷_}
+use Prim.Native.Nat.{ℕ}
+use lib.Dec.{eqb}
+use Rattle.sets.specs.Set.{setOf, emptySet, fullSet, inserted, complementOf}
+use Rattle.kinds.specs.Kind.{isKind, isNotKind}
+use Rattle.kinds.specs.Case.{caseClosed}
+use Rattle.tokens.specs.declared.Atom.{Atom}
+use Rattle.tokens.specs.declared.Atom.the-variants.{Byte, OfKind, NotOfKind, Dot, NotNewline, Start, End}
+use Rattle.tokens.specs.declared.Part.{Part}
+use Rattle.tokens.specs.declared.Options.{Options}
+use Rattle.tokens.specs.declared.Token.the-variants.{Finish, Bar, Close, Class, One}
+use Rattle.tokens.specs.declared.Lexeme.{Lexeme}
+use Rattle.tokens.specs.Escape.{escapeOf}
+use Rattle.tokens.specs.Option.{plain, faulty, openingOf}
+use Rattle.tokens.specs.Quantifier.{formOf, quantifierOf}
+
+-- an escape as a token
+unfoldable pub escaped : Part → Lexeme
+escaped p = cond (eqb (p .fault) 0) (plain (p .size) (One (p .atom))) (faulty (p .fault))
+
+-- "A token is a byte, an escape, a quantifier with its mark, .. an opening, an option setting." What the byte at the front of v starts, where o are
+-- the options there. "A byte stands for itself. `]` and `}` outside a class are literal."
+unfoldable pub lexemeOf : Options → List ℕ → Lexeme
+lexemeOf o [] = plain 0 Finish
+lexemeOf o (c ∷ v) =
+    cond (eqb c 92) (escaped (escapeOf false v))
+    (cond (eqb c 91) (plain 1 Class)
+    (cond (eqb c 40) (openingOf o v)
+    (cond (eqb c 41) (plain 1 Close)
+    (cond (eqb c 124) (plain 1 Bar)
+    (cond (eqb c 46) (plain 1 (One Dot))
+    (cond (eqb c 94) (plain 1 (One Start))
+    (cond (eqb c 36) (plain 1 (One End))
+    (cond (formOf (c ∷ v) .is) (quantifierOf (c ∷ v))
+    (plain 1 (One (Byte c)))))))))))
+
+-- all bytes but 10
+abbrev pub allButNewline : List ℕ
+allButNewline = complementOf (inserted emptySet 10)
+
+-- The bytes that an item takes, with its options resolved. Caseless: "adds the other case of each member". "`.` is any byte but 10, or any byte under
+-- dot-all. `\N` is any byte but 10 always." An assertion takes none.
+unfoldable pub itemSet : Options → Atom → List ℕ
+itemSet o (Byte b) = cond (o .caseless) (caseClosed (inserted emptySet b)) (inserted emptySet b)
+itemSet o (OfKind k) = setOf (isKind k)
+itemSet o (NotOfKind k) = setOf (isNotKind k)
+itemSet o Dot = cond (o .dotall) fullSet allButNewline
+itemSet o NotNewline = allButNewline
+itemSet o Start = emptySet
+itemSet o End = emptySet
