@@ -1,0 +1,283 @@
+-- What is built, part by part: the promises of the functions that walk the nodes, put together. A repeat is taken apart by its first copy.
+use mathlib.Core.Path.{_≡_, refl, sym, ap, ap₂, _∙_}
+use mathlib.Core.Bool.{Bool, true, false, true≢false, not, _&&_, _||_, or-false, or-assoc}
+use mathlib.Core.List.{List, [], _∷_, _++_, append-assoc}
+use Prim.Native.Nat.{ℕ, suc, _+_, _*_, _-_, _≤_, _<_}
+use native.Mathlib.Omega.{arith}
+use native.Mathlib.Decide.{ℕ-discrete}
+use borrow.Author.Tests.{lt-ltb, eqb-true, eqb-false}
+use lib.Dec.{eqb}
+use lib.ListN.{length, getD, length-append}
+use lib.Seq.{sets}
+use Rattle.sets.specs.Set.{has}
+use Rattle.sets.proofs.Laws.{has-setOf}
+use Rattle.regex.specs.Tree.{Extra, atMost, unbounded}
+use Rattle.regex.specs.Form.{eps, take, check, seq, alt, plus, opt, write, positions, copies, optionals, repeated}
+use Rattle.regex.specs.Rule.{ByteSet}
+use Rattle.regex.specs.Automaton.{first, last, follow, items}
+use Rattle.regex.proofs.Computed.{items-length}
+use Rattle.pattern.specs.Nodes.{Syntax, opOf, xOf, yOf, zOf, extraOf, assertionOf}
+use Rattle.automaton.specs.Parts.{fourWords, flat, inside}
+use Rattle.automaton.specs.declared.fragments.Fragment.{Fragment}
+use Rattle.automaton.specs.Invariants.{Written, formAt, childForm, extra, bareOf, oneOf, inTurn, choiceOf, optionalOf, fragmentOf, hasAt, Joined, Room, Built}
+use Rattle.automaton.proofs.Trees.{setAt, is-item, is-assertion, is-then, is-or, is-repeat, is-empty, is-second, child-in, child-out}
+use Rattle.automaton.proofs.Words.{sets-append}
+use Rattle.automaton.proofs.Pieces.{piece-eps, piece-check, piece-take, piece-seq, piece-alt, piece-opt, piece-plus, no-follow, no-items, repeated-bare, piece-repeated, piece-nested}
+
+-- ---- the byte sets of two parts stand one after the other
+
+flat-append : (x y : List ByteSet) → flat (x ++ y) ≡ flat x ++ flat y
+unfolding flat
+flat-append [] y = refl
+flat-append (c ∷ x) y = ap (λ (l : List ℕ). fourWords c ++ l) (flat-append x y) ∙ sym (append-assoc (fourWords c) (flat x) (flat y))
+
+pub length-flat : (x : List ByteSet) → length (flat x) ≡ length x * 4
+unfolding flat
+length-flat [] = refl
+length-flat (c ∷ x) = omega (arith, length-append (fourWords c) (flat x), length-flat x)
+
+takes-both : (f g : Written) (b : ℕ) (t t1 t2 : List ℕ) → t1 ≡ sets t (b * 4) (flat (items f)) → t2 ≡ sets t1 ((b + positions f) * 4) (flat (items g))
+    → t2 ≡ sets t (b * 4) (flat (items f ++ items g))
+takes-both f g b t t1 t2 h i =
+    let e : (b + positions f) * 4 ≡ b * 4 + length (flat (items f)) = omega (arith, length-flat (items f), items-length f) in
+    i ∙ ap₂ (λ (l : List ℕ) (k : ℕ). sets l k (flat (items g))) h e
+    ∙ sets-append (flat (items f)) (flat (items g)) t (b * 4) ∙ ap (sets t (b * 4)) (sym (flat-append (items f) (items g)))
+
+-- ---- room
+
+pub room-as : {w f : Written} (b : ℕ) → w ≡ f → Room w b → Room f b
+room-as b e h = rw e at h
+
+pub room-opt : {w f : Written} (b : ℕ) → w ≡ opt f → Room w b → Room f b
+unfolding positions
+room-opt b e h = rw e at h
+
+-- ---- a join of two forms adds the pairs of a last and a first position
+
+joined-pairs : (f g : Written) (b m : ℕ) (x y : Fragment) (r r' : List ℕ) → x ≡ fragmentOf f b → y ≡ fragmentOf g m → Joined (x .last) (y .first) 256 r r'
+    → length r ≡ 1024 → (p q : ℕ) → p < 256 → q < 256 → hasAt r' p q ≡ (hasAt r p q || (last inside f b p && first inside g m q))
+unfolding fragmentOf
+joined-pairs f g b m x y r r' ex ey j full p q h i =
+    j .member full p q h i ∙ ap (λ (v : Bool). hasAt r p q || (v && (has (x .last) p && has (y .first) q))) (lt-ltb p 256 h)
+    ∙ ap₂ (λ (u v : Bool). hasAt r p q || (u && v))
+    (ap (λ (z : Fragment). has (z .last) p) ex ∙ has-setOf (last inside f b) p h)
+    (ap (λ (z : Fragment). has (z .first) q) ey ∙ has-setOf (first inside g m) q i)
+
+-- ---- one part
+
+module _ {b : ℕ} {r r' t t' : List ℕ} where
+  pub size-of : {f : Written} {x : Fragment} → Built f b r r' t t' x → x .size ≡ positions f
+  unfolding fragmentOf
+  size-of h = ap (λ (g : Fragment). g .size) (h .fragment)
+
+  pub built-as : {w f : Written} {x : Fragment} → w ≡ f → Built f b r r' t t' x → Built w b r r' t t' x
+  built-as e h = rw e h
+
+  pub built-opt : {w f : Written} {x z : Fragment} → w ≡ opt f → Built f b r r' t t' x → z ≡ optionalOf x → Built w b r r' t t' z
+  unfolding follow items
+  built-opt {w} {f} e h i = rw e (record {
+    fragment = i ∙ ap optionalOf (h .fragment) ∙ piece-opt f b;
+    long = h .long;
+    follows = h .follows;
+    takes = h .takes;
+  })
+
+  pub built-plus : {f : Written} {x : Fragment} {r2 : List ℕ} → Built f b r r' t t' x → Joined (x .last) (x .first) 256 r' r2 → Built (plus f) b r r2 t t' x
+  unfolding follow items
+  built-plus {f} {x} {r2} h j = record {
+    fragment = h .fragment ∙ piece-plus f b;
+    long = j .long ∙ h .long;
+    follows = λ full p q l m.
+        joined-pairs f f b b x x r' r2 (h .fragment) (h .fragment) j (h .long ∙ full) p q l m
+        ∙ ap (λ (v : Bool). v || (last inside f b p && first inside f b q)) (h .follows full p q l m)
+        ∙ or-assoc (hasAt r p q) (follow inside f b p q) (last inside f b p && first inside f b q);
+    takes = h .takes;
+  }
+
+module _ {b : ℕ} {r t : List ℕ} {w : Written} {z : Fragment} where
+  built-none : (f : Written) → w ≡ f → positions f ≡ 0 → z ≡ fragmentOf f b → Built w b r r t t z
+  unfolding flat
+  built-none f e bare i = rw e (record {
+    fragment = i;
+    long = refl;
+    follows = λ full p q l m. sym (or-false (hasAt r p q)) ∙ ap (λ (v : Bool). hasAt r p q || v) (sym (no-follow f bare inside b p q));
+    takes = ap (λ (l : List ByteSet). sets t (b * 4) (flat l)) (sym (no-items f bare));
+  })
+
+  pub built-eps : w ≡ eps → z ≡ bareOf true true true → Built w b r r t t z
+  unfolding positions
+  built-eps e i = built-none eps e refl (i ∙ piece-eps b)
+
+  pub built-check : (x : ℕ) → w ≡ check (assertionOf x) → z ≡ bareOf false (eqb x 0) (not (eqb x 0)) → Built w b r r t t z
+  unfolding positions
+  built-check x e i = built-none (check (assertionOf x)) e refl (i ∙ piece-check x b)
+
+  pub built-take : {c s : ByteSet} {t' : List ℕ} → w ≡ take c → s ≡ fourWords c → t' ≡ sets t (b * 4) (fourWords s) → z ≡ oneOf b → Built w b r r t t' z
+  unfolding follow items flat
+  built-take {c} e i j l = rw e (record {
+    fragment = l ∙ piece-take c b;
+    long = refl;
+    follows = λ full p q h m. sym (or-false (hasAt r p q));
+    takes = j ∙ ap (λ (v : List ℕ). sets t (b * 4) (fourWords v)) i;
+  })
+
+-- ---- two parts
+
+module _ {f g : Written} {b : ℕ} {r r1 r2 t t1 t2 : List ℕ} {x y : Fragment} (h : Built f b r r1 t t1 x) (i : Built g (b + x .size) r1 r2 t1 t2 y) where
+  after : Built g (b + positions f) r1 r2 t1 t2 y
+  after = rw (size-of h) at i
+
+  pub two-fit : b + (positions f + positions g) ≤ 256 → x .size + y .size ≤ 256
+  two-fit m = omega (arith, size-of h, size-of i)
+
+  pub built-seq : {w : Written} {z : Fragment} {r3 : List ℕ} → w ≡ seq f g → z ≡ inTurn x y → Joined (x .last) (y .first) 256 r2 r3 → Built w b r r3 t t2 z
+  unfolding follow items
+  built-seq {w} {z} {r3} e j l =
+      let n = b + positions f in
+      rw e (record {
+        fragment = j ∙ ap₂ inTurn (h .fragment) (after .fragment) ∙ piece-seq f g b;
+        long = l .long ∙ after .long ∙ h .long;
+        follows = λ full p q k m.
+            joined-pairs f g b n x y r2 r3 (h .fragment) (after .fragment) l (after .long ∙ h .long ∙ full) p q k m
+            ∙ ap (λ (v : Bool). v || (last inside f b p && first inside g n q)) (after .follows (h .long ∙ full) p q k m)
+            ∙ ap (λ (v : Bool). v || follow inside g n p q || (last inside f b p && first inside g n q)) (h .follows full p q k m)
+            ∙ joined-or (hasAt r p q) (follow inside f b p q) (follow inside g n p q) (last inside f b p && first inside g n q);
+        takes = takes-both f g b t t1 t2 (h .takes) (after .takes);
+      })
+    where
+      joined-or : (o u v s : Bool) → (((o || u) || v) || s) ≡ (o || (u || (v || s)))
+      joined-or true u v s = refl
+      joined-or false true v s = refl
+      joined-or false false v s = refl
+
+  pub built-alt : {w : Written} {z : Fragment} → w ≡ alt f g → z ≡ choiceOf x y → Built w b r r2 t t2 z
+  unfolding follow items
+  built-alt e j =
+      let n = b + positions f in
+      rw e (record {
+        fragment = j ∙ ap₂ choiceOf (h .fragment) (after .fragment) ∙ piece-alt f g b;
+        long = after .long ∙ h .long;
+        follows = λ full p q k m.
+            after .follows (h .long ∙ full) p q k m ∙ ap (λ (v : Bool). v || follow inside g n p q) (h .follows full p q k m)
+            ∙ or-assoc (hasAt r p q) (follow inside f b p q) (follow inside g n p q);
+        takes = takes-both f g b t t1 t2 (h .takes) (after .takes);
+      })
+
+-- ---- repeats
+
+module _ (f : Written) where
+  pub nested-none : (j : ℕ) → j ≡ 0 → optionals j f ≡ eps
+  unfolding optionals
+  nested-none j e = rw e
+
+  pub nested-step : (j : ℕ) → (j ≡ 0 → ⊥) → optionals j f ≡ opt (seq f (optionals (j - 1) f))
+  unfolding optionals
+  nested-step j n = let e : j ≡ suc (j - 1) = omega arith in ap (λ (m : ℕ). optionals m f) e
+
+  pub nested-positions : (j : ℕ) → (j ≡ 0 → ⊥) → positions (optionals j f) ≡ positions f + positions (optionals (j - 1) f)
+  unfolding positions
+  nested-positions j n = ap positions (nested-step j n)
+
+  module _ (n : ℕ) (endless : Bool) (j : ℕ) where
+    pub repeat-any : n ≡ 0 → endless ≡ true → repeated f n (extra endless j) ≡ opt (plus f)
+    unfolding repeated
+    repeat-any z e = rw (z, e)
+
+    pub repeat-nested : n ≡ 0 → endless ≡ false → repeated f n (extra endless j) ≡ optionals j f
+    unfolding repeated copies
+    repeat-nested z e = rw (z, e)
+
+    pub repeat-many : (endless && eqb n 1) ≡ true → repeated f n (extra endless j) ≡ plus f
+    unfolding repeated copies
+    repeat-many h = go endless h
+      where
+        go : (v : Bool) → (v && eqb n 1) ≡ true → repeated f n (extra v j) ≡ plus f
+        go true e = ap (λ (m : ℕ). repeated f m unbounded) (eqb-true n 1 e)
+        go false e = absurd (true≢false (sym e))
+
+    pub repeat-step : (n ≡ 0 → ⊥) → (endless && eqb n 1) ≡ false → repeated f n (extra endless j) ≡ seq f (repeated f (n - 1) (extra endless j))
+    unfolding repeated copies
+    repeat-step z h = go endless h
+      where
+        go : (v : Bool) → (v && eqb n 1) ≡ false → repeated f n (extra v j) ≡ seq f (repeated f (n - 1) (extra v j))
+        go true e =
+            let d : n ≡ suc (suc (n - 2)) = omega (arith, eqb-false n 1 e) in
+            let c : suc (n - 2) ≡ n - 1 = omega (arith, eqb-false n 1 e) in
+            ap (λ (m : ℕ). repeated f m unbounded) d ∙ ap (λ (m : ℕ). seq f (repeated f m unbounded)) c
+        go false e = let d : n ≡ suc (n - 1) = omega arith in ap (λ (m : ℕ). repeated f m (atMost j)) d
+
+    pub repeat-positions : (n ≡ 0 → ⊥) → (endless && eqb n 1) ≡ false
+        → positions (repeated f n (extra endless j)) ≡ positions f + positions (repeated f (n - 1) (extra endless j))
+    unfolding positions
+    repeat-positions z h = ap positions (repeat-step z h)
+
+-- a copy without positions stands for all
+module _ (s : Syntax) {b : ℕ} {r r' t t' : List ℕ} {x : Fragment} (h : Built (write s) b r r' t t' x) (z : x .size ≡ 0) where
+  bare : positions (write s) ≡ 0
+  bare = sym (size-of h) ∙ z
+
+  instead : (w : Written) {y : Fragment} → positions w ≡ 0 → y ≡ fragmentOf w b → Built w b r r' t t' y
+  instead w e i = record {
+    fragment = i;
+    long = h .long;
+    follows = λ full p q l m.
+        h .follows full p q l m ∙ ap (λ (v : Bool). hasAt r p q || v) (no-follow (write s) bare inside b p q ∙ sym (no-follow w e inside b p q));
+    takes = h .takes ∙ ap (λ (l : List ByteSet). sets t (b * 4) (flat l)) (no-items (write s) bare ∙ sym (no-items w e));
+  }
+
+  pub settled-repeat : (n : ℕ) (j : Extra) → (n ≡ 0 → ⊥) → Built (repeated (write s) n j) b r r' t t' x
+  settled-repeat n j i =
+      let e : suc (n - 1) ≡ n = omega arith in
+      instead (repeated (write s) n j) (repeated-bare s bare n j)
+      (h .fragment ∙ piece-repeated s bare (n - 1) j b ∙ ap (λ (m : ℕ). fragmentOf (repeated (write s) m j) b) e)
+
+  pub settled-nested : (j : ℕ) {y : Fragment} → y ≡ optionalOf x → Built (optionals j (write s)) b r r' t t' y
+  unfolding repeated copies
+  settled-nested j i =
+      instead (optionals j (write s)) (repeated-bare s bare 0 (atMost j)) (i ∙ ap optionalOf (h .fragment) ∙ piece-nested s bare j b)
+
+-- ---- nodes
+
+pub child-is : (a : List ℕ) (k x : ℕ) → x < k → childForm a k x ≡ formAt a x
+child-is a k x h = ap write (child-in a k x h)
+
+pub child-none : (a : List ℕ) (k x : ℕ) → k ≤ x → childForm a k x ≡ eps
+unfolding write
+child-none a k x h = ap write (child-out a k x h)
+
+module _ (a : List ℕ) (k w : ℕ) (e : w ≡ getD a k 0) where
+  pub form-take : opOf w ≡ 1 → formAt a k ≡ take (setAt a k)
+  unfolding write
+  form-take h = ap write (is-item a k w e h)
+
+  pub form-check : opOf w ≡ 2 → formAt a k ≡ check (assertionOf (xOf w))
+  unfolding write
+  form-check h = ap write (is-assertion a k w e h)
+
+  pub form-seq : opOf w ≡ 3 → formAt a k ≡ seq (childForm a k (xOf w)) (childForm a k (yOf w))
+  unfolding write
+  form-seq h = ap write (is-then a k w e h)
+
+  pub form-alt : (eqb (opOf w) 3 || eqb (opOf w) 4) ≡ true → (opOf w ≡ 3 → ⊥) → formAt a k ≡ alt (childForm a k (xOf w)) (childForm a k (yOf w))
+  unfolding write
+  form-alt h n = ap write (is-or a k w e (is-second (opOf w) h n))
+
+  pub form-repeated : opOf w ≡ 5 → formAt a k ≡ repeated (childForm a k (xOf w)) (yOf w) (extraOf (zOf w))
+  unfolding write
+  form-repeated h = ap write (is-repeat a k w e h)
+
+  pub form-eps : (opOf w ≡ 1 → ⊥) → (opOf w ≡ 2 → ⊥) → (eqb (opOf w) 3 || eqb (opOf w) 4) ≡ false → (opOf w ≡ 5 → ⊥) → formAt a k ≡ eps
+  unfolding write
+  form-eps h1 h2 h34 h5 = ap write (is-empty a k w e h1 h2 h34 h5)
+
+  pub item-positions : opOf w ≡ 1 → positions (formAt a k) ≡ 1
+  unfolding positions
+  item-positions h = ap positions (form-take h)
+
+  pub pair-positions : (eqb (opOf w) 3 || eqb (opOf w) 4) ≡ true → positions (formAt a k) ≡ positions (childForm a k (xOf w)) + positions (childForm a k (yOf w))
+  unfolding positions
+  pair-positions h = go (ℕ-discrete (opOf w) 3)
+    where
+      go : Dec (opOf w ≡ 3) → positions (formAt a k) ≡ positions (childForm a k (xOf w)) + positions (childForm a k (yOf w))
+      go (yes i) = ap positions (form-seq i)
+      go (no n) = ap positions (form-alt h n)

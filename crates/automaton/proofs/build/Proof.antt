@@ -1,0 +1,67 @@
+-- `build` meets its contract: the count says whether the positions fit, and then it is the number of positions.
+use mathlib.Core.Path.{_∙_}
+use native.Mathlib.Omega.{arith}
+use Rattle.regex.proofs.Counted.{within-limit}
+use Rattle.pattern.specs.Nodes.{treeAt}
+use Rattle.automaton.proofs.Padded.{parts-none, parts-whole}
+use Rattle.automaton.proofs.build.Statement.{statement}
+use Rattle.automaton.proofs.build.Tie as tie
+
+count-requires : tie.Need-count-requires
+count-requires c κs = tt
+
+none-requires : tie.Need-none-requires
+none-requires c κs = tt
+
+returns : tie.Need-returns
+returns c =
+    let c-start = c .before .before .before .before in
+    let c-none = c .none in
+    let c-count = c .before .before .count in
+    let c-if1 = c .before .if1 in
+    let v = c-start .args in
+    c-none .ensures ∙ parts-none (treeAt (v .nodes .now) (v .root)) (v .base) (omega (arith, c-count .ensures, c-if1 .taken))
+
+none-requires-2 : tie.Need-none-requires-2
+none-requires-2 c κs = tt
+
+returns-2 : tie.Need-returns-2
+returns-2 c =
+    let c-start = c .before .before .before .before .before in
+    let c-none2 = c .none2 in
+    let c-count = c .before .before .before .count in
+    let c-if2 = c .before .if2 in
+    let v = c-start .args in
+    c-none2 .ensures ∙ parts-none (treeAt (v .nodes .now) (v .root)) (v .base) (omega (arith, c-count .ensures, c-if2 .taken))
+
+whole-requires : tie.Need-whole-requires
+whole-requires c κs =
+    let c-start = c .before .before .before .before in
+    let c-count = c .before .before .count in
+    let c-if1 = c .before .if1 in
+    let c-if2 = c .if2 in
+    let v = c-start .args in
+    let t = treeAt (v .nodes .now) (v .root) in
+    omega (arith, c-count .ensures, c-if1 .left, c-if2 .left, within-limit t (omega (arith, c-count .ensures, c-if1 .left)))
+
+returns-3 : tie.Need-returns-3
+returns-3 c =
+    let c-start = c .before .before .before .before .before in
+    let c-whole = c .whole in
+    let c-count = c .before .before .before .count in
+    let c-if1 = c .before .before .if1 in
+    let c-if2 = c .before .if2 in
+    let v = c-start .args in
+    c-whole .ensures ∙ parts-whole (treeAt (v .nodes .now) (v .root)) (v .base) (omega (arith, c-count .ensures, c-if1 .left, c-if2 .left))
+
+pub build-spec : {M : Type 1} → statement M
+build-spec =
+    tie.close
+    (tie.spec
+    count-requires
+    none-requires
+    returns
+    none-requires-2
+    returns-2
+    whole-requires
+    returns-3)

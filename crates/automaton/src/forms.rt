@@ -1,0 +1,154 @@
+// The written-out form, node by node: each function returns the fragment of its form, whose positions are numbered from b on, adds its follow pairs to
+// `follow` and writes its byte sets into `takes`. The node number falls; within a repeat the number of copies does.
+use crate::fragments;
+use crate::fragments::Fragment;
+use crate::nodes;
+use crate::rows;
+ghost use mathlib.Core.Path.{_≡_};
+ghost use Prim.Native.Nat.{_+_, _≤_, _<_};
+ghost use Rattle.regex.specs.Form.{plus, optionals, repeated};
+ghost use Rattle.automaton.specs.Invariants.{formAt, childForm, extra, inTurn, Joined, Room, Built};
+
+// f, then g: what g starts with can come after what f ends with.
+fn then(f: Fragment, g: Fragment, follow: &mut [u64; 1024]) -> Fragment
+    requires { ⌜ f .size + g .size ≤ 256 ⌝ }
+    ensures { λ r. ⌜ (r ≡ inTurn f g) × Joined (f .last) (g .first) 256 (now (follow .entry)) (now (follow .exit)) ⌝ }
+{
+    let last = f.last;
+    let first = g.first;
+    rows::join(follow, last, first);
+    fragments::in_turn(f, g)
+}
+
+// Child x of node k.
+fn child(
+    a: &[u64],
+    k: usize,
+    x: u64,
+    b: usize,
+    follow: &mut [u64; 1024],
+    takes: &mut [u64; 1024],
+) -> Fragment
+    requires { ⌜ Room (childForm (now a) k x) b ⌝ }
+    ensures { λ r. ⌜ Built (childForm (now (a .entry)) k x) b (now (follow .entry)) (now (follow .exit)) (now (takes .entry)) (now (takes .exit)) r ⌝ }
+{
+    if x < k as u64 {
+        return node(a, x as usize, b, follow, takes);
+    }
+    fragments::bare(true, true, true)
+}
+
+// One or more of child x.
+fn many(
+    a: &[u64],
+    k: usize,
+    x: u64,
+    b: usize,
+    follow: &mut [u64; 1024],
+    takes: &mut [u64; 1024],
+) -> Fragment
+    requires { ⌜ Room (plus (childForm (now a) k x)) b ⌝ }
+    ensures { λ r. ⌜ Built (plus (childForm (now (a .entry)) k x)) b (now (follow .entry)) (now (follow .exit)) (now (takes .entry)) (now (takes .exit)) r ⌝ }
+{
+    let f = child(a, k, x, b, follow, takes);
+    let last = f.last;
+    let first = f.first;
+    rows::join(follow, last, first);
+    f
+}
+
+// Up to j copies of child x, each inside the one before. One without positions stands for all.
+fn nested(
+    a: &[u64],
+    k: usize,
+    x: u64,
+    j: u64,
+    b: usize,
+    follow: &mut [u64; 1024],
+    takes: &mut [u64; 1024],
+) -> Fragment
+    requires { ⌜ Room (optionals j (childForm (now a) k x)) b ⌝ }
+    ensures { λ r. ⌜ Built (optionals j (childForm (now (a .entry)) k x)) b (now (follow .entry)) (now (follow .exit)) (now (takes .entry)) (now (takes .exit)) r ⌝ }
+{
+    if j == 0 {
+        return fragments::bare(true, true, true);
+    }
+    let f = child(a, k, x, b, follow, takes);
+    let alone = fragments::optional(f);
+    let size = f.size;
+    if size == 0 {
+        return alone;
+    }
+    let g = nested(a, k, x, j - 1, b + size, follow, takes);
+    fragments::optional(then(f, g, follow))
+}
+
+// n copies of child x, and then any number or up to j more. One without positions stands for all.
+fn repeat(
+    a: &[u64],
+    k: usize,
+    x: u64,
+    n: u64,
+    endless: bool,
+    j: u64,
+    b: usize,
+    follow: &mut [u64; 1024],
+    takes: &mut [u64; 1024],
+) -> Fragment
+    requires { ⌜ (n < 131072) × (j < 8589934592) × Room (repeated (childForm (now a) k x) n (extra endless j)) b ⌝ }
+    ensures { λ r. ⌜ Built (repeated (childForm (now (a .entry)) k x) n (extra endless j)) b (now (follow .entry)) (now (follow .exit)) (now (takes .entry)) (now (takes .exit)) r ⌝ }
+{
+    if n == 0 {
+        if endless {
+            return fragments::optional(many(a, k, x, b, follow, takes));
+        }
+        return nested(a, k, x, j, b, follow, takes);
+    }
+    if endless & (n == 1) {
+        return many(a, k, x, b, follow, takes);
+    }
+    let f = child(a, k, x, b, follow, takes);
+    let size = f.size;
+    if size == 0 {
+        return f;
+    }
+    let g = repeat(a, k, x, n - 1, endless, j, b + size, follow, takes);
+    then(f, g, follow)
+}
+
+// Node k.
+pub fn node(
+    a: &[u64],
+    k: usize,
+    b: usize,
+    follow: &mut [u64; 1024],
+    takes: &mut [u64; 1024],
+) -> Fragment
+    requires { ⌜ Room (formAt (now a) k) b ⌝ }
+    ensures { λ r. ⌜ Built (formAt (now (a .entry)) k) b (now (follow .entry)) (now (follow .exit)) (now (takes .entry)) (now (takes .exit)) r ⌝ }
+{
+    let w = nodes::word(a, k);
+    let op = w % 8;
+    let x = w / 8 % 2048;
+    let y = w / 16384 % 131072;
+    let z = w / 2147483648;
+    if op == nodes::ITEM {
+        rows::put(takes, b, nodes::set_of(a, k));
+        return fragments::one(b);
+    }
+    if op == nodes::ASSERTION {
+        return fragments::bare(false, x == 0, x != 0);
+    }
+    if (op == nodes::THEN) | (op == nodes::OR) {
+        let f = child(a, k, x, b, follow, takes);
+        let g = child(a, k, y, b + f.size, follow, takes);
+        if op == nodes::THEN {
+            return then(f, g, follow);
+        }
+        return fragments::choice(f, g);
+    }
+    if op == nodes::REPEAT {
+        return repeat(a, k, x, y, z == nodes::ENDLESS, z, b, follow, takes);
+    }
+    fragments::bare(true, true, true)
+}

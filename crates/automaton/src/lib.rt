@@ -1,0 +1,81 @@
+// The builder: from the reader's numbered nodes to the position automaton of the written-out form: first, last and follow sets, and the byte set of each
+// position, by recursion over the nodes, the node number falling.
+mod counts;
+mod forms;
+mod fragments;
+mod nodes;
+mod rows;
+
+ghost use mathlib.Core.Path.{_≡_};
+ghost use Prim.Native.Nat.{_+_, _≤_};
+ghost use Rattle.regex.specs.Form.{write, positions};
+ghost use Rattle.pattern.specs.Nodes.{treeAt};
+ghost use Rattle.automaton.specs.Parts.{formParts, noParts, partsOf};
+
+// The parts of a rule's automaton, its positions numbered from a base on. `fits` says that all of them are below 256; else the rest is zero. Row i of
+// `follow` and of `takes`, four words each, is that of the rule's position number i.
+pub struct Parts {
+    pub fits: bool,
+    pub positions: usize,
+    pub first: [u64; 4],
+    pub start: [u64; 4],
+    pub last: [u64; 4],
+    pub end: [u64; 4],
+    pub follow: [u64; 1024],
+    pub takes: [u64; 1024],
+}
+
+// The answer where the positions do not fit.
+fn none() -> Parts
+    ensures { λ r. ⌜ r ≡ noParts ⌝ }
+{
+    let s = sets::empty();
+    Parts {
+        fits: false,
+        positions: 0,
+        first: s,
+        start: s,
+        last: s,
+        end: s,
+        follow: [0; 1024],
+        takes: [0; 1024],
+    }
+}
+
+// The parts where they do.
+fn whole(nodes: &[u64], root: usize, base: usize) -> Parts
+    requires { ⌜ base + positions (write (treeAt (now nodes) root)) ≤ 256 ⌝ }
+    ensures { λ r. ⌜ r ≡ formParts (write (treeAt (now (nodes .entry)) root)) base ⌝ }
+{
+    let mut follow = [0u64; 1024];
+    let mut takes = [0u64; 1024];
+    let f = forms::node(nodes, root, base, &mut follow, &mut takes);
+    let first = f.first;
+    let start = f.starts;
+    let last = f.last;
+    let end = f.ends;
+    Parts {
+        fits: true,
+        positions: f.size,
+        first,
+        start,
+        last,
+        end,
+        follow: rows::front(follow, base * 4),
+        takes: rows::front(takes, base * 4),
+    }
+}
+
+// The parts of the tree of node `root`, its positions numbered from `base` on.
+pub fn build(nodes: &[u64], root: usize, base: usize) -> Parts
+    ensures { λ r. ⌜ r ≡ partsOf (treeAt (now (nodes .entry)) root) base ⌝ }
+{
+    let n = counts::count(nodes, root) as usize;
+    if n > 256 {
+        return none();
+    }
+    if base > 256 - n {
+        return none();
+    }
+    whole(nodes, root, base)
+}

@@ -1,0 +1,12 @@
+pub mod Cases
+pub mod Base
+pub mod Trees
+pub mod Lexemes
+pub mod Sets
+pub mod Steps
+pub mod Keys
+pub mod Returns
+pub mod Counts
+pub mod Whole
+pub mod Answers
+pub mod Rows

@@ -1,0 +1,83 @@
+use borrow.Author.Needs.{needs}
+use mathlib.Core.Path.{refl, sym}
+use native.Mathlib.Omega.{arith}
+use Rattle.pattern.proofs.Keys.{takes-byte}
+use Rattle.pattern.proofs.Returns as returned
+use Rattle.pattern.proofs.readers.single.Statement.{statement}
+use Rattle.pattern.proofs.readers.single.Tie as tie
+use Rattle.pattern.proofs.readers.single.Reads as reads
+use Rattle.pattern.proofs.readers.single.Lts as lts
+use Rattle.pattern.proofs.nodes.put_item.Reads as put-item-reads
+use Rattle.pattern.proofs.readers.leaf.Reads as leaf-reads
+use Rattle.pattern.proofs.readers.quantified.Reads as quantified-reads
+use Rattle.tokens.proofs.item_set.Reads as item-set-reads
+
+enum-told : tie.Need-enum-told
+enum-told c = search needs
+
+leaf-requires : tie.Need-leaf-requires
+leaf-requires c κs = search needs
+
+enum-told-2 : tie.Need-enum-told-2
+enum-told-2 c = search needs
+
+leaf-requires-2 : tie.Need-leaf-requires-2
+leaf-requires-2 c κs = search needs
+
+item-set-requires : tie.Need-item-set-requires
+item-set-requires c κs = search needs
+
+put-item-requires : tie.Need-put-item-requires
+put-item-requires c κs = search needs
+
+add-quantified : tie.Need-add-quantified
+add-quantified c = search needs
+
+add-quantified-2 : tie.Need-add-quantified-2
+add-quantified-2 c = search needs
+
+quantified-requires : tie.Need-quantified-requires
+quantified-requires c κs =
+    let c-start = c .before .before .before .before .before .before in
+    let c-put-item = c .before .put-item in
+    let x = c-start .args in (returned.item-room (x .s .now) (x .a .now) (x .at) (x .options) (x .n) (c-start .pre) (x .at) (c .before .before .before .item-set .result) (c-put-item .last .0) (omega arith) (omega (arith, c-start .pre)) (c-put-item .ensures), omega arith)
+
+returns : tie.Need-returns
+returns c =
+    let c-start = c .before .before .before .before .before in
+    let c-enum-told = c .before .before .enum-told in
+    let c-leaf = c .leaf in
+    let x = c-start .args in rw (c-enum-told .given .1) (returned.one-start (x .s .now) (x .a .now) (x .at) (x .options) (x .n) (c-start .pre) (c-leaf .last .0) (c-leaf .result) (c-leaf .ensures .0) (c-leaf .ensures .1))
+
+returns-2 : tie.Need-returns-2
+returns-2 c =
+    let c-start = c .before .before .before .before .before in
+    let c-enum-told2 = c .before .before .enum-told2 in
+    let c-leaf2 = c .leaf2 in
+    let x = c-start .args in rw (c-enum-told2 .given .1) (returned.one-end (x .s .now) (x .a .now) (x .at) (x .options) (x .n) (c-start .pre) (c-leaf2 .last .0) (c-leaf2 .result) (c-leaf2 .ensures .0) (c-leaf2 .ensures .1))
+
+returns-3 : tie.Need-returns-3
+returns-3 c =
+    let c-start = c .before .before .before .before .before .before .before in
+    let c-match = c .before .before .before .before .before .match in
+    let c-item-set = c .before .before .before .before .item-set in
+    let c-put-item = c .before .before .put-item in
+    let c-quantified = c .quantified in
+    let x = c-start .args in returned.one-item (x .s .now) (x .a .now) (x .at) (x .options) (x .n) (c-start .pre) (x .atom) (takes-byte (x .atom) (c-match .keys3)) (c-item-set .result) (c-put-item .last .0) (c-quantified .last .1 .1 .1 .0) (c-quantified .result) (c-item-set .ensures) (c-put-item .ensures) (c-quantified .ensures)
+
+pub single-spec : {M : Type 1} → statement M
+single-spec =
+    tie.close
+    (tie.spec
+    enum-told
+    leaf-requires
+    enum-told-2
+    leaf-requires-2
+    item-set-requires
+    put-item-requires
+    add-quantified
+    add-quantified-2
+    quantified-requires
+    returns
+    returns-2
+    returns-3)

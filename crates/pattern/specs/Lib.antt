@@ -1,0 +1,8 @@
+-- What reading a pattern gives, in the order Nodes (how words hold a tree), Walk (the reading itself), Read (the answer). Invariants has what the
+-- private functions promise one another.
+pub mod Nodes
+pub mod Walk
+pub mod Read
+pub mod Cases
+pub mod Reasons
+pub mod Invariants

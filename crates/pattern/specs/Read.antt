@@ -1,0 +1,44 @@
+-- The answer of the one reading call. Assumes nothing: these are definitions.
+use mathlib.Core.Bool.{Bool, true, false, cond}
+use mathlib.Core.List.{List, [], _∷_, _++_}
+use Prim.Native.Nat.{ℕ, _-_, _/_, _%_}
+use lib.Dec.{eqb, ltb}
+use lib.ListN.{length, replicate}
+use Rattle.tokens.specs.declared.Options.{Options}
+use Rattle.regex.specs.Count.{limit, saturating, nullable}
+use Rattle.pattern.specs.Nodes.{Syntax, width, lay}
+use Rattle.pattern.specs.Walk.{Read, tree, refused, walk, begin}
+use Rattle.pattern.specs.declared.Reading.{Reading}
+
+-- "Pattern: 256 bytes"
+abbrev pub longest : ℕ
+longest = 256
+
+-- faults known only at the end, at the pattern's length: 15, "the rule could match no bytes, were all its assertions true"; 16, "over 256 positions in
+-- this rule"
+unfoldable pub judged : ℕ → Read → Read
+judged n (refused number place) = refused number place
+judged n (tree t) = cond (nullable t) (refused 15 n) (cond (ltb limit (saturating t)) (refused 16 n) (tree t))
+
+-- reading a pattern: 5 for "pattern over 256 bytes", else the walk
+unfoldable pub readOf : List ℕ → Options → Read
+readOf s o = cond (ltb longest (length s)) (refused 5 0) (judged (length s) (walk s 0 0 (begin o)))
+
+-- "Flags: 1 caseless, 2 dot matches all": other bits mean nothing here
+unfoldable pub optionsOf : ℕ → Options
+optionsOf flags = record { caseless = eqb (flags % 2) 1; dotall = eqb (flags / 2 % 2) 1 }
+
+-- how many words the nodes of any pattern fit in
+abbrev pub room : ℕ
+room = 2048
+
+-- the answer: the tree's nodes from the front on, and zeros
+unfoldable pub answerOf : Read → Reading
+answerOf (refused number place) = record { number = number; place = place; root = 0; size = 0; positions = 0; nodes = replicate room 0 }
+answerOf (tree t) = record {
+    number = 0;
+    place = 0;
+    root = width t - 1;
+    size = width t;
+    positions = saturating t;
+    nodes = lay 0 t ++ replicate (room - width t) 0 }

@@ -1,0 +1,219 @@
+-- Why a pattern is refused: the rows of the table "When the watcher says no" from 6 to 16, each as a predicate of its own: on the bytes of one token and
+-- what stands before it, on the finished tree, or on the pattern's end. Assumes nothing: these are definitions.
+use mathlib.Core.Path.{_≡_}
+use mathlib.Core.Bool.{Bool, true, false, cond, not, _&&_, _||_}
+use mathlib.Core.List.{List, [], _∷_}
+use Prim.Native.Nat.{ℕ, suc, _+_, _≤_, _<_}
+use lib.Dec.{T, eqb, leb, ltb}
+use lib.ListN.{length, getD, drop}
+use Rattle.kinds.specs.Kind.{within}
+use Rattle.tokens.specs.declared.Options.{Options}
+use Rattle.tokens.specs.declared.Part.{Part}
+use Rattle.tokens.specs.declared.Token.{Token}
+use Rattle.tokens.specs.declared.Token.the-variants.{Finish, Bar, Close, Class, One, Open, Set, Repeat, Bad}
+use Rattle.tokens.specs.Number.{some, digits, valueFrom}
+use Rattle.tokens.specs.Escape.{isAlnum}
+use Rattle.tokens.specs.Class.{opensName, memberOf, isType, byteOf, ranges, memberAt}
+use Rattle.tokens.specs.Quantifier.{formOf}
+use Rattle.tokens.specs.Token.{lexemeOf}
+use Rattle.regex.specs.Count.{limit, saturating, nullable}
+use Rattle.pattern.specs.Nodes.{Syntax}
+use Rattle.pattern.specs.Walk.{Target, nothing, single, repeated, State, Next, go, groupOf, deepest, next, begin}
+
+-- ---- escapes: v is the pattern after the `\`
+
+-- "digits and brace": v is the pattern after the opening brace
+abbrev pub braced : ℕ → List ℕ → Bool
+braced base v = some (digits base v) && eqb (getD v (length (digits base v)) 0) 125
+
+-- 6: "`\` at the end; `\c` not followed by a byte 32 to 126; `\x{` or `\o` without digits and brace"
+unfoldable pub cutShort : List ℕ → Bool
+cutShort v =
+    not (some v)
+    || ((eqb (getD v 0 0) 99 && not (within 32 126 (getD v 1 0)))
+    || ((eqb (getD v 0 0) 120 && (eqb (getD v 1 0) 123 && not (braced 16 (drop 2 v))))
+    || (eqb (getD v 0 0) 111 && not (eqb (getD v 1 0) 123 && braced 8 (drop 2 v)))))
+
+-- 7: "a number escape over 255"
+abbrev pub over255 : ℕ → List ℕ → Bool
+over255 base v = braced base v && ltb 255 (valueFrom base 0 (digits base v))
+
+unfoldable pub tooLarge : List ℕ → Bool
+tooLarge v =
+    eqb (getD v 1 0) 123 && ((eqb (getD v 0 0) 120 && over255 16 (drop 2 v)) || (eqb (getD v 0 0) 111 && over255 8 (drop 2 v)))
+
+-- the letters and digits that mean something after a `\`: x o 0 c, a e f n r t, d w s h v and their capitals, and by where they stand b or N A z
+abbrev pub letters : Bool → List ℕ
+letters true = 120 ∷ 111 ∷ 48 ∷ 99 ∷ 97 ∷ 101 ∷ 102 ∷ 110 ∷ 114 ∷ 116 ∷ 100 ∷ 119 ∷ 115 ∷ 104 ∷ 118 ∷ 68 ∷ 87 ∷ 83 ∷ 72 ∷ 86 ∷ 98 ∷ []
+letters false = 120 ∷ 111 ∷ 48 ∷ 99 ∷ 97 ∷ 101 ∷ 102 ∷ 110 ∷ 114 ∷ 116 ∷ 100 ∷ 119 ∷ 115 ∷ 104 ∷ 118 ∷ 68 ∷ 87 ∷ 83 ∷ 72 ∷ 86 ∷ 78 ∷ 65 ∷ 122 ∷ []
+
+abbrev pub among : ℕ → List ℕ → Bool
+among c [] = false
+among c (k ∷ ks) = cond (eqb c k) true (among c ks)
+
+-- 14: "any other letter or digit escape"; "`\N`, `\A`, `\z` in a class"
+unfoldable pub unknown : (inside : Bool) → List ℕ → Bool
+unknown inside v = isAlnum (getD v 0 0) && not (among (getD v 0 0) (letters inside))
+
+-- ---- openings: v is the pattern after the `(`
+
+-- the letters and hyphens of an option setting
+unfoldable pub optionBytes : List ℕ → List ℕ
+optionBytes [] = []
+optionBytes (c ∷ v) = cond (eqb c 105 || (eqb c 115 || eqb c 45)) (c ∷ optionBytes v) []
+
+unfoldable pub hyphens : List ℕ → ℕ
+hyphens [] = 0
+hyphens (c ∷ v) = cond (eqb c 45) (suc (hyphens v)) (hyphens v)
+
+-- "at least one letter, at most one hyphen", and `)` or `:`
+abbrev pub setting : List ℕ → Bool
+setting v =
+    leb (hyphens (optionBytes v)) 1
+    && (ltb (hyphens (optionBytes v)) (length (optionBytes v)) && (eqb (getD v (length (optionBytes v)) 0) 41 || eqb (getD v (length (optionBytes v)) 0) 58))
+
+-- 14: "any other `(?`; `(*`"
+unfoldable pub badOpening : List ℕ → Bool
+badOpening v = eqb (getD v 0 0) 42 || (eqb (getD v 0 0) 63 && not (eqb (getD v 1 0) 58 || setting (drop 1 v)))
+
+-- ---- quantifiers: v is the pattern from the quantifier on
+
+-- 11: "lower repeat above upper, or a number above 65,535": `{n}`, and then `{n,}`, `{n,m}` or `{,m}`
+abbrev pub numberOf10 : List ℕ → ℕ
+numberOf10 v = valueFrom 10 0 (digits 10 v)
+
+abbrev pub second : List ℕ → List ℕ
+second v = drop (length (digits 10 v) + 1) v
+
+unfoldable pub badBounds : List ℕ → Bool
+badBounds v =
+    ltb 65535 (numberOf10 v)
+    || (not (eqb (getD v (length (digits 10 v)) 0) 125) && (some (digits 10 (second v)) && (ltb 65535 (numberOf10 (second v)) || ltb (numberOf10 (second v)) (numberOf10 v))))
+
+-- ---- one token outside a class: v is the pattern from its first byte on
+
+unfoldable pub row6 : List ℕ → Bool
+row6 v = eqb (getD v 0 0) 92 && cutShort (drop 1 v)
+
+unfoldable pub row7 : List ℕ → Bool
+row7 v = eqb (getD v 0 0) 92 && tooLarge (drop 1 v)
+
+unfoldable pub row11 : List ℕ → Bool
+row11 v = formOf v .is && (eqb (getD v 0 0) 123 && badBounds (drop 1 v))
+
+-- 14 besides: "possessive `+`"
+unfoldable pub row14 : List ℕ → Bool
+row14 v =
+    (eqb (getD v 0 0) 92 && unknown false (drop 1 v))
+    || ((eqb (getD v 0 0) 40 && badOpening (drop 1 v)) || (formOf v .is && eqb (getD v (formOf v .size) 0) 43))
+
+-- 10: "quantifier at the start of a pattern, group or branch, or after an assertion, an option setting or another quantifier"
+abbrev pub row10 : Target → Token → Bool
+row10 t Finish = false
+row10 t Bar = false
+row10 t Close = false
+row10 t Class = false
+row10 t (One a) = false
+row10 t (Open o) = false
+row10 t (Set o) = false
+row10 nothing (Repeat least extra) = true
+row10 single (Repeat least extra) = false
+row10 repeated (Repeat least extra) = true
+row10 t Bad = false
+
+-- ---- one member of a class, or one range: v is the pattern from its first byte on
+
+-- a hyphen makes a range of the member at the front, and its second end
+abbrev pub isRange : List ℕ → Bool
+isRange v = ranges (drop (memberOf v .size) v)
+
+abbrev pub farEnd : List ℕ → List ℕ
+farEnd v = drop (memberOf v .size + 1) v
+
+-- a row of a member, or of one end of a range
+abbrev pub ofEnd : (List ℕ → Bool) → List ℕ → Bool
+ofEnd row v = row v || (isRange v && row (farEnd v))
+
+-- 14 besides: "`[:`, `[.`, `[=` in a class"
+unfoldable pub memberRow14 : List ℕ → Bool
+memberRow14 v = (eqb (getD v 0 0) 92 && unknown true (drop 1 v)) || (eqb (getD v 0 0) 91 && opensName (getD v 1 0))
+
+-- 9: "range falling, or with a type such as `\d` at either end"
+unfoldable pub row9 : List ℕ → Bool
+row9 v =
+    let m : Part = memberOf v in
+    let n : Part = memberOf (farEnd v) in
+    isRange v && (isType (m .atom) || isType (n .atom) || (eqb (m .fault) 0 && (eqb (n .fault) 0 && ltb (byteOf (n .atom)) (byteOf (m .atom)))))
+
+-- ---- where tokens stand
+
+-- A token stands at place `at` with m before it: the first at 0, and each next one after a token that is not refused.
+pub data Stands (s : List ℕ) (o : Options) : ℕ → State → Type 0 where
+  first : Stands s o 0 (begin o)
+  onward : (at k : ℕ) (m n : State) → Stands s o at m → at < length s → next at (drop at s) m ≡ go k n → Stands s o (at + 1 + k) n
+
+-- where the members of a class begin: "`[^..]`"
+abbrev pub membersAt : List ℕ → ℕ → ℕ
+membersAt s at = cond (eqb (getD s at 0) 94) (at + 1) at
+
+-- "A `]` first (or after `^`) is literal"
+abbrev pub closes : List ℕ → ℕ → Bool → Bool
+closes s at isFirst = eqb (getD s at 0) 93 && not isFirst
+
+-- A member, a range or the closing bracket stands at a place of the class that begins at `from`, the first one or a later one.
+pub data InClass (s : List ℕ) (from : ℕ) : ℕ → Bool → Type 0 where
+  first : InClass s from (membersAt s from) true
+  onward : (at : ℕ) (isFirst : Bool)
+      → InClass s from at isFirst → at < length s → closes s at isFirst ≡ false → memberAt (drop at s) .fault ≡ 0
+      → InClass s from (at + memberAt (drop at s) .size) false
+
+-- the token at a place, and a class that begins at a place
+abbrev pub tokenAt : List ℕ → ℕ → State → Token
+tokenAt s at m = lexemeOf (m .options) (drop at s) .token
+
+pub record ClassAt (s : List ℕ) (o : Options) (at : ℕ) : Type 0 where
+  pub state : State
+  pub stands : Stands s o at state
+  pub token : tokenAt s at state ≡ Class
+
+-- a member or a range of a class, at a place
+pub record MemberAt (s : List ℕ) (o : Options) (at : ℕ) : Type 0 where
+  pub bracket : ℕ
+  pub isFirst : Bool
+  pub class : ClassAt s o bracket
+  pub stands : InClass s (bracket + 1) at isFirst
+  pub inside : at < length s
+  pub member : closes s at isFirst ≡ false
+
+-- the finished tree
+pub record Finished (s : List ℕ) (o : Options) (t : Syntax) : Type 0 where
+  pub place : ℕ
+  pub state : State
+  pub stands : Stands s o place state
+  pub end : length s ≤ place
+  pub closed : state .stack ≡ []
+  pub tree : t ≡ groupOf state
+
+-- ---- the reasons, by their number
+
+pub data Reason (s : List ℕ) (o : Options) : ℕ → Type 0 where
+  escape-cut : (at : ℕ) (m : State) → Stands s o at m → T (row6 (drop at s)) → Reason s o 6
+  member-cut : (at : ℕ) → MemberAt s o at → T (ofEnd row6 (drop at s)) → Reason s o 6
+  escape-large : (at : ℕ) (m : State) → Stands s o at m → T (row7 (drop at s)) → Reason s o 7
+  member-large : (at : ℕ) → MemberAt s o at → T (ofEnd row7 (drop at s)) → Reason s o 7
+  -- "class not closed"
+  class-open : (at bracket : ℕ) (isFirst : Bool) → ClassAt s o bracket → InClass s (bracket + 1) at isFirst → length s ≤ at → Reason s o 8
+  bad-range : (at : ℕ) → MemberAt s o at → T (row9 (drop at s)) → Reason s o 9
+  nothing-repeated : (at : ℕ) (m : State) → Stands s o at m → T (row10 (m .target) (tokenAt s at m)) → Reason s o 10
+  bad-bounds : (at : ℕ) (m : State) → Stands s o at m → T (row11 (drop at s)) → Reason s o 11
+  -- "group not closed, or `)` without one"
+  group-open : (at : ℕ) (m : State) → Stands s o at m → length s ≤ at → 0 < length (m .stack) → Reason s o 12
+  no-group : (at : ℕ) (m : State) → Stands s o at m → tokenAt s at m ≡ Close → m .stack ≡ [] → Reason s o 12
+  -- "a 17th group open (only `(`, `(?:` and option groups count)"
+  too-deep : (at : ℕ) (m : State) (inside : Options) → Stands s o at m → tokenAt s at m ≡ Open inside → deepest ≤ length (m .stack) → Reason s o 13
+  unsupported : (at : ℕ) (m : State) → Stands s o at m → T (row14 (drop at s)) → Reason s o 14
+  member-unsupported : (at : ℕ) → MemberAt s o at → T (ofEnd memberRow14 (drop at s)) → Reason s o 14
+  -- "the rule could match no bytes, were all its assertions true"
+  matches-nothing : (t : Syntax) → Finished s o t → T (nullable t) → Reason s o 15
+  -- "over 256 positions in this rule"
+  too-many : (t : Syntax) → Finished s o t → limit < saturating t → Reason s o 16

@@ -1,0 +1,81 @@
+// The reader: pattern bytes and options in, a refusal with its place or the syntax tree out. The tree comes back by value as numbered nodes in
+// an array of words, each node's children with smaller numbers, so nothing is lent and a refusal has nothing to leave alone.
+mod readers;
+mod nodes;
+mod figures;
+
+use readers::{branches, Got};
+use figures::{count, nullable};
+use tokens::Options;
+
+ghost use mathlib.Core.Path.{_≡_};
+ghost use Rattle.pattern.specs.Read.{readOf, optionsOf, answerOf};
+ghost use Rattle.pattern.specs.Walk.{Read};
+
+// What reading a pattern gives: number 0 with place 0, the tree's root, how many words its nodes take, and its positions; or the refusal's number
+// and place, and zeros.
+pub struct Reading {
+    pub number: u32,
+    pub place: usize,
+    pub root: usize,
+    pub size: usize,
+    pub positions: u32,
+    pub nodes: [u64; 2048],
+}
+
+// The answer that refuses.
+fn refused(number: u32, place: usize) -> Reading
+    ensures { λ r. ⌜ r ≡ answerOf (Read.refused number place) ⌝ }
+{
+    Reading {
+        number,
+        place,
+        root: 0,
+        size: 0,
+        positions: 0,
+        nodes: [0; 2048],
+    }
+}
+
+// The options that the flags set.
+fn options_of(flags: u32) -> Options
+    ensures { λ r. ⌜ r ≡ optionsOf flags ⌝ }
+{
+    Options {
+        caseless: flags % 2 == 1,
+        dotall: flags / 2 % 2 == 1,
+    }
+}
+
+// Reads a pattern.
+pub fn read(pattern: &[u8], flags: u32) -> Reading
+    ensures { λ r. ⌜ r ≡ answerOf (readOf (now (pattern .entry)) (optionsOf flags)) ⌝ }
+{
+    let length = pattern.len();
+    if length > 256 {
+        return refused(5, 0);
+    }
+    let mut nodes = [0u64; 2048];
+    let g = branches(pattern, 0, 0, options_of(flags), &mut nodes, 0);
+    if g.fault != 0 {
+        return refused(g.fault, g.at);
+    }
+    if g.at < length {
+        return refused(12, g.at);
+    }
+    if nullable(&nodes, g.root) {
+        return refused(15, length);
+    }
+    let positions = count(&nodes, g.root);
+    if positions > 256 {
+        return refused(16, length);
+    }
+    Reading {
+        number: 0,
+        place: 0,
+        root: g.root,
+        size: g.n,
+        positions: positions as u32,
+        nodes,
+    }
+}
