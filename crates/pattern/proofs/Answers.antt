@@ -151,7 +151,8 @@ act-fine at v m size c f Bar h r = record {
   branches = (chained-tidy (m .items) empty (h .items) tidy-empty, h .branches);
   items = tt;
   frames = h .frames;
-  narrow = omega (arith, h .narrow, chained-width (m .items) empty, width-empty) }
+  narrow = omega (arith, h .narrow, chained-width (m .items) empty, width-empty);
+}
 act-fine at v m size c f Close h r = closing-fine at (m .stack) (groupOf m) (h .frames) (group-tidy at m h) (omega (arith, h .narrow, group-width m))
 act-fine at v m size c f Class h r = class-fine at v m h
 act-fine at v m size c f (One a) h r = one-fine at (pred size) m a h
@@ -161,7 +162,8 @@ act-fine at v m size c f (Repeat n j) h r = record {
   branches = h .branches;
   items = repeat-tidy (m .items) n j (h .items) (r .0);
   frames = h .frames;
-  narrow = omega (arith, h .narrow, repeat-weigh (m .items) n j) }
+  narrow = omega (arith, h .narrow, repeat-weigh (m .items) n j);
+}
 act-fine at v m size c f Bad h r = later at m h
 
 next-fine : (at b : ℕ) (v : List ℕ) (m : State) → Kept at m → Fine-next at (next at (b ∷ v) m)
@@ -247,7 +249,8 @@ answer-accepted t g =
       size = g .1;
       positions = refl;
       some = g .2 .some;
-      few = g .2 .few }
+      few = g .2 .few;
+    }
 
 refusal-number : (number place : ℕ) → Good (refused number place) → answerOf (refused number place) .number ≡ 0 → ⊥
 unfolding Good answerOf

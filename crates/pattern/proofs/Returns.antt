@@ -61,7 +61,7 @@ module _ (P : Syntax → Type 0) (s a b : List ℕ) (lo n room : ℕ) (g : Got) 
   said-yes : (t : Syntax) → length a ≡ lent → g .n ≤ lent → Read-up s a b lo n room t g → P t → Said P s a b lo n room g
   said-yes t l h r p =
       let e : t ≡ treeAt b (g .root) =
-          sym (laid-tree t a b n (g .root) (omega (arith, r .count, r .top)) (omega (arith, r .count)) (omega (arith, r .count)) (r .tidy) (r .words)) in
+      sym (laid-tree t a b n (g .root) (omega (arith, r .count, r .top)) (omega (arith, r .count)) (omega (arith, r .count)) (r .tidy) (r .words)) in
       record { says = subst P e p; reads = λ z. subst (λ (x : Syntax). Read-up s a b lo n room x g) e r }
 
 weaker : (s a b : List ℕ) (lo lo' n room room' : ℕ) (t : Syntax) (g : Got) → lo' ≤ lo → room ≤ room' → Read-up s a b lo n room t g → Read-up s a b lo' n room' t g
@@ -91,7 +91,8 @@ module _ (s a : List ℕ) (at d : ℕ) (o : Options) (n : ℕ) (room : Room s a 
   pub seq-set : (b : List ℕ) (g : Got) (l : Lexeme) (i : Options) → lexemeOf o (drop at s) ≡ l → l .token ≡ Set i → SaidSequence s a b (at + l .size) d i n g → SaidSequence s a b at d o n g
   seq-set b g l i e t S = record {
     says = λ st al it z. from-set s at st al it o (l .fault) (l .size) i (at-token s at o l (Set i) e t refl) ∙ S .says st al it z;
-    reads = λ z. weaker s a b (at + l .size) at n _ _ _ g (omega arith) (omega arith) (S .reads z) }
+    reads = λ z. weaker s a b (at + l .size) at n _ _ _ g (omega arith) (omega arith) (S .reads z);
+  }
 
   pub seq-set-inside : (l : Lexeme) (i : Options) → lexemeOf o (drop at s) ≡ l → l .token ≡ Set i → (1 ≤ l .size) × (at + l .size ≤ length s)
   seq-set-inside l i e t =
@@ -137,7 +138,8 @@ module _ (s a : List ℕ) (at d : ℕ) (o : Options) (n : ℕ) (room : Room s a 
           top = refl;
           on = omega (arith, X .on, Y .on);
           inside = Y .inside;
-          space = omega (arith, X .space, Y .space, X .on, X .inside) })
+          space = omega (arith, X .space, Y .space, X .on, X .inside);
+        })
         (λ st al it z. I .says st al it z ∙ on-ok g _ yes-g ∙ S .says st al (x ∷ it) z ∙ on-ok h _ yes-h))
 
 -- ---- branches
@@ -151,7 +153,8 @@ module _ (s a : List ℕ) (at d : ℕ) (o : Options) (n : ℕ) (room : Room s a 
     unfolding chained
     alt-last bar = record {
       says = λ st al z. S .says st al [] z ∙ on-ok g _ yes-g ∙ branch-last s st al (treeAt b (g .root)) (g .options) (g .at) bar ∙ sym (on-ok g _ yes-g);
-      reads = S .reads }
+      reads = S .reads;
+    }
 
     pub alt-end : g .at ≡ length s → SaidBranches s a b at d o n g
     alt-end e = alt-last (past s (g .at) (omega arith))
@@ -201,7 +204,8 @@ module _ (s a : List ℕ) (at d : ℕ) (o : Options) (n : ℕ) (room : Room s a 
             top = refl;
             on = omega (arith, X .on, Y .on);
             inside = Y .inside;
-            space = omega (arith, X .space, Y .space, X .on, X .inside) })
+            space = omega (arith, X .space, Y .space, X .on, X .inside);
+          })
           (λ st al z. over st al z ∙ on-ok h _ yes-h))
 
 -- ---- an item
@@ -229,12 +233,14 @@ module _ (s a : List ℕ) (at d : ℕ) (o : Options) (n : ℕ) (room : Room s a 
       let A = at-token s at o l (One x) here t refl in
       record {
         says = λ st al it z. from-one s at st al it o (l .fault) (l .size) x A ∙ S .says st al it;
-        reads = λ z. weaker s a b (at + l .size) (at + 1) n _ _ _ g (omega (arith, A .sound .some (A .sound .right))) (omega (arith, A .sound .some (A .sound .right))) (S .reads z) }
+        reads = λ z. weaker s a b (at + l .size) (at + 1) n _ _ _ g (omega (arith, A .sound .some (A .sound .right))) (omega (arith, A .sound .some (A .sound .right))) (S .reads z);
+      }
 
   pub item-class : (b : List ℕ) (g : Got) → l .token ≡ Class → SaidClass s a b (at + 1) o n g → SaidItem s a b at d o n g
   item-class b g t S = record {
     says = λ st al it z. from-class s at st al it o (l .fault) (l .size) (at-token s at o l Class here t refl) ∙ S .says st al it;
-    reads = S .reads }
+    reads = S .reads;
+  }
 
   module _ (i : Options) (t : l .token ≡ Open i) where
     A : At s at o (lex (l .fault) (l .size) (Open i))
@@ -287,10 +293,12 @@ module _ (s a : List ℕ) (at d : ℕ) (o : Options) (n : ℕ) (room : Room s a 
             top = X .top;
             on = omega (arith, X .on);
             inside = omega arith;
-            space = omega (arith, X .space, X .on) }) in
+            space = omega (arith, X .space, X .on);
+          }) in
           record {
             says = λ st al it z. enter st al it z ∙ on-ok g _ e ∙ group-closes s _ (treeAt b (g .root)) (g .at) lt ∙ q .says st al it;
-            reads = q .reads }
+            reads = q .reads;
+          }
 
 -- ---- the quantifier that may follow
 
@@ -300,7 +308,8 @@ module _ (s a : List ℕ) (at : ℕ) (o : Options) (n root : ℕ) (room : Room s
   quantified-none g t e =
       rw e (λ a0 n0 lo r R. record {
         says = λ st al it. free-other s at st al (treeAt a root ∷ it) o (rw here t);
-        reads = λ z. R })
+        reads = λ z. R;
+      })
 
   module _ (m j : ℕ) (t : l .token ≡ Repeat m j) where
     R-at : At s at o (lex (l .fault) (l .size) (Repeat m j))
@@ -335,7 +344,8 @@ module _ (s a : List ℕ) (at : ℕ) (o : Options) (n root : ℕ) (room : Room s
           top = refl;
           on = omega (arith, X .on);
           inside = f .1;
-          space = omega (arith, X .space) })
+          space = omega (arith, X .space);
+        })
         (λ st al it. from-repeat s at st al it o x m j (l .fault) (l .size) R-at z))
 
 -- ---- an item with its set, and the quantifier that may follow
@@ -371,7 +381,7 @@ module _ (s a : List ℕ) (at : ℕ) (o : Options) (n : ℕ) (room : Room s a at
   unfolding width lay Tidy
   item-read p bytes b c g h k w e Q =
       let R : Read-up s a b at n (n + 6 * (length s - at) + 5) (item bytes) (got p (n + 5) (n + 4) o) =
-          record { words = e; tidy = w; count = refl; top = omega arith; on = h; inside = k; space = omega arith } in
+      record { words = e; tidy = w; count = refl; top = omega arith; on = h; inside = k; space = omega arith } in
       let t : treeAt b (n + 4) ≡ item bytes = laid-tree (item bytes) a b n (n + 4) (omega arith) (omega (arith, room .space)) (omega (arith, room .space, room .long)) w e in
       (rw t at Q) a n at (n + 6 * (length s - at) + 5) R
 
@@ -418,4 +428,3 @@ module _ (s a : List ℕ) (at : ℕ) (o : Options) (n : ℕ) (room : Room s a at
       let i = class-inside c e z in
       let S = item-read (c .place) (c .set) b d g (i .0) (i .1) (k .words) eb Q in
       record { says = λ st al it. rw (← e, eq-eqb (c .number) 0 z) (S .says st al it); reads = S .reads }
-

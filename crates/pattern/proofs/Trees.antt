@@ -147,8 +147,8 @@ read-laid (then x y) (suc f) a n k r hd e h d s =
     step f a (n + (width x + width y)) k (word 3 (j - 1) (j + width y - 1) 0) r (omega arith)
     (behind a n (width x + width y) (lay n x ++ lay j y) l r s (both-length x y n (d .0) (d .1)))
     ∙ read-then f a (n + (width x + width y)) (j - 1) (j + width y - 1) (omega arith) (omega arith) (omega arith) (omega arith) x y
-      (read-laid x f a n (j - 1) (lay j y ++ (l ++ r)) (omega arith) (omega arith) (omega arith) (d .0) (front a n (lay n x) (lay j y) (l ++ r) (front a n (lay n x ++ lay j y) l r s)))
-      (read-laid y f a j (j + width y - 1) (l ++ r) (omega arith) (omega arith) (omega arith) (d .1) (behind a n (width x) (lay n x) (lay j y) (l ++ r) (front a n (lay n x ++ lay j y) l r s) (lay-length x n (d .0))))
+    (read-laid x f a n (j - 1) (lay j y ++ (l ++ r)) (omega arith) (omega arith) (omega arith) (d .0) (front a n (lay n x) (lay j y) (l ++ r) (front a n (lay n x ++ lay j y) l r s)))
+    (read-laid y f a j (j + width y - 1) (l ++ r) (omega arith) (omega arith) (omega arith) (d .1) (behind a n (width x) (lay n x) (lay j y) (l ++ r) (front a n (lay n x ++ lay j y) l r s) (lay-length x n (d .0))))
 read-laid (or x y) (suc f) a n k r hd e h d s =
     let j : ℕ = n + width x in
     let l : List ℕ = word 4 (j - 1) (j + width y - 1) 0 ∷ [] in
@@ -157,14 +157,14 @@ read-laid (or x y) (suc f) a n k r hd e h d s =
     step f a (n + (width x + width y)) k (word 4 (j - 1) (j + width y - 1) 0) r (omega arith)
     (behind a n (width x + width y) (lay n x ++ lay j y) l r s (both-length x y n (d .0) (d .1)))
     ∙ read-or f a (n + (width x + width y)) (j - 1) (j + width y - 1) (omega arith) (omega arith) (omega arith) (omega arith) x y
-      (read-laid x f a n (j - 1) (lay j y ++ (l ++ r)) (omega arith) (omega arith) (omega arith) (d .0) (front a n (lay n x) (lay j y) (l ++ r) (front a n (lay n x ++ lay j y) l r s)))
-      (read-laid y f a j (j + width y - 1) (l ++ r) (omega arith) (omega arith) (omega arith) (d .1) (behind a n (width x) (lay n x) (lay j y) (l ++ r) (front a n (lay n x ++ lay j y) l r s) (lay-length x n (d .0))))
+    (read-laid x f a n (j - 1) (lay j y ++ (l ++ r)) (omega arith) (omega arith) (omega arith) (d .0) (front a n (lay n x) (lay j y) (l ++ r) (front a n (lay n x ++ lay j y) l r s)))
+    (read-laid y f a j (j + width y - 1) (l ++ r) (omega arith) (omega arith) (omega arith) (d .1) (behind a n (width x) (lay n x) (lay j y) (l ++ r) (front a n (lay n x ++ lay j y) l r s) (lay-length x n (d .0))))
 read-laid (repeat x m j) (suc f) a n k r hd e h d s =
     let w : ℕ = word 5 (n + width x - 1) m (numberOf j) in
     let p = width-pos x in
     step f a (n + width x) k w r (omega arith) (behind a n (width x) (lay n x) (w ∷ []) r s (lay-length x n (d .0)))
     ∙ read-repeat f a (n + width x) (n + width x - 1) m j (omega arith) (d .1) (d .2) (omega arith) x
-      (read-laid x f a n (n + width x - 1) ((w ∷ []) ++ r) (omega arith) (omega arith) (omega arith) (d .0) (front a n (lay n x) (w ∷ []) r s))
+    (read-laid x f a n (n + width x - 1) ((w ∷ []) ++ r) (omega arith) (omega arith) (omega arith) (d .0) (front a n (lay n x) (w ∷ []) r s))
 
 -- a tidy tree written from n on is the tree of its last word
 pub laid-tree : (t : Syntax) (a b : List ℕ) (n k : ℕ) → k + 1 ≡ n + width t → n + width t ≤ 2048 → n + width t ≤ length a → Tidy t → b ≡ sets a n (lay n t) → treeAt b k ≡ t
@@ -173,7 +173,7 @@ laid-tree t a b n k e h l d s =
     let i : n + length (lay n t) ≤ length a = rw (lay-length t n d) l in
     let p : length (take n a) ≡ n = length-take-le n a (omega arith) in
     let q : drop n b ≡ lay n t ++ drop (n + length (lay n t)) a =
-        rw (s, sets-eq (lay n t) a n i, append-assoc) (drop-at (take n a) (lay n t ++ drop (n + length (lay n t)) a) n p) in
+    rw (s, sets-eq (lay n t) a n i, append-assoc) (drop-at (take n a) (lay n t ++ drop (n + length (lay n t)) a) n p) in
     read-laid t (suc k) b n k (drop (n + length (lay n t)) a) (omega arith) e h d q
 
 -- a tidy tree in front of any words
@@ -230,7 +230,7 @@ pub both-laid : (x y : Syntax) (a b c : List ℕ) (n m k w : ℕ) → b ≡ sets
     → set c k w ≡ sets a n ((lay n x ++ lay (n + width x) y) ++ (w ∷ []))
 both-laid x y a b c n m k w eb ec em ek dx dy =
     let p : sets a n (lay n x ++ lay (n + width x) y) ≡ c =
-        sets-append (lay n x) (lay (n + width x) y) a n ∙ rw (lay-length x n dx, ← em, ← eb, ec) in
+    sets-append (lay n x) (lay (n + width x) y) a n ∙ rw (lay-length x n dx, ← em, ← eb, ec) in
     let q : n + length (lay n x ++ lay (n + width x) y) ≡ k = omega (arith, both-length x y n dx dy) in
     sym (sets-append (lay n x ++ lay (n + width x) y) (w ∷ []) a n ∙ rw (p, q))
 

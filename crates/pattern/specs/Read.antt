@@ -36,9 +36,10 @@ room = 2048
 unfoldable pub answerOf : Read → Reading
 answerOf (refused number place) = record { number = number; place = place; root = 0; size = 0; positions = 0; nodes = replicate room 0 }
 answerOf (tree t) = record {
-    number = 0;
-    place = 0;
-    root = width t - 1;
-    size = width t;
-    positions = saturating t;
-    nodes = lay 0 t ++ replicate (room - width t) 0 }
+  number = 0;
+  place = 0;
+  root = width t - 1;
+  size = width t;
+  positions = saturating t;
+  nodes = lay 0 t ++ replicate (room - width t) 0;
+}

@@ -1,7 +1,9 @@
 // The two figures of a tree, worked out over its nodes by recursion with the node number falling: how many positions it has, and whether it could
 // match no bytes.
-use crate::nodes::{ITEM, OR, REPEAT, THEN};
-
+use crate::nodes::ITEM;
+use crate::nodes::OR;
+use crate::nodes::REPEAT;
+use crate::nodes::THEN;
 ghost use mathlib.Core.Path.{_≡_};
 ghost use Prim.Native.Nat.{_<_};
 ghost use lib.ListN.{getD};

@@ -1,13 +1,14 @@
 // The reader: pattern bytes and options in, a refusal with its place or the syntax tree out. The tree comes back by value as numbered nodes in
 // an array of words, each node's children with smaller numbers, so nothing is lent and a refusal has nothing to leave alone.
-mod readers;
-mod nodes;
 mod figures;
+mod nodes;
+mod readers;
 
-use readers::{branches, Got};
-use figures::{count, nullable};
+use figures::count;
+use figures::nullable;
+use readers::Got;
+use readers::branches;
 use tokens::Options;
-
 ghost use mathlib.Core.Path.{_≡_};
 ghost use Rattle.pattern.specs.Read.{readOf, optionsOf, answerOf};
 ghost use Rattle.pattern.specs.Walk.{Read};

@@ -1,9 +1,19 @@
 // The readers: branches, a sequence, an item, which call one another with the unread length falling, and what they share. Each writes the nodes of
 // what it has read, children first.
-use crate::nodes::{put, put_item, ASSERTION, EMPTY, OR, REPEAT, THEN};
-
-use tokens::{class_at, item_set, token_at, Atom, Lexeme, Options, Token};
-
+use crate::nodes::ASSERTION;
+use crate::nodes::EMPTY;
+use crate::nodes::OR;
+use crate::nodes::REPEAT;
+use crate::nodes::THEN;
+use crate::nodes::put;
+use crate::nodes::put_item;
+use tokens::Atom;
+use tokens::Lexeme;
+use tokens::Options;
+use tokens::Token;
+use tokens::class_at;
+use tokens::item_set;
+use tokens::token_at;
 ghost use mathlib.Core.Path.{_≡_};
 ghost use Prim.Native.Nat.{ℕ, _+_, _≤_, _<_};
 ghost use lib.ListN.{set};
@@ -69,7 +79,14 @@ fn join(a: &mut [u64; 2048], op: u64, g: Got, h: Got) -> Got
 }
 
 // The quantifier that may follow an item or a group, which was read up to `at`.
-fn quantified(s: &[u8], at: usize, options: Options, a: &mut [u64; 2048], n: usize, root: usize) -> Got
+fn quantified(
+    s: &[u8],
+    at: usize,
+    options: Options,
+    a: &mut [u64; 2048],
+    n: usize,
+    root: usize,
+) -> Got
     requires { ⌜ Room (now s) (now a) at n 0 ⌝ }
     requires { ⌜ root + 1 ≡ n ⌝ }
     ensures { λ r. ⌜ SaidQuantified (now (s .entry)) (now (a .entry)) (now (a .exit)) at options n root r ⌝ }
@@ -140,7 +157,14 @@ fn fault_of(l: Lexeme) -> u32
 }
 
 // The branches of a group or of the pattern, up to its end.
-pub fn branches(s: &[u8], at: usize, depth: usize, options: Options, a: &mut [u64; 2048], n: usize) -> Got
+pub fn branches(
+    s: &[u8],
+    at: usize,
+    depth: usize,
+    options: Options,
+    a: &mut [u64; 2048],
+    n: usize,
+) -> Got
     requires { ⌜ Room (now s) (now a) at n 1 ⌝ }
     requires { ⌜ depth ≤ 16 ⌝ }
     ensures { λ r. ⌜ SaidBranches (now (s .entry)) (now (a .entry)) (now (a .exit)) at depth options n r ⌝ }
@@ -165,7 +189,14 @@ pub fn branches(s: &[u8], at: usize, depth: usize, options: Options, a: &mut [u6
 }
 
 // One branch, up to its end: items one after the other, and option settings.
-fn sequence(s: &[u8], at: usize, depth: usize, options: Options, a: &mut [u64; 2048], n: usize) -> Got
+fn sequence(
+    s: &[u8],
+    at: usize,
+    depth: usize,
+    options: Options,
+    a: &mut [u64; 2048],
+    n: usize,
+) -> Got
     requires { ⌜ Room (now s) (now a) at n 1 ⌝ }
     requires { ⌜ depth ≤ 16 ⌝ }
     ensures { λ r. ⌜ SaidSequence (now (s .entry)) (now (a .entry)) (now (a .exit)) at depth options n r ⌝ }
@@ -190,7 +221,15 @@ fn sequence(s: &[u8], at: usize, depth: usize, options: Options, a: &mut [u64; 2
 }
 
 // One item or group with its quantifier, or one assertion: what the token l at this place begins.
-fn item(s: &[u8], at: usize, depth: usize, options: Options, l: Lexeme, a: &mut [u64; 2048], n: usize) -> Got
+fn item(
+    s: &[u8],
+    at: usize,
+    depth: usize,
+    options: Options,
+    l: Lexeme,
+    a: &mut [u64; 2048],
+    n: usize,
+) -> Got
     requires { ⌜ Room (now s) (now a) at n 0 ⌝ }
     requires { ⌜ depth ≤ 16 ⌝ }
     requires { ⌜ Here (now s) at options l ⌝ }
