@@ -1,0 +1,178 @@
+-- The table that additions built, as the proofs about streams take it: an automaton that carries rules, each in its place by rising id, with its positions from
+-- its own first one on. What rules proves of the built words (`Built`) gives it, each set through the relation that it computes. Assumes nothing.
+use mathlib.Core.Path.{_≡_, refl, sym, subst, ap, _∙_}
+use mathlib.Core.Logic.{_↔_}
+use mathlib.Core.Bool.{Bool, true, false}
+use mathlib.Core.List.{List, [], _∷_, map, List·Memᴰ, List·Memᴰ·head, List·Memᴰ·tail, Memᴰ·of-map, Memᴰ·map, Memᴰ·cast}
+use Prim.Native.Nat.{ℕ, _+_, _/_, _%_, _≤_, _<_}
+use native.Mathlib.Decide.{decLt}
+use native.Mathlib.Omega.{arith}
+use lib.Dec.{T, eqb}
+use lib.ListN.{length}
+use Rattle.sets.specs.Set.{has}
+use Rattle.table.specs.Layout.{maxRules, maxPositions, rulesOf, positionsOf}
+use Rattle.table.specs.Automaton.{Automaton, automaton, single}
+use Rattle.table.proofs.Test.{Passes}
+use Rattle.regex.specs.Form.{Form, write, positions}
+use Rattle.regex.specs.Rule.{Rule, ByteSet, Assertion, world}
+use Rattle.regex.specs.Automaton.{First, Last, Follow, Takes, first, last, follow}
+use Rattle.regex.proofs.Computed.{first-T, last-T, follow-T}
+use Rattle.rules.specs.Additions.{Accepted, ruleOf, size, used}
+use Rattle.rules.proofs.Sorted.{Placed, at, laid, byId, byId-rule, byId-mem, mem-at, laid-mem}
+use Rattle.rules.proofs.Encodes.{Encodes, Of, itemOf, takes-same, items-taken}
+use Rattle.rules.proofs.Additions.{Built}
+
+-- the written-out form of a rule
+abbrev pub formOf : Rule → Form ByteSet Assertion
+formOf r = write (r .tree)
+
+-- rule a's positions: those from `from` on, as many as its form has
+abbrev pub Within : (from : ℕ) → Rule → ℕ → Type 0
+Within from r q = (from ≤ q) × (q < from + positions (formOf r))
+
+-- place a of the table holds the rule `rule a`, whose positions are numbered from `from a` on; position q takes the bytes of the set `tab q`
+pub record Carries (w : Automaton) (rule : ℕ → Rule) (from : ℕ → ℕ) (tab : ℕ → ByteSet) : Type 0 where
+  pub few-rules : w .rules ≤ maxRules
+  pub few-positions : w .positions ≤ maxPositions
+  pub id-is : (a : ℕ) → a < w .rules → w .id a ≡ rule a .id
+  pub single-is : (a : ℕ) → a < w .rules → single w a ≡ rule a .single
+  pub rising : (a b : ℕ) → a < b → b < w .rules → rule a .id < rule b .id
+  pub inside : (a : ℕ) → a < w .rules → from a + positions (formOf (rule a)) ≤ w .positions
+  pub covered : (q : ℕ) → q < w .positions → (a : ℕ) × (a < w .rules) × Within (from a) (rule a) q
+  pub apart : (a b q : ℕ) → a < w .rules → b < w .rules → Within (from a) (rule a) q → Within (from b) (rule b) q → a ≡ b
+  pub takes : (a : ℕ) → a < w .rules → Takes tab (formOf (rule a)) (from a)
+  pub takes-is : (q x : ℕ) → q < w .positions → x < 256 → T (w .takes x q) ↔ T (has (tab q) x)
+  pub first-is : (a q : ℕ) → a < w .rules → Within (from a) (rule a) q → T (w .first q) ↔ First (world false false) (formOf (rule a)) (from a) q
+  pub start-is : (a q : ℕ) → a < w .rules → Within (from a) (rule a) q → T (w .firstAtStart q) ↔ First (world true false) (formOf (rule a)) (from a) q
+  pub follow-is : (a p q : ℕ) → a < w .rules → p < w .positions → Within (from a) (rule a) q
+      → T (w .follow p q) ↔ Follow (world false false) (formOf (rule a)) (from a) p q
+  pub last-is : (a p : ℕ) → a < w .rules → p < w .positions → T (w .last a p) ↔ Last (world false false) (formOf (rule a)) (from a) p
+  pub last-at-end-is : (a p : ℕ) → a < w .rules → p < w .positions → T (w .lastAtEnd a p) ↔ Last (world false true) (formOf (rule a)) (from a) p
+
+-- ---- what additions built
+
+-- in the order of their addition the rules' positions stand one after the other from b on
+unfoldable pub Based : Automaton → (ℕ → Rule) → (ℕ → ℕ) → List Rule → ℕ → Type 0
+Based w rule from [] b = Unit {0}
+Based w rule from (r ∷ rules) b = ((a : ℕ) × (a < w .rules) × (rule a ≡ r) × (from a ≡ b)) × Based w rule from rules (b + positions (formOf r))
+
+-- the positions of some rules
+unfoldable pub positionsIn : List Rule → ℕ
+positionsIn [] = 0
+positionsIn (r ∷ rules) = positions (formOf r) + positionsIn rules
+
+pub record Carried (t : List ℕ) (rules : List Rule) : Type 0 where
+  pub rule : ℕ → Rule
+  pub from : ℕ → ℕ
+  pub tab : ℕ → ByteSet
+  pub carries : Carries (automaton t) rule from tab
+  pub listed : (r : Rule) → List·Memᴰ r rules ↔ ((a : ℕ) × (a < automaton t .rules) × (r ≡ rule a))
+  pub based : Based (automaton t) rule from rules 0
+  pub counted : automaton t .positions ≡ positionsIn rules
+
+pub rules-at : (t : List ℕ) → automaton t .rules ≡ rulesOf t
+unfolding automaton
+rules-at t = refl
+
+pub positions-at : (t : List ℕ) → automaton t .positions ≡ positionsOf t
+unfolding automaton
+positions-at t = refl
+
+-- a computed set is its relation
+by-set : {P : Type 0} (b c : Bool) → b ≡ c → T c ↔ P → T b ↔ P
+by-set b c e i = (λ h. i .0 (subst T e h), λ h. subst T (sym e) (i .1 h))
+
+same-positions : (rs : List Accepted) → positionsIn (map ruleOf rs) ≡ used rs
+unfolding positionsIn used
+same-positions [] = refl
+same-positions (r ∷ rs) = ap (λ (n : ℕ). size r + n) (same-positions rs)
+
+module _ (t : List ℕ) (rs : List Accepted) (b : Built t rs) where
+  abbrev w : Automaton
+  w = automaton t
+
+  abbrev ps : List Placed
+  ps = byId rs
+
+  e : Encodes (automaton t) (byId rs)
+  e = b .encodes
+
+  in-list : (a : ℕ) → a < w .rules → a < length ps
+  in-list a lt = subst (λ (n : ℕ). a < n) (e .rules) lt
+
+  in-table : (a : ℕ) → a < length ps → a < w .rules
+  in-table a lt = subst (λ (n : ℕ). a < n) (sym (e .rules)) lt
+
+  -- the set of a position: that of the rule which has it
+  set-at : (q : ℕ) → Dec (q < w .positions) → ByteSet
+  set-at q (yes lt) = itemOf (at ps (e .covered q lt .0)) q
+  set-at q (no ge) = []
+
+  tab : ℕ → ByteSet
+  tab q = set-at q (decLt q (w .positions))
+
+  tab-is : (a q : ℕ) → a < length ps → Of (at ps a) q → tab q ≡ itemOf (at ps a) q
+  unfolding set-at tab
+  tab-is a q lt o = go (decLt q (w .positions))
+    where
+      go : (d : Dec (q < w .positions)) → set-at q d ≡ itemOf (at ps a) q
+      go (yes l) = let c = e .covered q l in ap (λ (i : ℕ). itemOf (at ps i) q) (e .apart (c .0) a q (c .1) lt (c .2) o)
+      go (no g) = absurd (omega (arith, e .rule a lt .within, o .1))
+
+  abbrev rule : ℕ → Rule
+  rule a = ruleOf (at ps a .rule)
+
+  abbrev from : ℕ → ℕ
+  from a = at ps a .from
+
+  carries : Carries w rule from tab
+  carries = record {
+    few-rules = omega (arith, b .passed .rules, rules-at t);
+    few-positions = omega (arith, b .passed .positions, positions-at t);
+    id-is = λ a lt. e .rule a (in-list a lt) .id-is;
+    single-is = λ a lt. ap (λ (f : ℕ). eqb (f / 8 % 2) 1) (e .rule a (in-list a lt) .flags-are);
+    rising = λ a c l m. e .rising a c l (in-list c m);
+    inside = λ a lt. e .rule a (in-list a lt) .within;
+    covered = λ q l. let c = e .covered q l in (c .0, in-table (c .0) (c .1), c .2);
+    apart = λ a c q la lc i j. e .apart a c q (in-list a la) (in-list c lc) i j;
+    takes = λ a lt. takes-same (formOf (rule a)) (from a) (itemOf (at ps a)) tab (λ q i j. sym (tab-is a q (in-list a lt) (i, j))) (items-taken (formOf (rule a)) (from a));
+    takes-is = λ q x l small. let c = e .covered q l in
+        by-set (w .takes x q) (has (tab q) x)
+        (e .rule (c .0) (c .1) .takes-is x q small (c .2) ∙ ap (λ (s : ByteSet). has s x) (sym (tab-is (c .0) q (c .1) (c .2)))) (λ h. h, λ h. h);
+    first-is = λ a q lt i. by-set (w .first q) (first (world false false) (formOf (rule a)) (from a) q) (e .rule a (in-list a lt) .first-is q i) (first-T (world false false) (formOf (rule a)) (from a) q);
+    start-is = λ a q lt i. by-set (w .firstAtStart q) (first (world true false) (formOf (rule a)) (from a) q) (e .rule a (in-list a lt) .start-is q i) (first-T (world true false) (formOf (rule a)) (from a) q);
+    follow-is = λ a p q lt l i. by-set (w .follow p q) (follow (world false false) (formOf (rule a)) (from a) p q) (e .rule a (in-list a lt) .follow-is p q i) (follow-T (world false false) (formOf (rule a)) (from a) p q);
+    last-is = λ a p lt l. by-set (w .last a p) (last (world false false) (formOf (rule a)) (from a) p) (e .rule a (in-list a lt) .last-is p l) (last-T (world false false) (formOf (rule a)) (from a) p);
+    last-at-end-is = λ a p lt l. by-set (w .lastAtEnd a p) (last (world false true) (formOf (rule a)) (from a) p) (e .rule a (in-list a lt) .end-is p l) (last-T (world false true) (formOf (rule a)) (from a) p);
+  }
+
+  listed : (r : Rule) → List·Memᴰ r (map ruleOf rs) ↔ ((a : ℕ) × (a < w .rules) × (r ≡ rule a))
+  listed r = (
+    λ m.
+        let x = Memᴰ·of-map ruleOf rs m in
+        let l = laid-mem 0 rs (x .1) in
+        let k = mem-at ps (byId-mem rs (l .1)) in
+        (k .0, in-table (k .0) (k .1), sym (x .2) ∙ ap (λ (p : Placed). ruleOf (p .rule)) (sym (k .2))),
+    λ h.
+        Memᴰ·cast (h .2) (Memᴰ·map ruleOf (byId-rule rs (h .0) (in-list (h .0) (h .1)))),
+  )
+
+  laid-based : (xs : List Accepted) (m : ℕ) → ((q : Placed) → List·Memᴰ q (laid m xs) → List·Memᴰ q ps) → Based w rule from (map ruleOf xs) m
+  unfolding Based laid
+  laid-based [] m h = tt
+  laid-based (x ∷ xs) m h =
+      let k = mem-at ps (h (record { rule = x; from = m }) (List·Memᴰ·head refl)) in (
+        (k .0, in-table (k .0) (k .1), ap (λ (p : Placed). ruleOf (p .rule)) (k .2), ap (λ (p : Placed). p .from) (k .2)),
+        laid-based xs (m + size x) (λ q n. h q (List·Memᴰ·tail n)),
+      )
+
+  pub carried : Carried t (map ruleOf rs)
+  carried = record {
+    rule = rule;
+    from = from;
+    tab = tab;
+    carries = carries;
+    listed = listed;
+    based = laid-based rs 0 (λ q m. byId-mem rs m);
+    counted = positions-at t ∙ b .positions ∙ sym (same-positions rs);
+  }

@@ -1,0 +1,284 @@
+-- Whatever the blocks, the lists and the refused calls between: the joined reports of a list of calls with an accepted closing are those of the joined bytes
+-- in one go and of the closing after them. By one induction over the list. Assumes nothing.
+use mathlib.Core.Path.{_≡_, refl, sym, subst, subst₂, ap, ap₂, _∙_}
+use mathlib.Core.Logic.{_⊎_, inl, inr, _↔_}
+use mathlib.Core.Bool.{Bool, true, false, cond, not, true≢false}
+use mathlib.Core.List.{List, [], _∷_, _++_, map, zip, append-nil, append-assoc}
+use Prim.Native.Nat.{ℕ, zero, suc, _+_, _-_, _≤_, _<_}
+use native.Mathlib.Omega.{arith}
+use native.Mathlib.Decide.{ℕ-discrete}
+use lib.Dec.{eqb, ltb, leb}
+use lib.ListN.{length, getD, take, drop, replicate, length-replicate, length-append, length-take}
+use lib.Seq.{take-append-seam, length-take-le, getD-take}
+use borrow.Author.Tests.{eq-eqb, ne-eqb}
+use Rattle.table.specs.Layout.{tableWords}
+use Rattle.table.specs.Table.{isTable, emptyNumber, emptied}
+use Rattle.table.specs.Automaton.{Automaton, automaton}
+use Rattle.stream.specs.declared.Stream.{Stream}
+use Rattle.stream.specs.declared.Scanned.{Scanned}
+use Rattle.stream.specs.declared.Closed.{Closed}
+use Rattle.stream.specs.Byte.{byteIds, stateAfter, idsOf, endsOf, fits, closeIds}
+use Rattle.stream.specs.Valid.{valid, streamLimit}
+use Rattle.stream.specs.Calls.{space, spaceNumber, scanNumber, closeNumber, takenBy, written, scanned, scannedIds, scannedOffsets, shut, closed, closedIds, closedOffsets}
+use Rattle.pattern.specs.Read.{readOf, optionsOf}
+use Rattle.rules.specs.Add.{addAnswer, withRule, addWords}
+use Rattle.regex.specs.Ordered.{Pair}
+use Rattle.demands.specs.Chain.{Lent, this, those, lent, Other, emptying, adding, opening, scanning, closing, numberOf, tableAfter, Item, scan, close, other, reportsIn, bytesOf, reportsOf, OthersRefused, Closes, Bytes, Blocks}
+use Rattle.stream.proofs.Blocks.{fits-le, ends-count, closed-after, two-parts}
+use Rattle.demands.proofs.Bytewise.{pairsOf, pairs-append, state-cut, pairs-cut}
+
+-- a refused call leaves the table as it was
+pub kept : (t : List ℕ) (o : Other) → ¬ (numberOf t o ≡ 0) → tableAfter t o ≡ t
+unfolding numberOf tableAfter emptyNumber emptied addWords
+kept t (emptying this) h = go (ltb (length t) tableWords) h
+  where
+    go : (b : Bool) → ¬ (_≡_ {A = ℕ} (cond b 1 0) 0) → cond b t (Rattle.table.specs.Table.emptyTable ++ drop tableWords t) ≡ t
+    go true h = refl
+    go false h = absurd (h refl)
+kept t (emptying (those u)) h = refl
+kept t (adding this id flags pattern) h =
+    ap (λ (b : Bool). cond b (withRule t id flags (readOf pattern (optionsOf flags))) t) (ne-eqb (addAnswer t id flags pattern .number) 0 h)
+kept t (adding (those u) id flags pattern) h = refl
+kept t (opening l) h = refl
+kept t (scanning l s block ids offsets) h = refl
+kept t (closing l s ids offsets) h = refl
+
+pub takes-le : (t : List ℕ) (s : Stream) (block : List ℕ) (room : ℕ) → takenBy t s block room ≤ length block
+unfolding takenBy
+takes-le t s block room = fits-le (automaton t) s block room (length block)
+
+-- what the slots up to the count hold
+front-is : (new old : List ℕ) → take (length new) (written new old) ≡ new
+front-is new old = take-append-seam new (drop (length new) old)
+
+module _ (t : List ℕ) (s : Stream) (block ids offsets : List ℕ) where
+  abbrev w : Automaton
+  w = automaton t
+
+  abbrev number : ℕ
+  number = scanNumber t s (length block) (space ids offsets)
+
+  abbrev k : ℕ
+  k = takenBy t s block (space ids offsets)
+
+  -- an accepted scan
+  module _ (ok : number ≡ 0) where
+    yes-number : eqb number 0 ≡ true
+    yes-number = eq-eqb number 0 ok
+
+    pub accepted-scan : scanned t s block ids offsets ≡ record { number = 0; taken = k; reports = length (idsOf w s block k); stream = stateAfter w s block k }
+    unfolding scanned
+    accepted-scan = ap (λ (b : Bool). cond b (record { number = 0; taken = k; reports = length (idsOf w s block k); stream = stateAfter w s block k })
+        (record { number = number; taken = 0; reports = 0; stream = s })) yes-number
+
+    pub scan-reports : reportsIn (scanned t s block ids offsets .reports) (scannedIds t s block ids offsets) (scannedOffsets t s block ids offsets)
+        ≡ zip (idsOf w s block k) (endsOf w s block k)
+    unfolding scannedIds scannedOffsets
+    scan-reports =
+        ap₂ (λ (n : ℕ) (b : Bool). reportsIn n (cond b (written (idsOf w s block k) ids) ids) (cond b (written (endsOf w s block k) offsets) offsets)) (ap (λ (c : Scanned). c .reports) accepted-scan) yes-number
+        ∙ ap₂ zip (front-is (idsOf w s block k) ids)
+        (ap (λ (n : ℕ). take n (written (endsOf w s block k) offsets)) (sym (ends-count w s block k)) ∙ front-is (endsOf w s block k) offsets)
+
+  -- a refused one
+  module _ (bad : ¬ (number ≡ 0)) where
+    no-number : eqb number 0 ≡ false
+    no-number = ne-eqb number 0 bad
+
+    pub refused-scan : scanned t s block ids offsets ≡ record { number = number; taken = 0; reports = 0; stream = s }
+    unfolding scanned
+    refused-scan = ap (λ (b : Bool). cond b (record { number = 0; taken = k; reports = length (idsOf w s block k); stream = stateAfter w s block k })
+        (record { number = number; taken = 0; reports = 0; stream = s })) no-number
+
+module _ (t : List ℕ) (s : Stream) (ids offsets : List ℕ) where
+  abbrev w′ : Automaton
+  w′ = automaton t
+
+  abbrev number′ : ℕ
+  number′ = closeNumber t s (space ids offsets)
+
+  module _ (ok : number′ ≡ 0) where
+    pub accepted-close : closed t s ids offsets ≡ record { number = 0; reports = length (closeIds w′ s); stream = shut s }
+    unfolding closed
+    accepted-close = ap (λ (b : Bool). cond b (record { number = 0; reports = length (closeIds w′ s); stream = shut s })
+        (record { number = number′; reports = 0; stream = s })) (eq-eqb number′ 0 ok)
+
+    pub close-reports : reportsIn (closed t s ids offsets .reports) (closedIds t s ids offsets) (closedOffsets t s ids offsets)
+        ≡ zip (closeIds w′ s) (replicate (length (closeIds w′ s)) (s .taken))
+    unfolding closedIds closedOffsets
+    close-reports =
+        let new : List ℕ = closeIds w′ s in
+        ap₂ (λ (n : ℕ) (b : Bool). reportsIn n (cond b (written new ids) ids) (cond b (written (replicate (length new) (s .taken)) offsets) offsets))
+        (ap (λ (c : Closed). c .reports) accepted-close) (eq-eqb number′ 0 ok)
+        ∙ ap₂ zip (front-is new ids)
+        (ap (λ (n : ℕ). take n (written (replicate (length new) (s .taken)) offsets)) (sym (length-replicate (length new) (s .taken)))
+        ∙ front-is (replicate (length new) (s .taken)) offsets)
+
+  module _ (bad : ¬ (number′ ≡ 0)) where
+    pub refused-close : closed t s ids offsets ≡ record { number = number′; reports = 0; stream = s }
+    unfolding closed
+    refused-close = ap (λ (b : Bool). cond b (record { number = 0; reports = length (closeIds w′ s); stream = shut s })
+        (record { number = number′; reports = 0; stream = s })) (ne-eqb number′ 0 bad)
+
+  -- the number of the answer is the number of the checks
+  pub close-number : closed t s ids offsets .number ≡ 0 → number′ ≡ 0
+  close-number e = go (ℕ-discrete number′ 0)
+    where
+      go : Dec (number′ ≡ 0) → number′ ≡ 0
+      go (yes ok) = ok
+      go (no bad) = absurd (bad (sym (ap (λ (c : Closed). c .number) (refused-close bad)) ∙ e))
+
+-- a closed stream refuses
+pub shut-scan : (t : List ℕ) (s : Stream) (len room : ℕ) → s .closed ≡ true → ¬ (scanNumber t s len room ≡ 0)
+unfolding scanNumber
+shut-scan t s len room e h =
+    go (isTable t) (valid (automaton t) s) (subst (λ (b : Bool). cond (isTable t)
+    (cond (valid (automaton t) s) (cond b 19 (cond (ltb (streamLimit - s .taken) len) 21 (spaceNumber t room))) 18) 1 ≡ 0) e h)
+  where
+    go : (a b : Bool) → _≡_ {A = ℕ} (cond a (cond b 19 18) 1) 0 → ⊥
+    go true true h = omega arith
+    go true false h = omega arith
+    go false b h = omega arith
+
+pub shut-close : (t : List ℕ) (s : Stream) (room : ℕ) → s .closed ≡ true → ¬ (closeNumber t s room ≡ 0)
+unfolding closeNumber
+shut-close t s room e h =
+    go (isTable t) (valid (automaton t) s) (subst (λ (b : Bool). cond (isTable t) (cond (valid (automaton t) s) (cond b 19 (spaceNumber t room)) 18) 1 ≡ 0) e h)
+  where
+    go : (a b : Bool) → _≡_ {A = ℕ} (cond a (cond b 19 18) 1) 0 → ⊥
+    go true true h = omega arith
+    go true false h = omega arith
+    go false b h = omega arith
+
+take-bytes : (block : List ℕ) (k : ℕ) → Bytes block → Bytes (take k block)
+take-bytes block k h i lt = subst (λ (x : ℕ). x < 256) (sym (getD-take k block i 0 (omega (arith, length-take k block)))) (h i (omega (arith, length-take k block)))
+
+append-bytes : (a b : List ℕ) → Bytes a → Bytes b → Bytes (a ++ b)
+append-bytes [] b ha hb i lt = hb i lt
+append-bytes (x ∷ a) b ha hb zero lt = ha 0 (omega arith)
+append-bytes (x ∷ a) b ha hb (suc i) lt = append-bytes a b (λ j l. ha (suc j) (omega arith)) hb i (omega arith)
+
+-- after the closing nothing more is taken and nothing reported
+module _ (t : List ℕ) where
+  pub silent : (l : List Item) (s : Stream) → s .closed ≡ true → OthersRefused t s l → (bytesOf t s l ≡ []) × (reportsOf t s l ≡ [])
+  unfolding bytesOf reportsOf OthersRefused zip mathlib.Core.List.zipWith
+  silent [] s e h = (refl, refl)
+  silent (scan block ids offsets ∷ l) s e h =
+      let r = refused-scan t s block ids offsets (shut-scan t s (length block) (space ids offsets) e) in
+      let again : scanned t s block ids offsets .stream ≡ s = ap (λ (c : Scanned). c .stream) r in
+      let ih = silent l s e (subst (λ (x : Stream). OthersRefused t x l) again h) in (
+        ap₂ (λ (n : ℕ) (x : Stream). take n block ++ bytesOf t x l) (ap (λ (c : Scanned). c .taken) r) again ∙ ih .0,
+        ap₂ (λ (n : ℕ) (x : Stream). reportsIn n (scannedIds t s block ids offsets) (scannedOffsets t s block ids offsets) ++ reportsOf t x l)
+            (ap (λ (c : Scanned). c .reports) r) again ∙ ih .1,
+      )
+  silent (close ids offsets ∷ l) s e h =
+      let r = refused-close t s ids offsets (shut-close t s (space ids offsets) e) in
+      let again : closed t s ids offsets .stream ≡ s = ap (λ (c : Closed). c .stream) r in
+      let ih = silent l s e (subst (λ (x : Stream). OthersRefused t x l) again h) in (
+        ap (λ (x : Stream). bytesOf t x l) again ∙ ih .0,
+        ap₂ (λ (n : ℕ) (x : Stream). reportsIn n (closedIds t s ids offsets) (closedOffsets t s ids offsets) ++ reportsOf t x l)
+            (ap (λ (c : Closed). c .reports) r) again ∙ ih .1,
+      )
+  silent (other o ∷ l) s e h =
+      let same : tableAfter t o ≡ t = kept t o (h .0) in
+      let ih = silent l s e (subst (λ (u : List ℕ). OthersRefused u s l) same (h .1)) in
+      (ap (λ (u : List ℕ). bytesOf u s l) same ∙ ih .0, ap (λ (u : List ℕ). reportsOf u s l) same ∙ ih .1)
+
+  -- the pairs of the closing
+  abbrev pub closePairs : Stream → List Pair
+  closePairs s = zip (closeIds (automaton t) s) (replicate (length (closeIds (automaton t) s)) (s .taken))
+
+  -- the bytes in one go, then the closing
+  abbrev pub Goes : Stream → List ℕ → List Pair → Type 0
+  Goes s bytes reports = reports ≡ pairsOf (automaton t) s bytes ++ closePairs (stateAfter (automaton t) s bytes (length bytes))
+
+  -- no bytes and the closing
+  ends-here : (s : Stream) → Goes s [] (closePairs s)
+  unfolding idsOf endsOf stateAfter zip mathlib.Core.List.zipWith
+  ends-here s = refl
+
+  -- first some bytes, then what goes on from the state after them
+  parts : (s : Stream) (a b : List ℕ) (r : List Pair) → Goes (stateAfter (automaton t) s a (length a)) b r → Goes s (a ++ b) (pairsOf (automaton t) s a ++ r)
+  parts s a b r h =
+      let w : Automaton = automaton t in
+      let mid : Stream = stateAfter w s a (length a) in
+      ap (λ (x : List Pair). pairsOf w s a ++ x) h
+      ∙ sym (append-assoc (pairsOf w s a) (pairsOf w mid b) (closePairs (stateAfter w mid b (length b))))
+      ∙ ap₂ (λ (x : List Pair) (y : Stream). x ++ closePairs y) (sym (pairs-append w s a b)) (sym (two-parts w s a b .state))
+
+  -- an accepted scan reports what the bytes that it takes report
+  scan-goes : (s : Stream) (block : List ℕ) (k : ℕ) → k ≤ length block → (b : List ℕ) (r : List Pair) → Goes (stateAfter (automaton t) s block k) b r
+      → Goes s (take k block ++ b) (zip (idsOf (automaton t) s block k) (endsOf (automaton t) s block k) ++ r)
+  scan-goes s block k le b r h =
+      let w : Automaton = automaton t in
+      subst (λ (x : List Pair). Goes s (take k block ++ b) (x ++ r)) (sym (pairs-cut w s block k le)) (parts s (take k block) b r (subst (λ (x : Stream). Goes x b r) (state-cut w s block k le) h))
+
+  pub chained : (l : List Item) (s : Stream) → s .closed ≡ false → OthersRefused t s l → Closes t s l → Goes s (bytesOf t s l) (reportsOf t s l)
+  unfolding bytesOf reportsOf OthersRefused Closes zip mathlib.Core.List.zipWith
+  chained [] s e h c = absurd c
+  chained (scan block ids offsets ∷ l) s e h c = go (ℕ-discrete (scanNumber t s (length block) (space ids offsets)) 0) (λ x. chained l x)
+    where
+      Rest : Type 0
+      Rest = (x : Stream) → x .closed ≡ false → OthersRefused t x l → Closes t x l → Goes x (bytesOf t x l) (reportsOf t x l)
+
+      k : ℕ
+      k = takenBy t s block (space ids offsets)
+
+      -- the goal, by the answer and what the lists hold
+      From : Scanned → List Pair → Type 0
+      From a r = Goes s (take (a .taken) block ++ bytesOf t (a .stream) l) (r ++ reportsOf t (a .stream) l)
+
+      go : Dec (scanNumber t s (length block) (space ids offsets) ≡ 0) → Rest
+          → From (scanned t s block ids offsets)
+          (reportsIn (scanned t s block ids offsets .reports) (scannedIds t s block ids offsets) (scannedOffsets t s block ids offsets))
+      go (yes ok) ih =
+          let is = accepted-scan t s block ids offsets ok in
+          let next : scanned t s block ids offsets .stream ≡ stateAfter (automaton t) s block k = ap (λ (a : Scanned). a .stream) is in
+          let le : k ≤ length block = takes-le t s block (space ids offsets) in
+          subst₂ From (sym is) (sym (scan-reports t s block ids offsets ok))
+          (scan-goes s block k le (bytesOf t (stateAfter (automaton t) s block k) l) (reportsOf t (stateAfter (automaton t) s block k) l)
+          (ih (stateAfter (automaton t) s block k) (closed-after (automaton t) s block k ∙ e)
+          (subst (λ (x : Stream). OthersRefused t x l) next h) (subst (λ (x : Stream). Closes t x l) next c)))
+      go (no bad) ih =
+          let is = refused-scan t s block ids offsets bad in
+          let next : scanned t s block ids offsets .stream ≡ s = ap (λ (a : Scanned). a .stream) is in
+          subst₂ From (sym is)
+          (sym (ap (λ (n : ℕ). reportsIn n (scannedIds t s block ids offsets) (scannedOffsets t s block ids offsets)) (ap (λ (a : Scanned). a .reports) is)))
+          (ih s e (subst (λ (x : Stream). OthersRefused t x l) next h) (subst (λ (x : Stream). Closes t x l) next c))
+  chained (close ids offsets ∷ l) s e h c = go (ℕ-discrete (closeNumber t s (space ids offsets)) 0) (λ x. chained l x) c
+    where
+      Rest : Type 0
+      Rest = (x : Stream) → x .closed ≡ false → OthersRefused t x l → Closes t x l → Goes x (bytesOf t x l) (reportsOf t x l)
+
+      From : Closed → List Pair → Type 0
+      From a r = Goes s (bytesOf t (a .stream) l) (r ++ reportsOf t (a .stream) l)
+
+      go : Dec (closeNumber t s (space ids offsets) ≡ 0) → Rest → (closed t s ids offsets .number ≡ 0) ⊎ Closes t (closed t s ids offsets .stream) l
+          → From (closed t s ids offsets) (reportsIn (closed t s ids offsets .reports) (closedIds t s ids offsets) (closedOffsets t s ids offsets))
+      go (yes ok) ih c =
+          let is = accepted-close t s ids offsets ok in
+          let quiet = silent l (shut s) refl (subst (λ (x : Stream). OthersRefused t x l) (ap (λ (a : Closed). a .stream) is) h) in
+          subst₂ From (sym is) (sym (close-reports t s ids offsets ok))
+          (subst₂ (λ (b : List ℕ) (r : List Pair). Goes s b (closePairs s ++ r)) (sym (quiet .0)) (sym (quiet .1)) (append-nil (closePairs s) ∙ ends-here s))
+      go (no bad) ih (inl ok) = absurd (bad (close-number t s ids offsets ok))
+      go (no bad) ih (inr c) =
+          let is = refused-close t s ids offsets bad in
+          let next : closed t s ids offsets .stream ≡ s = ap (λ (a : Closed). a .stream) is in
+          subst₂ From (sym is)
+          (sym (ap (λ (n : ℕ). reportsIn n (closedIds t s ids offsets) (closedOffsets t s ids offsets)) (ap (λ (a : Closed). a .reports) is)))
+          (ih s e (subst (λ (x : Stream). OthersRefused t x l) next h) (subst (λ (x : Stream). Closes t x l) next c))
+  chained (other o ∷ l) s e h c =
+      let same : tableAfter t o ≡ t = kept t o (h .0) in
+      subst (λ (u : List ℕ). Goes s (bytesOf u s l) (reportsOf u s l)) (sym same)
+      (chained l s e (subst (λ (u : List ℕ). OthersRefused u s l) same (h .1)) (subst (λ (u : List ℕ). Closes u s l) same c))
+
+  -- the joined bytes are bytes
+  pub joined-bytes : (l : List Item) (s : Stream) → OthersRefused t s l → Blocks l → Bytes (bytesOf t s l)
+  unfolding bytesOf OthersRefused Blocks
+  joined-bytes [] s h b = λ i lt. absurd (omega arith)
+  joined-bytes (scan block ids offsets ∷ l) s h b =
+      append-bytes (take (scanned t s block ids offsets .taken) block) (bytesOf t (scanned t s block ids offsets .stream) l)
+      (take-bytes block (scanned t s block ids offsets .taken) (b .0)) (joined-bytes l (scanned t s block ids offsets .stream) h (b .1))
+  joined-bytes (close ids offsets ∷ l) s h b = joined-bytes l (closed t s ids offsets .stream) h b
+  joined-bytes (other o ∷ l) s h b =
+      let same : tableAfter t o ≡ t = kept t o (h .0) in
+      subst (λ (u : List ℕ). Bytes (bytesOf u s l)) (sym same) (joined-bytes l s (subst (λ (u : List ℕ). OthersRefused u s l) same (h .1)) b)

@@ -1,0 +1,50 @@
+-- Demand 3 of one stream on one table whose automaton is that of some rules: the list of calls is the joined bytes in one go (Chained), and those report
+-- the one ordered list (Whole). Assumes nothing.
+use mathlib.Core.Path.{_≡_, refl, sym, subst, ap, ap₂, _∙_}
+use mathlib.Core.Logic.{_↔_}
+use mathlib.Core.Bool.{Bool, true, false}
+use mathlib.Core.List.{List, [], _∷_, _++_, map, zip, List·Memᴰ}
+use Prim.Native.Nat.{ℕ, zero, suc, _+_, _≤_, _<_}
+use native.Mathlib.Omega.{arith}
+use lib.ListN.{length, replicate}
+use Rattle.table.specs.Automaton.{Automaton, automaton}
+use Rattle.stream.specs.declared.Stream.{Stream}
+use Rattle.stream.specs.Byte.{stateAfter, closeIds}
+use Rattle.stream.specs.Calls.{fresh}
+use Rattle.regex.specs.Rule.{Rule, ByteSet}
+use Rattle.regex.specs.Ordered.{closing, pair, Pair, Ordered}
+use Rattle.demands.proofs.Carried.{Carries}
+use Rattle.demands.specs.Chain.{Item, bytesOf, reportsOf, OthersRefused, Closes, Blocks}
+use Rattle.demands.proofs.Tracked.{opens}
+use Rattle.demands.proofs.Whole.{run, entriesOf, wholeOf, whole}
+use Rattle.stream.proofs.Blocks.{taken-after}
+use Rattle.demands.proofs.Bytewise.{pairsOf, entries-pairs, run-pairs, map-append}
+use Rattle.demands.proofs.Chained.{chained, joined-bytes, closePairs}
+
+module _ (t : List ℕ) (rule : ℕ → Rule) (from : ℕ → ℕ) (tab : ℕ → ByteSet) (enc : Carries (automaton t) rule from tab) (rules : List Rule)
+    (listed : (r : Rule) → List·Memᴰ r rules ↔ ((a : ℕ) × (a < automaton t .rules) × (r ≡ rule a))) (n p : ℕ) where
+  abbrev w : Automaton
+  w = automaton t
+
+  abbrev s : Stream
+  s = fresh n p false
+
+  -- the pairs of the whole, with and without moments
+  whole-pairs : (bytes : List ℕ) → map pair (wholeOf w s bytes) ≡ pairsOf w s bytes ++ closePairs t (stateAfter w s bytes (length bytes))
+  unfolding wholeOf
+  whole-pairs bytes =
+      let last : Stream = stateAfter w s bytes (length bytes) in
+      let new : List ℕ = closeIds w last in
+      let offset : length bytes ≡ last .taken = omega (arith, taken-after w s bytes (length bytes)) in
+      map-append (entriesOf w s bytes (length bytes)) (run (closing bytes) (length bytes) new)
+      ∙ ap₂ (λ (x y : List Pair). x ++ y) (entries-pairs w s bytes refl (length bytes))
+      (run-pairs (closing bytes) (length bytes) new ∙ ap (λ (o : ℕ). zip new (replicate (length new) o)) offset)
+
+  pub ordered : (l : List Item) → OthersRefused t s l → Closes t s l → Blocks l → Ordered rules (bytesOf t s l) (reportsOf t s l)
+  ordered l h c b =
+      let bytes : List ℕ = bytesOf t s l in
+      record {
+        list = wholeOf w s bytes;
+        is-list = whole w rule from tab enc rules listed bytes (joined-bytes t l s h b) s (opens w rule from tab enc bytes s refl refl refl);
+        pairs = whole-pairs bytes ∙ sym (chained t l s refl h c);
+      }

@@ -1,0 +1,133 @@
+-- Lists of calls on one table and one state, as demand 3 takes them. Every call is one of the real ones: its answer, its lists and its words are those
+-- that its own promise cites. Assumes nothing: these are definitions.
+use mathlib.Core.Path.{_≡_}
+use mathlib.Core.Logic.{_⊎_}
+use mathlib.Core.Bool.{Bool}
+use mathlib.Core.List.{List, [], _∷_, _++_, zip}
+use Prim.Native.Nat.{ℕ, _<_, _≤_}
+use lib.ListN.{length, getD, take, drop}
+use Rattle.table.specs.Table.{emptyNumber, emptied}
+use Rattle.stream.specs.declared.Stream.{Stream}
+use Rattle.stream.specs.Calls.{opened, space, scanNumber, closeNumber, scanned, scannedIds, scannedOffsets, closed, closedIds, closedOffsets}
+use Rattle.rules.specs.Add.{addAnswer, addWords}
+use Rattle.regex.specs.Ordered.{Pair}
+
+-- the words that a call is lent: the table in hand, or other words
+pub data Lent : Type 0 where
+  this : Lent
+  those : List ℕ → Lent
+
+abbrev pub lent : List ℕ → Lent → List ℕ
+lent t this = t
+lent t (those u) = u
+
+-- "Other refused calls, of any kind and on any table or state"
+pub data Other : Type 0 where
+  emptying : Lent → Other
+  adding : Lent → (id flags : ℕ) (pattern : List ℕ) → Other
+  opening : Lent → Other
+  scanning : Lent → Stream → (block ids offsets : List ℕ) → Other
+  closing : Lent → Stream → (ids offsets : List ℕ) → Other
+
+-- its number, where t is the table in hand
+unfoldable pub numberOf : List ℕ → Other → ℕ
+numberOf t (emptying l) = emptyNumber (lent t l)
+numberOf t (adding l id flags pattern) = addAnswer (lent t l) id flags pattern .number
+numberOf t (opening l) = opened (lent t l) .number
+numberOf t (scanning l s block ids offsets) = scanNumber (lent t l) s (length block) (space ids offsets)
+numberOf t (closing l s ids offsets) = closeNumber (lent t l) s (space ids offsets)
+
+-- the table in hand afterwards: emptying and adding write to what they are lent
+unfoldable pub tableAfter : List ℕ → Other → List ℕ
+tableAfter t (emptying this) = emptied t
+tableAfter t (emptying (those u)) = t
+tableAfter t (adding this id flags pattern) = addWords t id flags pattern
+tableAfter t (adding (those u) id flags pattern) = t
+tableAfter t (opening l) = t
+tableAfter t (scanning l s block ids offsets) = t
+tableAfter t (closing l s ids offsets) = t
+
+-- a call of the list: a scan or a closing of the stream with its block and its two lent lists, or another call
+pub data Item : Type 0 where
+  scan : (block ids offsets : List ℕ) → Item
+  close : (ids offsets : List ℕ) → Item
+  other : Other → Item
+
+-- "A call's reports are the slots up to its count, as it left them."
+abbrev pub reportsIn : (count : ℕ) → List ℕ → List ℕ → List Pair
+reportsIn count ids offsets = zip (take count ids) (take count offsets)
+
+-- "Each of these calls gets the table as it was last left and, after the opening, the state that the one before returned": the bytes that the scans take,
+-- joined; the reports of all calls, joined
+unfoldable pub bytesOf : List ℕ → Stream → List Item → List ℕ
+bytesOf t s [] = []
+bytesOf t s (scan block ids offsets ∷ l) = take (scanned t s block ids offsets .taken) block ++ bytesOf t (scanned t s block ids offsets .stream) l
+bytesOf t s (close ids offsets ∷ l) = bytesOf t (closed t s ids offsets .stream) l
+bytesOf t s (other o ∷ l) = bytesOf (tableAfter t o) s l
+
+unfoldable pub reportsOf : List ℕ → Stream → List Item → List Pair
+reportsOf t s [] = []
+reportsOf t s (scan block ids offsets ∷ l) =
+    reportsIn (scanned t s block ids offsets .reports) (scannedIds t s block ids offsets) (scannedOffsets t s block ids offsets)
+    ++ reportsOf t (scanned t s block ids offsets .stream) l
+reportsOf t s (close ids offsets ∷ l) =
+    reportsIn (closed t s ids offsets .reports) (closedIds t s ids offsets) (closedOffsets t s ids offsets) ++ reportsOf t (closed t s ids offsets .stream) l
+reportsOf t s (other o ∷ l) = reportsOf (tableAfter t o) s l
+
+-- the stream that is opened on a table
+abbrev pub begun : List ℕ → Stream
+begun t = opened t .stream
+
+-- the state that the last of these calls hands on
+unfoldable pub stateOf : List ℕ → Stream → List Item → Stream
+stateOf t s [] = s
+stateOf t s (scan block ids offsets ∷ l) = stateOf t (scanned t s block ids offsets .stream) l
+stateOf t s (close ids offsets ∷ l) = stateOf t (closed t s ids offsets .stream) l
+stateOf t s (other o ∷ l) = stateOf (tableAfter t o) s l
+
+-- every other call is refused where it stands
+unfoldable pub OthersRefused : List ℕ → Stream → List Item → Type 0
+OthersRefused t s [] = Unit {0}
+OthersRefused t s (scan block ids offsets ∷ l) = OthersRefused t (scanned t s block ids offsets .stream) l
+OthersRefused t s (close ids offsets ∷ l) = OthersRefused t (closed t s ids offsets .stream) l
+OthersRefused t s (other o ∷ l) = (¬ (numberOf t o ≡ 0)) × OthersRefused (tableAfter t o) s l
+
+-- some closing of the stream is accepted
+unfoldable pub Closes : List ℕ → Stream → List Item → Type 0
+Closes t s [] = ⊥
+Closes t s (scan block ids offsets ∷ l) = Closes t (scanned t s block ids offsets .stream) l
+Closes t s (close ids offsets ∷ l) = (closed t s ids offsets .number ≡ 0) ⊎ Closes t (closed t s ids offsets .stream) l
+Closes t s (other o ∷ l) = Closes (tableAfter t o) s l
+
+-- not refused as no table, and not as a state that does not fit
+abbrev pub Fit : ℕ → Type 0
+Fit number = (¬ (number ≡ 1)) × (¬ (number ≡ 18))
+
+-- no scan or closing of the stream is refused so
+unfoldable pub AllFit : List ℕ → Stream → List Item → Type 0
+AllFit t s [] = Unit {0}
+AllFit t s (scan block ids offsets ∷ l) = Fit (scanned t s block ids offsets .number) × AllFit t (scanned t s block ids offsets .stream) l
+AllFit t s (close ids offsets ∷ l) = Fit (closed t s ids offsets .number) × AllFit t (closed t s ids offsets .stream) l
+AllFit t s (other o ∷ l) = AllFit (tableAfter t o) s l
+
+-- Offering what was not taken again: one scan for each pair of lent lists, each of the bytes that the scans before did not take, and then a closing.
+unfoldable pub offering : List ℕ → Stream → (log : List ℕ) → List (List ℕ × List ℕ) → (ids offsets : List ℕ) → List Item
+offering t s log [] ids offsets = close ids offsets ∷ []
+offering t s log (lists ∷ more) ids offsets =
+    scan log (lists .0) (lists .1)
+    ∷ offering t (scanned t s log (lists .0) (lists .1) .stream) (drop (scanned t s log (lists .0) (lists .1) .taken) log) more ids offsets
+
+-- every two lists have room for a report of each rule
+unfoldable pub Roomy : ℕ → List (List ℕ × List ℕ) → Type 0
+Roomy rules [] = Unit {0}
+Roomy rules (lists ∷ more) = (rules ≤ space (lists .0) (lists .1)) × Roomy rules more
+
+-- a block is of bytes
+abbrev pub Bytes : List ℕ → Type 0
+Bytes block = (i : ℕ) → i < length block → getD block i 0 < 256
+
+unfoldable pub Blocks : List Item → Type 0
+Blocks [] = Unit {0}
+Blocks (scan block ids offsets ∷ l) = Bytes block × Blocks l
+Blocks (close ids offsets ∷ l) = Blocks l
+Blocks (other o ∷ l) = Blocks l

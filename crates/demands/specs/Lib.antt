@@ -1,0 +1,3 @@
+-- What the demands are stated with: lists of calls, and the statements.
+pub mod Chain
+pub mod Demands

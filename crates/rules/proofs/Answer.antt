@@ -1,0 +1,194 @@
+-- The answer of an addition and the words after it, by how its checks went: one law for each way that `add` returns.
+use mathlib.Core.Path.{_≡_, refl, sym, ap, ap₂, _∙_}
+use mathlib.Core.Bool.{Bool, true, false, cond, _||_}
+use mathlib.Core.List.{List}
+use Prim.Native.Nat.{ℕ, _+_, _≤_, _<_}
+use native.Mathlib.Numerals.{add-one}
+use native.Mathlib.Omega.{arith}
+use lib.Bits.{bitAnd}
+use lib.Dec.{eqb, leb, ltb}
+use lib.ListN.{length}
+use borrow.Author.Tests.{eq-eqb, ne-eqb, le-leb, lt-leb, lt-ltb, le-ltb, leb-false, leb-true}
+use Rattle.sets.specs.Set.{any}
+use Rattle.sets.proofs.Laws.{any-at}
+use Rattle.table.specs.Layout.{maxRules, maxPositions, rulesOf, positionsOf, recordWord}
+use Rattle.table.specs.Table.{isTable, knownFlags}
+use Rattle.table.proofs.Test.{Passes, passes}
+use Rattle.regex.specs.Form.{write}
+use Rattle.regex.specs.Count.{limit, saturating}
+use Rattle.regex.proofs.Counted.{within-limit}
+use Rattle.pattern.specs.Nodes.{Syntax, treeAt}
+use Rattle.pattern.specs.Walk.{Read, tree, refused}
+use Rattle.pattern.specs.Read.{readOf, optionsOf, answerOf}
+use Rattle.pattern.specs.declared.Reading.{Reading}
+use Rattle.pattern.proofs.Answers.{accepted-tree}
+use Rattle.automaton.specs.Parts.{partsOf, formParts, noParts}
+use Rattle.automaton.specs.declared.Parts.{Parts}
+use Rattle.rules.specs.Words.{added}
+use Rattle.rules.specs.Add.{answer, unknownFlag, hasId, placed, addAnswer, withRule, addWords}
+use Rattle.rules.specs.Invariants.{firstFault}
+use Rattle.rules.specs.declared.Added.{Added}
+use Rattle.rules.proofs.Parts.{parts-are, parts-positions}
+
+-- ---- an id among the records
+
+-- none of the first a records has it
+pub NoneBefore : List ℕ → (id a : ℕ) → Type 0
+NoneBefore t id a = any a (λ b. eqb (recordWord t b 0) id) ≡ false
+
+module _ (t : List ℕ) (id : ℕ) where
+  pub none-first : NoneBefore t id 0
+  unfolding NoneBefore any
+  none-first = refl
+
+  pub none-more : (a : ℕ) → NoneBefore t id a → (recordWord t a 0 ≡ id → ⊥) → NoneBefore t id (a + 1)
+  unfolding NoneBefore any
+  none-more a n h =
+      ap (λ (k : ℕ). any k (λ b. eqb (recordWord t b 0) id)) (add-one a) ∙ ap₂ (λ (x y : Bool). x || y) n (ne-eqb (recordWord t a 0) id h)
+
+  pub id-found : (a : ℕ) → a < rulesOf t → recordWord t a 0 ≡ id → true ≡ hasId t id
+  unfolding hasId
+  id-found a h e = sym (any-at (rulesOf t) (λ b. eqb (recordWord t b 0) id) a h (eq-eqb (recordWord t a 0) id e))
+
+  pub id-missing : (a : ℕ) → a ≡ rulesOf t → NoneBefore t id a → false ≡ hasId t id
+  unfolding NoneBefore hasId
+  id-missing a e n = sym (ap (λ (k : ℕ). any k (λ b. eqb (recordWord t b 0) id)) (sym e) ∙ n)
+
+-- ---- the checks before the pattern is read
+
+module _ (t : List ℕ) (id flags : ℕ) where
+  pub fault-1 : isTable t ≡ false → 1 ≡ firstFault t id flags
+  unfolding firstFault
+  fault-1 a = rw a
+
+  pub fault-2 : isTable t ≡ true → (bitAnd flags knownFlags ≡ flags → ⊥) → 2 ≡ firstFault t id flags
+  unfolding firstFault unknownFlag
+  fault-2 a b = rw (a, ne-eqb (bitAnd flags knownFlags) flags b)
+
+  pub fault-3 : isTable t ≡ true → bitAnd flags knownFlags ≡ flags → hasId t id ≡ true → 3 ≡ firstFault t id flags
+  unfolding firstFault unknownFlag
+  fault-3 a b c = rw (a, eq-eqb (bitAnd flags knownFlags) flags b, c)
+
+  pub fault-4 : isTable t ≡ true → bitAnd flags knownFlags ≡ flags → hasId t id ≡ false → maxRules ≤ rulesOf t → 4 ≡ firstFault t id flags
+  unfolding firstFault unknownFlag
+  fault-4 a b c d = rw (a, eq-eqb (bitAnd flags knownFlags) flags b, c, le-leb maxRules (rulesOf t) d)
+
+  pub fault-0 : isTable t ≡ true → bitAnd flags knownFlags ≡ flags → hasId t id ≡ false → rulesOf t < maxRules → 0 ≡ firstFault t id flags
+  unfolding firstFault unknownFlag
+  fault-0 a b c d = rw (a, eq-eqb (bitAnd flags knownFlags) flags b, c, lt-leb maxRules (rulesOf t) d)
+
+-- ---- the answer and the words
+
+module _ (t : List ℕ) (id flags : ℕ) (s : List ℕ) where
+  -- what a call has to show
+  abbrev pub Answers : Added → List ℕ → Type 0
+  Answers r u = (r ≡ addAnswer t id flags s) × (u ≡ addWords t id flags s)
+
+  -- a refusal leaves the words as they were
+  kept : (r : Added) → r ≡ addAnswer t id flags s → (r .number ≡ 0 → ⊥) → Answers r t
+  unfolding addWords
+  kept r e n = (
+    e,
+    sym (ap (λ (b : Bool). cond b (withRule t id flags (readOf s (optionsOf flags))) t)
+        (ap (λ (d : Added). eqb (d .number) 0) (sym e) ∙ ne-eqb (r .number) 0 n)),
+  )
+
+  -- by the first checks
+  pub early : (f : ℕ) → f ≡ firstFault t id flags → (f ≡ 0 → ⊥) → Answers (answer f 0) t
+  unfolding addAnswer firstFault
+  early f e n = kept (answer f 0) (go (isTable t) (unknownFlag flags) (hasId t id) (leb maxRules (rulesOf t)) e) n
+    where
+      last : Added
+      last = placed (positionsOf t) (length s) (readOf s (optionsOf flags))
+
+      go : (a b c d : Bool) → f ≡ cond a (cond b 2 (cond c 3 (cond d 4 0))) 1
+          → answer f 0 ≡ cond a (cond b (answer 2 0) (cond c (answer 3 0) (cond d (answer 4 0) last))) (answer 1 0)
+      go true true c d z = ap (λ (k : ℕ). answer k 0) z
+      go true false true d z = ap (λ (k : ℕ). answer k 0) z
+      go true false false true z = ap (λ (k : ℕ). answer k 0) z
+      go true false false false z = absurd (n z)
+      go false b c d z = ap (λ (k : ℕ). answer k 0) z
+
+  -- the first checks are passed
+  module _ (passed : 0 ≡ firstFault t id flags) where
+    through : (a b c d : Bool) → _≡_ {A = ℕ} 0 (cond a (cond b 2 (cond c 3 (cond d 4 0))) 1) → (a ≡ true) × (b ≡ false) × (c ≡ false) × (d ≡ false)
+    through true true c d z = absurd (omega (arith, z))
+    through true false true d z = absurd (omega (arith, z))
+    through true false false true z = absurd (omega (arith, z))
+    through true false false false z = (refl, refl, refl, refl)
+    through false b c d z = absurd (omega (arith, z))
+
+    checks : (isTable t ≡ true) × (unknownFlag flags ≡ false) × (hasId t id ≡ false) × (leb maxRules (rulesOf t) ≡ false)
+    unfolding firstFault
+    checks = through (isTable t) (unknownFlag flags) (hasId t id) (leb maxRules (rulesOf t)) passed
+
+    pub passed-table : Passes t
+    passed-table = passes t (checks .0)
+
+    pub passed-few : rulesOf t < maxRules
+    passed-few = leb-false maxRules (rulesOf t) (checks .3)
+
+    then-read : addAnswer t id flags s ≡ placed (positionsOf t) (length s) (readOf s (optionsOf flags))
+    unfolding addAnswer
+    then-read = rw (checks .0, checks .1, checks .2, checks .3)
+
+    -- by the reader
+    pub unread : (r : Reading) → r ≡ answerOf (readOf s (optionsOf flags)) → (r .number ≡ 0 → ⊥) → Answers (answer (r .number) (r .place)) t
+    unfolding answerOf placed
+    unread r e n = kept (answer (r .number) (r .place)) (go (readOf s (optionsOf flags)) refl ∙ sym then-read) n
+      where
+        go : (d : Read) → readOf s (optionsOf flags) ≡ d → answer (r .number) (r .place) ≡ placed (positionsOf t) (length s) (readOf s (optionsOf flags))
+        go (refused number place) z =
+            let q : r ≡ answerOf (refused number place) = e ∙ ap answerOf z in
+            ap₂ answer (ap (λ (x : Reading). x .number) q) (ap (λ (x : Reading). x .place) q) ∙ sym (ap (placed (positionsOf t) (length s)) z)
+        go (tree x) z = absurd (n (ap (λ (x : Reading). x .number) (e ∙ ap answerOf z)))
+
+    -- the pattern is read
+    module _ (r : Reading) (is : r ≡ answerOf (readOf s (optionsOf flags))) (fine : r .number ≡ 0) (parts : Parts) (built : parts ≡ partsOf (treeAt (r .nodes) (r .root)) (positionsOf t)) where
+      x : Syntax
+      x = accepted-tree s (optionsOf flags) r is fine .0
+
+      read : readOf s (optionsOf flags) ≡ tree x
+      unfolding x
+      read = accepted-tree s (optionsOf flags) r is fine .1
+
+      few : saturating x ≤ limit
+      unfolding x
+      few = accepted-tree s (optionsOf flags) r is fine .2 .few
+
+      are : parts ≡ partsOf x (positionsOf t)
+      unfolding x
+      are = built ∙ ap (λ (y : Syntax). partsOf y (positionsOf t)) (accepted-tree s (optionsOf flags) r is fine .2 .tree)
+
+      fits-is : parts .fits ≡ leb (positionsOf t + saturating x) limit
+      unfolding partsOf formParts
+      fits-is = ap (λ (p : Parts). p .fits) are ∙ go (leb (positionsOf t + saturating x) limit)
+        where
+          go : (b : Bool) → cond b (formParts (write x) (positionsOf t)) noParts .fits ≡ b
+          go true = refl
+          go false = refl
+
+      last-answer : addAnswer t id flags s ≡ cond (ltb limit (positionsOf t + saturating x)) (answer 17 (length s)) (answer 0 0)
+      unfolding placed
+      last-answer = then-read ∙ ap (placed (positionsOf t) (length s)) read
+
+      -- its positions do not fit
+      pub too-many : parts .fits ≡ false → Answers (answer 17 (length s)) t
+      too-many e =
+          let over : limit < positionsOf t + saturating x = leb-false (positionsOf t + saturating x) limit (sym fits-is ∙ e) in
+          kept (answer 17 (length s)) (sym (last-answer ∙ ap (λ (b : Bool). cond b (answer 17 (length s)) (answer 0 0)) (lt-ltb limit (positionsOf t + saturating x) over))) (λ z. omega arith)
+
+      -- they do
+      module _ (e : parts .fits ≡ true) where
+        room : positionsOf t + saturating x ≤ limit
+        room = leb-true (positionsOf t + saturating x) limit (sym fits-is ∙ e)
+
+        pub fits-room : positionsOf t + parts .positions ≤ maxPositions
+        fits-room =
+            omega (arith, room, few, within-limit x few, ap (λ (p : Parts). p .positions) (are ∙ parts-are x (positionsOf t) room), parts-positions (write x) (positionsOf t) (omega (arith, few, within-limit x few)))
+
+        pub accepted : (u : List ℕ) → u ≡ added t id flags parts → Answers (answer 0 0) u
+        unfolding addWords withRule
+        accepted u w =
+            let z : addAnswer t id flags s ≡ answer 0 0 = last-answer ∙ ap (λ (b : Bool). cond b (answer 17 (length s)) (answer 0 0)) (le-ltb limit (positionsOf t + saturating x) room) in
+            (sym z, w ∙ ap (added t id flags) are ∙ sym (ap₂ (λ (d : Added) (o : Read). cond (eqb (d .number) 0) (withRule t id flags o) t) z read))

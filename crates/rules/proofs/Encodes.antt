@@ -1,0 +1,466 @@
+-- The automaton of some rules. `Encodes` says that a table's automaton is, rule by rule, the position automaton of the rule's written-out form, with the rules
+-- in the order of their ids and each at its own positions. It holds of no rules, and one rule more keeps it: the sets of the old positions are kept among
+-- themselves, the new rule's come from its parts, and no set of a form reaches outside the form's positions.
+use mathlib.Core.Path.{_≡_, refl, sym, ap, ap₂, _∙_, subst}
+use mathlib.Core.Bool.{Bool, false, _&&_, _||_, or-false}
+use mathlib.Core.List.{List, [], _++_, map, append-nil, List·Memᴰ, Memᴰ·of-map}
+use mathlib.Core.Logic.{_⊎_, inl, inr}
+use Prim.Native.Nat.{ℕ, suc, _+_, _-_, _*_, _≤_, _<_}
+use native.Mathlib.Nat.{not-suc-le-zero}
+use native.Mathlib.Decide.{decLt}
+use native.Mathlib.Omega.{arith}
+use lib.Dec.{ltb}
+use lib.ListN.{length, getD, take as take-words, drop, replicate, length-replicate}
+use lib.Seq.{getD-append-add}
+use borrow.Author.Tests.{lt-ltb, le-ltb, eq-eqb, ne-eqb}
+use Rattle.sets.specs.Set.{has}
+use Rattle.table.specs.Layout.{maxPositions, bytes}
+use Rattle.table.specs.Automaton.{Automaton}
+use Rattle.table.proofs.Over.{within-in, within-below}
+use Rattle.table.proofs.Emptying.{noRules}
+use Rattle.regex.specs.Form.{Form, eps, take, check, seq, alt, plus, opt, write, positions}
+use Rattle.regex.specs.Count.{nullable}
+use Rattle.regex.specs.Rule.{Assertion, ByteSet, Rule, Distinct}
+use Rattle.regex.specs.Automaton.{first, last, follow, items, Takes}
+use Rattle.regex.proofs.Logic.{false-T}
+use Rattle.regex.proofs.Computed.{first-T, last-T, follow-T, items-agree}
+use Rattle.regex.proofs.Range.{first-inside, last-inside, follow-inside, follow-inside-to}
+use Rattle.automaton.specs.Parts.{inside, atStart, atEnd, formParts}
+use Rattle.automaton.specs.declared.Parts.{Parts}
+use Rattle.rules.specs.Words.{from-to}
+use Rattle.rules.specs.Additions.{Accepted, size, ruleOf}
+use Rattle.rules.proofs.Views.{putIn, Extended}
+use Rattle.rules.proofs.Parts.{parts-positions, parts-first, parts-start, parts-last, parts-end, parts-follow, parts-takes}
+use Rattle.rules.proofs.Sorted.{Placed, at, insert, byId, byId-mem, mem-at, laid-mem, place, length-insert, place-within, smaller-before, larger-there, insert-before, insert-there, insert-after}
+
+-- ---- what is said of a table's automaton
+
+-- the written-out form of a rule
+abbrev pub formOf : Placed → Form ByteSet Assertion
+formOf p = write (p .rule .tree)
+
+-- q is one of the rule's positions
+abbrev pub Of : Placed → ℕ → Type 0
+Of p q = (p .from ≤ q) × (q < p .from + size (p .rule))
+
+-- the byte set of its position q
+abbrev pub itemOf : Placed → ℕ → ByteSet
+itemOf p q = getD (items (formOf p)) (q - p .from) []
+
+-- the rule p stands in place a of the automaton w
+pub record Stands (w : Automaton) (a : ℕ) (p : Placed) : Type 0 where
+  pub id-is : w .id a ≡ p .rule .id
+  pub flags-are : w .flags a ≡ p .rule .flags
+  -- it takes a byte at least
+  pub full : nullable (p .rule .tree) ≡ false
+  pub within : p .from + size (p .rule) ≤ w .positions
+  pub takes-is : (x q : ℕ) → x < bytes → Of p q → w .takes x q ≡ has (itemOf p q) x
+  pub first-is : (q : ℕ) → Of p q → w .first q ≡ first inside (formOf p) (p .from) q
+  pub start-is : (q : ℕ) → Of p q → w .firstAtStart q ≡ first atStart (formOf p) (p .from) q
+  -- a position of another rule does not come before it
+  pub follow-is : (o q : ℕ) → Of p q → w .follow o q ≡ follow inside (formOf p) (p .from) o q
+  -- nor end it
+  pub last-is : (q : ℕ) → q < w .positions → w .last a q ≡ last inside (formOf p) (p .from) q
+  pub end-is : (q : ℕ) → q < w .positions → w .lastAtEnd a q ≡ last atEnd (formOf p) (p .from) q
+
+-- the automaton w is that of the rules ps, by rising id
+pub record Encodes (w : Automaton) (ps : List Placed) : Type 0 where
+  pub rules : w .rules ≡ length ps
+  pub rule : (a : ℕ) → a < length ps → Stands w a (at ps a)
+  pub rising : (a b : ℕ) → a < b → b < length ps → at ps a .rule .id < at ps b .rule .id
+  -- each position is of one rule, and of no other
+  pub covered : (q : ℕ) → q < w .positions → (a : ℕ) × (a < length ps) × Of (at ps a) q
+  pub apart : (a b q : ℕ) → a < length ps → b < length ps → Of (at ps a) q → Of (at ps b) q → a ≡ b
+  -- nothing follows what is no position
+  pub rest : (o q : ℕ) → w .positions ≤ o → w .follow o q ≡ false
+
+-- ---- no set of a form reaches outside its positions
+
+module _ (f : Form ByteSet Assertion) (b : ℕ) where
+  abbrev Out : ℕ → Type 0
+  Out q = (b ≤ q) → (q < b + positions f) → ⊥
+
+  last-out : (g : Assertion → Bool) (q : ℕ) → Out q → last g f b q ≡ false
+  last-out g q n = false-T (last g f b q) (λ h. let i = last-inside g f b q (last-T g f b q .0 h) in n (i .0) (i .1))
+
+  follow-out-from : (g : Assertion → Bool) (o q : ℕ) → Out o → follow g f b o q ≡ false
+  follow-out-from g o q n = false-T (follow g f b o q) (λ h. let i = follow-inside g f b o q (follow-T g f b o q .0 h) in n (i .0) (i .1))
+
+  follow-out-to : (g : Assertion → Bool) (o q : ℕ) → Out q → follow g f b o q ≡ false
+  follow-out-to g o q n = false-T (follow g f b o q) (λ h. let i = follow-inside-to g f b o q (follow-T g f b o q .0 h) in n (i .0) (i .1))
+
+  first-out : (g : Assertion → Bool) (q : ℕ) → Out q → first g f b q ≡ false
+  first-out g q n = false-T (first g f b q) (λ h. let i = first-inside g f b q (first-T g f b q .0 h) in n (i .0) (i .1))
+
+-- ---- no rules
+
+pub encodes-none : Encodes noRules []
+unfolding noRules
+encodes-none =
+    record {
+      rules = refl;
+      rule = λ a h. absurd (not-suc-le-zero h);
+      rising = λ a b h l. absurd (not-suc-le-zero l);
+      covered = λ q h. absurd (not-suc-le-zero h);
+      apart = λ a b q h l i j. absurd (not-suc-le-zero h);
+      rest = λ o q h. refl;
+    }
+
+-- ---- one rule more
+
+module _ (w v : Automaton) (k : ℕ) (r : Accepted) (parts : Parts) (x : Extended w v k (r .id) (r .flags) parts)
+    (is : parts ≡ formParts (write (r .tree)) (w .positions)) (room : w .positions + size r ≤ maxPositions) where
+  abbrev n : ℕ
+  n = w .positions
+
+  abbrev f : Form ByteSet Assertion
+  f = write (r .tree)
+
+  abbrev new : Placed
+  new = record { rule = r; from = w .positions }
+
+  more : parts .positions ≡ positions f
+  more = ap (λ (p : Parts). p .positions) is ∙ parts-positions f n (omega arith)
+
+  grown : v .positions ≡ n + positions f
+  grown = x .positions ∙ ap (λ (m : ℕ). n + m) more
+
+  -- the new rule's sets, below 256
+  new-first : (q : ℕ) → q < maxPositions → has (parts .first) q ≡ first inside f n q
+  new-first q h = ap (λ (p : Parts). has (p .first) q) is ∙ parts-first f n (omega arith) q h
+
+  new-start : (q : ℕ) → q < maxPositions → has (parts .start) q ≡ first atStart f n q
+  new-start q h = ap (λ (p : Parts). has (p .start) q) is ∙ parts-start f n (omega arith) q h
+
+  new-last : (q : ℕ) → q < maxPositions → has (parts .last) q ≡ last inside f n q
+  new-last q h = ap (λ (p : Parts). has (p .last) q) is ∙ parts-last f n (omega arith) q h
+
+  new-end : (q : ℕ) → q < maxPositions → has (parts .«end») q ≡ last atEnd f n q
+  new-end q h = ap (λ (p : Parts). has (p .«end») q) is ∙ parts-end f n (omega arith) q h
+
+  new-follow : (o q : ℕ) → n ≤ o → o < n + positions f → q < maxPositions → v .follow o q ≡ follow inside f n o q
+  new-follow o q h l m =
+      let e : n + (o - n) ≡ o = omega arith in
+      ap (λ (j : ℕ). v .follow j q) (sym e) ∙ x .follow-new (o - n) q (omega (arith, more)) m
+      ∙ ap (λ (p : Parts). has (take-words 4 (drop ((o - n) * 4) (p .follow))) q) is ∙ parts-follow f n (omega arith) (o - n) q (omega arith) m
+      ∙ ap (λ (j : ℕ). follow inside f n j q) e
+
+  -- nothing of the new rule comes before its positions, or after them
+  low : (q : ℕ) → q < n → (n ≤ q) → (q < n + positions f) → ⊥
+  low q h a b = omega arith
+
+  high : (q : ℕ) → n + positions f ≤ q → (n ≤ q) → (q < n + positions f) → ⊥
+  high q h a b = omega arith
+
+  -- ---- an old rule
+
+  module _ (p : Placed) (a c : ℕ) (s : Stands w a p) (id-kept : v .id c ≡ w .id a) (flags-kept : v .flags c ≡ w .flags a)
+      (last-kept : (q : ℕ) → q < maxPositions → v .last c q ≡ (ltb q n && w .last a q)) (end-kept : (q : ℕ) → q < maxPositions → v .lastAtEnd c q ≡ (ltb q n && w .lastAtEnd a q)) where
+    -- its positions are old ones
+    old : (q : ℕ) → Of p q → q < n
+    old q h = omega (arith, s .within, h .1)
+
+    joined : (q : ℕ) → q < n → (b d : Bool) → d ≡ false → ((ltb q n && b) || d) ≡ b
+    joined q h b d e = ap₂ (λ (i j : Bool). (i && b) || j) (lt-ltb q n h) e ∙ or-false b
+
+    ends : (q : ℕ) → q < n + positions f → (b : Bool) (g : Assertion → Bool) → (q < n → b ≡ last g (formOf p) (p .from) q) → (ltb q n && b) ≡ last g (formOf p) (p .from) q
+    ends q h b g e = go (decLt q n)
+      where
+        go : Dec (q < n) → (ltb q n && b) ≡ last g (formOf p) (p .from) q
+        go (yes l) = ap (λ (i : Bool). i && b) (lt-ltb q n l) ∙ e l
+        go (no l) =
+            ap (λ (i : Bool). i && b) (le-ltb q n (omega arith))
+            ∙ sym (last-out (formOf p) (p .from) g q (λ i j. l (old q (i, j))))
+
+    kept-follow : (o q : ℕ) → Of p q → v .follow o q ≡ follow inside (formOf p) (p .from) o q
+    kept-follow o q h = go (decLt o n) (decLt o (n + positions f))
+      where
+        below : q < n
+        below = old q h
+
+        outside : n ≤ o → follow inside (formOf p) (p .from) o q ≡ false
+        outside l = follow-out-from (formOf p) (p .from) inside o q (λ i j. omega (arith, s .within))
+
+        go : Dec (o < n) → Dec (o < n + positions f) → v .follow o q ≡ follow inside (formOf p) (p .from) o q
+        go (yes l) m =
+            x .follow-old o q l (omega arith) ∙ ap (λ (b : Bool). b && w .follow o q) (lt-ltb q n below) ∙ s .follow-is o q h
+        go (no l) (yes m) =
+            new-follow o q (omega arith) m (omega arith) ∙ follow-out-to f n inside o q (low q below) ∙ sym (outside (omega arith))
+        go (no l) (no m) = x .follow-rest o q (omega (arith, more)) ∙ s .follow-is o q h
+
+    stands-old : Stands v c p
+    stands-old =
+        record {
+          id-is = id-kept ∙ s .id-is;
+          flags-are = flags-kept ∙ s .flags-are;
+          full = s .full;
+          within = omega (arith, s .within, grown);
+          takes-is = λ y q l h.
+              let below : q < n = old q h in
+              x .takes y q l (omega arith)
+              ∙ joined q below (w .takes y q) (from-to n (n + parts .positions) q && has (take-words 4 (drop ((q - n) * 4) (parts .takes))) y)
+              (ap (λ (b : Bool). b && has (take-words 4 (drop ((q - n) * 4) (parts .takes))) y) (within-below n (n + parts .positions) q below))
+              ∙ s .takes-is y q l h;
+          first-is = λ q h.
+              let below : q < n = old q h in
+              x .first q (omega arith)
+              ∙ joined q below (w .first q) (has (parts .first) q) (new-first q (omega arith) ∙ first-out f n inside q (low q below))
+              ∙ s .first-is q h;
+          start-is = λ q h.
+              let below : q < n = old q h in
+              x .firstAtStart q (omega arith)
+              ∙ joined q below (w .firstAtStart q) (has (parts .start) q) (new-start q (omega arith) ∙ first-out f n atStart q (low q below))
+              ∙ s .start-is q h;
+          follow-is = kept-follow;
+          last-is = λ q h. last-kept q (omega (arith, grown)) ∙ ends q (omega (arith, grown)) (w .last a q) inside (λ l. s .last-is q l);
+          end-is = λ q h. end-kept q (omega (arith, grown)) ∙ ends q (omega (arith, grown)) (w .lastAtEnd a q) atEnd (λ l. s .end-is q l);
+        }
+
+  -- ---- the new rule
+
+  module _ (full : nullable (r .tree) ≡ false) (id-new : v .id k ≡ r .id) (flags-new : v .flags k ≡ r .flags)
+      (last-here : (q : ℕ) → q < maxPositions → v .last k q ≡ has (parts .last) q) (end-here : (q : ℕ) → q < maxPositions → v .lastAtEnd k q ≡ has (parts .«end») q)
+      (nothing-after : (o q : ℕ) → n ≤ o → w .follow o q ≡ false) where
+    -- an old set has none of its positions
+    masked : (q : ℕ) → n ≤ q → (b d : Bool) → ((ltb q n && b) || d) ≡ d
+    masked q h b d = ap (λ (i : Bool). (i && b) || d) (le-ltb q n h)
+
+    own-follow : (o q : ℕ) → Of new q → v .follow o q ≡ follow inside f n o q
+    own-follow o q h = go (decLt o n) (decLt o (n + positions f))
+      where
+        go : Dec (o < n) → Dec (o < n + positions f) → v .follow o q ≡ follow inside f n o q
+        go (yes l) m =
+            x .follow-old o q l (omega arith) ∙ ap (λ (b : Bool). b && w .follow o q) (le-ltb q n (h .0)) ∙ sym (follow-out-from f n inside o q (low o l))
+        go (no l) (yes m) = new-follow o q (omega arith) m (omega arith)
+        go (no l) (no m) =
+            x .follow-rest o q (omega (arith, more)) ∙ nothing-after o q (omega arith) ∙ sym (follow-out-from f n inside o q (high o (omega arith)))
+
+    stands-new : Stands v k new
+    stands-new =
+        record {
+          id-is = id-new;
+          flags-are = flags-new;
+          full = full;
+          within = omega (arith, grown);
+          takes-is = λ y q l h.
+              x .takes y q l (omega arith)
+              ∙ masked q (h .0) (w .takes y q) (from-to n (n + parts .positions) q && has (take-words 4 (drop ((q - n) * 4) (parts .takes))) y)
+              ∙ ap (λ (b : Bool). b && has (take-words 4 (drop ((q - n) * 4) (parts .takes))) y) (within-in n (n + parts .positions) q (h .0) (omega (arith, more, h .1)))
+              ∙ ap (λ (p : Parts). has (take-words 4 (drop ((q - n) * 4) (p .takes))) y) is ∙ parts-takes f n (omega arith) (q - n) y (omega arith) l;
+          first-is = λ q h. x .first q (omega arith) ∙ masked q (h .0) (w .first q) (has (parts .first) q) ∙ new-first q (omega arith);
+          start-is = λ q h. x .firstAtStart q (omega arith) ∙ masked q (h .0) (w .firstAtStart q) (has (parts .start) q) ∙ new-start q (omega arith);
+          follow-is = own-follow;
+          last-is = λ q h. last-here q (omega (arith, grown)) ∙ new-last q (omega (arith, grown));
+          end-is = λ q h. end-here q (omega (arith, grown)) ∙ new-end q (omega (arith, grown));
+        }
+
+  -- ---- all the rules
+
+  module _ (ps : List Placed) (e : Encodes w ps) (here : place new ps ≡ k) (full : nullable (r .tree) ≡ false)
+      (fresh : (a : ℕ) → a < length ps → at ps a .rule .id ≡ r .id → ⊥) where
+    abbrev qs : List Placed
+    qs = insert new ps
+
+    long : length qs ≡ length ps + 1
+    long = length-insert new ps
+
+    k-le : k ≤ length ps
+    k-le = subst (λ (j : ℕ). j ≤ length ps) here (place-within new ps)
+
+    -- the rule in each place
+    at-before : (a : ℕ) → a < k → at qs a ≡ at ps a
+    at-before a h = insert-before new ps a (omega (arith, here))
+
+    at-here : (a : ℕ) → a ≡ k → at qs a ≡ new
+    at-here a z = ap (at qs) (z ∙ sym here) ∙ insert-there new ps
+
+    at-after : (a : ℕ) → k < a → at qs a ≡ at ps (a - 1)
+    at-after a h = let z : a ≡ suc (a - 1) = omega arith in ap (at qs) z ∙ insert-after new ps (a - 1) (omega (arith, here))
+
+    put-before : {A : Type 0} (y : A) (g : ℕ → A) (a : ℕ) → a < k → putIn k y g a ≡ g a
+    put-before y g a h = rw (lt-ltb a k h)
+
+    put-here : {A : Type 0} (y : A) (g : ℕ → A) → putIn k y g k ≡ y
+    put-here y g = rw (le-ltb k k (omega arith), eq-eqb k k refl)
+
+    put-after : {A : Type 0} (y : A) (g : ℕ → A) (a : ℕ) → k < a → putIn k y g a ≡ g (a - 1)
+    put-after y g a h = rw (le-ltb a k (omega arith), ne-eqb a k (λ z. omega arith))
+
+    rule-in : (a : ℕ) → a < length ps + 1 → Stands v a (at qs a)
+    rule-in a h = go (decLt a k) (decLt k a)
+      where
+        go : Dec (a < k) → Dec (k < a) → Stands v a (at qs a)
+        go (yes l) m =
+            subst (Stands v a) (sym (at-before a l))
+            (stands-old (at ps a) a a (e .rule a (omega (arith, k-le)))
+            (x .id-in a (omega (arith, e .rules)) ∙ put-before (r .id) (w .id) a l)
+            (x .flags-in a (omega (arith, e .rules)) ∙ put-before (r .flags) (w .flags) a l)
+            (λ q i. x .last a q (omega (arith, e .rules)) i ∙ put-before (has (parts .last) q) (λ b. ltb q n && w .last b q) a l)
+            (λ q i. x .lastAtEnd a q (omega (arith, e .rules)) i ∙ put-before (has (parts .«end») q) (λ b. ltb q n && w .lastAtEnd b q) a l))
+        go (no l) (yes m) =
+            subst (Stands v a) (sym (at-after a m))
+            (stands-old (at ps (a - 1)) (a - 1) a (e .rule (a - 1) (omega arith))
+            (x .id-in a (omega (arith, e .rules)) ∙ put-after (r .id) (w .id) a m)
+            (x .flags-in a (omega (arith, e .rules)) ∙ put-after (r .flags) (w .flags) a m)
+            (λ q i. x .last a q (omega (arith, e .rules)) i ∙ put-after (has (parts .last) q) (λ b. ltb q n && w .last b q) a m)
+            (λ q i. x .lastAtEnd a q (omega (arith, e .rules)) i ∙ put-after (has (parts .«end») q) (λ b. ltb q n && w .lastAtEnd b q) a m))
+        go (no l) (no m) =
+            let z : k ≡ a = omega arith in
+            subst (λ (b : ℕ). Stands v b (at qs b)) z
+            (subst (Stands v k) (sym (at-here k refl))
+            (stands-new full
+            (x .id-in k (omega (arith, e .rules)) ∙ put-here (r .id) (w .id))
+            (x .flags-in k (omega (arith, e .rules)) ∙ put-here (r .flags) (w .flags))
+            (λ q i. x .last k q (omega (arith, e .rules)) i ∙ put-here (has (parts .last) q) (λ b. ltb q n && w .last b q))
+            (λ q i. x .lastAtEnd k q (omega (arith, e .rules)) i ∙ put-here (has (parts .«end») q) (λ b. ltb q n && w .lastAtEnd b q))
+            (e .rest)))
+
+    -- ids rise
+    id-before : (a : ℕ) → a < k → (at qs a .rule .id ≡ at ps a .rule .id) × (at ps a .rule .id < r .id)
+    id-before a h = (ap (λ (p : Placed). p .rule .id) (at-before a h), smaller-before new ps a (omega (arith, here)))
+
+    above : (a : ℕ) → k ≤ a → a < length ps → r .id < at ps a .rule .id
+    above a h l = go (decLt k a) (decLt (r .id) (at ps a .rule .id))
+      where
+        least : r .id ≤ at ps k .rule .id
+        least = subst (λ (j : ℕ). r .id ≤ at ps j .rule .id) here (larger-there new ps (omega (arith, here)))
+
+        go : Dec (k < a) → Dec (r .id < at ps a .rule .id) → r .id < at ps a .rule .id
+        go c (yes d) = d
+        go (yes c) (no d) = omega (arith, least, e .rising k a c l)
+        go (no c) (no d) =
+            let z : k ≡ a = omega arith in
+            absurd (fresh a l (omega (arith, subst (λ (j : ℕ). r .id ≤ at ps j .rule .id) z least)))
+
+    id-after : (a : ℕ) → k < a → a < length ps + 1 → (at qs a .rule .id ≡ at ps (a - 1) .rule .id) × (r .id < at ps (a - 1) .rule .id)
+    id-after a h l = (ap (λ (p : Placed). p .rule .id) (at-after a h), above (a - 1) (omega arith) (omega arith))
+
+    id-here : (a : ℕ) → a ≡ k → at qs a .rule .id ≡ r .id
+    id-here a z = ap (λ (p : Placed). p .rule .id) (at-here a z)
+
+    rises : (a b : ℕ) → a < b → b < length ps + 1 → at qs a .rule .id < at qs b .rule .id
+    rises a b h l = go (decLt b k) (decLt k b) (decLt a k) (decLt k a)
+      where
+        go : Dec (b < k) → Dec (k < b) → Dec (a < k) → Dec (k < a) → at qs a .rule .id < at qs b .rule .id
+        go (yes c) d i j = omega (arith, id-before a (omega arith) .0, id-before b c .0, e .rising a b h (omega (arith, k-le)))
+        go (no c) (no d) i j = omega (arith, id-before a (omega arith), id-here b (omega arith))
+        go (no c) (yes d) (yes i) j = omega (arith, id-before a i, id-after b d l)
+        go (no c) (yes d) (no i) (no j) = omega (arith, id-here a (omega arith), id-after b d l)
+        go (no c) (yes d) (no i) (yes j) = omega (arith, id-after a j (omega arith) .0, id-after b d l .0, e .rising (a - 1) (b - 1) (omega arith) (omega arith))
+
+    -- old positions are of old rules, and new ones of the new rule
+    old-place : (a q : ℕ) → a < length ps + 1 → q < n → Of (at qs a) q
+        → (c : ℕ) × (c < length ps) × Of (at ps c) q × (((a < k) × (c ≡ a)) ⊎ ((k < a) × (suc c ≡ a)))
+    old-place a q h l o = go (decLt a k) (decLt k a)
+      where
+        go : Dec (a < k) → Dec (k < a) → (c : ℕ) × (c < length ps) × Of (at ps c) q × (((a < k) × (c ≡ a)) ⊎ ((k < a) × (suc c ≡ a)))
+        go (yes c) d = (a, omega (arith, k-le), subst (λ (p : Placed). Of p q) (at-before a c) o, inl (c, refl))
+        go (no c) (yes d) = (a - 1, omega arith, subst (λ (p : Placed). Of p q) (at-after a d) o, inr (d, omega arith))
+        go (no c) (no d) = let i = subst (λ (p : Placed). Of p q) (at-here a (omega arith)) o in absurd (omega (arith, i .0))
+
+    new-place : (a q : ℕ) → a < length ps + 1 → n ≤ q → Of (at qs a) q → a ≡ k
+    new-place a q h l o = go (decLt a k) (decLt k a)
+      where
+        go : Dec (a < k) → Dec (k < a) → a ≡ k
+        go (yes c) d =
+            let i = subst (λ (p : Placed). Of p q) (at-before a c) o in
+            absurd (omega (arith, e .rule a (omega (arith, k-le)) .within, i .1))
+        go (no c) (yes d) =
+            let i = subst (λ (p : Placed). Of p q) (at-after a d) o in
+            absurd (omega (arith, e .rule (a - 1) (omega arith) .within, i .1))
+        go (no c) (no d) = omega arith
+
+    one-place : (a b q : ℕ) → a < length ps + 1 → b < length ps + 1 → Of (at qs a) q → Of (at qs b) q → a ≡ b
+    one-place a b q h l i j = go (decLt q n)
+      where
+        go : Dec (q < n) → a ≡ b
+        go (no c) = new-place a q h (omega arith) i ∙ sym (new-place b q l (omega arith) j)
+        go (yes c) =
+            let s = old-place a q h c i in
+            let t = old-place b q l c j in
+            same (s .0) (t .0) (s .3) (t .3) (e .apart (s .0) (t .0) q (s .1) (t .1) (s .2) (t .2))
+          where
+            same : (c d : ℕ) → (((a < k) × (c ≡ a)) ⊎ ((k < a) × (suc c ≡ a))) → (((b < k) × (d ≡ b)) ⊎ ((k < b) × (suc d ≡ b))) → c ≡ d → a ≡ b
+            same c d (inl y) (inl z) g = omega arith
+            same c d (inl y) (inr z) g = absurd (omega arith)
+            same c d (inr y) (inl z) g = absurd (omega arith)
+            same c d (inr y) (inr z) g = omega arith
+
+    some-place : (q : ℕ) → q < n + positions f → (a : ℕ) × (a < length ps + 1) × Of (at qs a) q
+    some-place q h = go (decLt q n)
+      where
+        go : Dec (q < n) → (a : ℕ) × (a < length ps + 1) × Of (at qs a) q
+        go (no c) = (k, omega (arith, k-le), subst (λ (p : Placed). Of p q) (sym (at-here k refl)) (omega arith, h))
+        go (yes c) = let s = e .covered q c in found (s .0) (s .1) (s .2) (decLt (s .0) k)
+          where
+            found : (a : ℕ) → a < length ps → Of (at ps a) q → Dec (a < k) → (a : ℕ) × (a < length ps + 1) × Of (at qs a) q
+            found a i o (yes d) = (a, omega arith, subst (λ (p : Placed). Of p q) (sym (at-before a d)) o)
+            found a i o (no d) =
+                (suc a, omega arith, subst (λ (p : Placed). Of p q) (sym (insert-after new ps a (omega (arith, here)))) o)
+
+    nothing-past : (o q : ℕ) → n + positions f ≤ o → v .follow o q ≡ false
+    nothing-past o q h = x .follow-rest o q (omega (arith, more)) ∙ e .rest o q (omega arith)
+
+    pub encodes-more : Encodes v (insert (record { rule = r; from = w .positions }) ps)
+    encodes-more =
+        record {
+          rules = x .rules ∙ ap (λ (m : ℕ). m + 1) (e .rules) ∙ sym long;
+          rule = λ a h. rule-in a (omega (arith, long));
+          rising = λ a b h l. rises a b h (omega (arith, long));
+          covered = λ q h. let s = some-place q (omega (arith, grown)) in (s .0, omega (arith, long, s .1), s .2);
+          apart = λ a b q h l i j. one-place a b q (omega (arith, long)) (omega (arith, long)) i j;
+          rest = λ o q h. nothing-past o q (omega (arith, grown));
+        }
+
+-- ---- as the theory of the position automaton wants it
+
+-- a form's positions take the byte sets of its items
+pub takes-same : (f : Form ByteSet Assertion) (b : ℕ) (g h : ℕ → ByteSet) → ((q : ℕ) → b ≤ q → q < b + positions f → g q ≡ h q) → Takes g f b → Takes h f b
+unfolding Takes positions
+takes-same eps b g h e t = tt
+takes-same (take c) b g h e t = sym (e b (omega arith) (omega arith)) ∙ t
+takes-same (check a) b g h e t = tt
+takes-same (seq x y) b g h e t =
+    (takes-same x b g h (λ q i j. e q i (omega arith)) (t .0), takes-same y (b + positions x) g h (λ q i j. e q (omega arith) (omega arith)) (t .1))
+takes-same (alt x y) b g h e t =
+    (takes-same x b g h (λ q i j. e q i (omega arith)) (t .0), takes-same y (b + positions x) g h (λ q i j. e q (omega arith) (omega arith)) (t .1))
+takes-same (plus x) b g h e t = takes-same x b g h e t
+takes-same (opt x) b g h e t = takes-same x b g h e t
+
+pub items-taken : (f : Form ByteSet Assertion) (b : ℕ) → Takes (λ q. getD (items f) (q - b) []) f b
+items-taken f b =
+    takes-same f b (λ q. getD (before ++ (items f ++ [])) q []) (λ q. getD (items f) (q - b) []) same
+    (subst (Takes (λ q. getD (before ++ (items f ++ [])) q []) f) (length-replicate b []) (items-agree [] f before []))
+  where
+    before : List ByteSet
+    before = replicate b []
+
+    same : (q : ℕ) → b ≤ q → q < b + positions f → getD (before ++ (items f ++ [])) q [] ≡ getD (items f) (q - b) []
+    same q h l =
+        let e : q ≡ length before + (q - b) = omega (arith, length-replicate {A = ByteSet} b []) in
+        ap (λ (k : ℕ). getD (before ++ (items f ++ [])) k []) e ∙ getD-append-add before (items f ++ []) (q - b) []
+        ∙ ap (λ (l : List ByteSet). getD l (q - b) []) (append-nil (items f))
+
+-- ids tell the rules apart
+pub distinct : (w : Automaton) (rs : List Accepted) → Encodes w (byId rs) → Distinct (map ruleOf rs)
+distinct w rs e r s m n h =
+    let x = Memᴰ·of-map ruleOf rs m in
+    let y = Memᴰ·of-map ruleOf rs n in
+    let p = placed-at (x .0) (x .1) in
+    let q = placed-at (y .0) (y .1) in
+    let same : p .0 ≡ q .0 = one (p .0) (q .0) (p .1) (q .1) (ap (λ (a : Accepted). a .id) (p .2) ∙ ap (λ (z : Rule). z .id) (x .2) ∙ h ∙ sym (ap (λ (z : Rule). z .id) (y .2)) ∙ sym (ap (λ (a : Accepted). a .id) (q .2))) in
+    sym (x .2) ∙ ap ruleOf (sym (p .2) ∙ ap (λ (a : ℕ). at (byId rs) a .rule) same ∙ q .2) ∙ y .2
+  where
+    placed-at : (a : Accepted) → List·Memᴰ a rs → (k : ℕ) × (k < length (byId rs)) × (at (byId rs) k .rule ≡ a)
+    placed-at a m =
+        let l = laid-mem 0 rs m in
+        let k = mem-at (byId rs) (byId-mem rs (l .1)) in
+        (k .0, k .1, ap (λ (p : Placed). p .rule) (k .2))
+
+    one : (a b : ℕ) → a < length (byId rs) → b < length (byId rs) → at (byId rs) a .rule .id ≡ at (byId rs) b .rule .id → a ≡ b
+    one a b i j z = go (decLt a b) (decLt b a)
+      where
+        go : Dec (a < b) → Dec (b < a) → a ≡ b
+        go (yes c) d = absurd (omega (arith, e .rising a b c j))
+        go (no c) (yes d) = absurd (omega (arith, e .rising b a d i))
+        go (no c) (no d) = omega arith

@@ -1,0 +1,82 @@
+-- Lists of additions: which rules they leave accepted, what the next answer is, and the words. What is accepted is said without a word of the table.
+-- Assumes nothing: these are definitions.
+use mathlib.Core.Bool.{Bool, false, cond, _||_}
+use mathlib.Core.List.{List, [], _∷_, _++_}
+use Prim.Native.Nat.{ℕ, _+_, _/_, _%_, _^_, _<_}
+use lib.Dec.{eqb, leb}
+use lib.ListN.{length}
+use Rattle.table.specs.Layout.{maxRules, positionsOf}
+use Rattle.regex.specs.Form.{write, positions}
+use Rattle.regex.specs.Rule.{Rule}
+use Rattle.pattern.specs.Nodes.{Syntax}
+use Rattle.pattern.specs.Walk.{Read, tree, refused}
+use Rattle.pattern.specs.Read.{readOf, optionsOf}
+use Rattle.automaton.specs.Parts.{partsOf}
+use Rattle.rules.specs.Words.{added}
+use Rattle.rules.specs.Add.{answer, unknownFlag, placed, addWords}
+use Rattle.rules.specs.declared.Added.{Added}
+
+-- an addition: "Ids: any 32-bit number", flags, pattern bytes
+pub record Addition : Type 0 where
+  pub id : ℕ
+  pub narrow : id < 2 ^ 32
+  pub flags : ℕ
+  pub pattern : List ℕ
+
+-- an accepted rule: its id, its flags, and the tree that its pattern reads as
+pub record Accepted : Type 0 where
+  pub id : ℕ
+  pub flags : ℕ
+  pub tree : Syntax
+
+-- as a rule that has a meaning: flag 8 is "single match"
+abbrev pub ruleOf : Accepted → Rule
+ruleOf r = record { id = r .id; single = eqb (r .flags / 8 % 2) 1; tree = r .tree }
+
+-- a rule's positions, and those of all the rules
+abbrev pub size : Accepted → ℕ
+size r = positions (write (r .tree))
+
+unfoldable pub used : List Accepted → ℕ
+used [] = 0
+used (r ∷ rs) = size r + used rs
+
+-- one of the rules has the id
+unfoldable pub taken : List Accepted → ℕ → Bool
+taken [] id = false
+taken (r ∷ rs) id = eqb (r .id) id || taken rs id
+
+-- what the pattern of an addition reads as, under its flags
+abbrev pub readingOf : Addition → Read
+readingOf a = readOf (a .pattern) (optionsOf (a .flags))
+
+-- The answer of the next addition to a table with these rules: 2, 3, 4, then the reader's 5 to 16, then 17.
+unfoldable pub nextAnswer : List Accepted → Addition → Added
+nextAnswer rs a =
+    cond (unknownFlag (a .flags)) (answer 2 0)
+    (cond (taken rs (a .id)) (answer 3 0)
+    (cond (leb maxRules (length rs)) (answer 4 0)
+    (placed (used rs) (length (a .pattern)) (readingOf a))))
+
+-- the rules after it: an accepted one comes last, a refused one changes nothing
+unfoldable pub withNew : List Accepted → Addition → Read → List Accepted
+withNew rs a (refused number place) = rs
+withNew rs a (tree x) = rs ++ (record { id = a .id; flags = a .flags; tree = x } ∷ [])
+
+unfoldable pub afterNext : List Accepted → Addition → List Accepted
+afterNext rs a = cond (eqb (nextAnswer rs a .number) 0) (withNew rs a (readingOf a)) rs
+
+-- the accepted rules of a list of additions, in order, to a table that has rs already
+unfoldable pub acceptedAfter : List Accepted → List Addition → List Accepted
+acceptedAfter rs [] = rs
+acceptedAfter rs (a ∷ l) = acceptedAfter (afterNext rs a) l
+
+-- the words after a list of additions, each as its call leaves them
+unfoldable pub addAll : List ℕ → List Addition → List ℕ
+addAll t [] = t
+addAll t (a ∷ l) = addAll (addWords t (a .id) (a .flags) (a .pattern)) l
+
+-- the words of some rules, each added to those before it
+unfoldable pub encode : List ℕ → List Accepted → List ℕ
+encode t [] = t
+encode t (r ∷ rs) = encode (added t (r .id) (r .flags) (partsOf (r .tree) (positionsOf t))) rs

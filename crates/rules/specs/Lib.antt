@@ -1,0 +1,6 @@
+-- What an addition gives: Words (the table with one rule more), Add (the answer), Additions (lists of additions). Apart from these, Invariants has what the
+-- private functions promise one another.
+pub mod Words
+pub mod Add
+pub mod Additions
+pub mod Invariants
