@@ -1,0 +1,6 @@
+-- `Laws` has what callers cite; the others have what the proofs of the functions share.
+pub mod Suffixes
+pub mod Reading
+pub mod Fields
+pub mod Decimals
+pub mod Laws

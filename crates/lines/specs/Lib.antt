@@ -1,0 +1,3 @@
+-- What the program's text functions give.
+pub mod Lines
+pub mod Numbers
