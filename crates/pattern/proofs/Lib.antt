@@ -10,3 +10,4 @@ pub mod Counts
 pub mod Whole
 pub mod Answers
 pub mod Rows
+pub mod Accepted

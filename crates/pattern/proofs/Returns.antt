@@ -21,13 +21,13 @@ use Rattle.tokens.specs.declared.Lexeme.{Lexeme}
 use Rattle.tokens.specs.Class.{classOf}
 use Rattle.tokens.specs.Number.{cap}
 use Rattle.tokens.specs.Token.{lexemeOf, itemSet}
+use Rattle.tokens.proofs.Suffixes.{inside}
 use Rattle.regex.specs.Tree.{empty, item, assertion, then, or, repeat}
 use Rattle.regex.specs.Rule.{at-start, at-end}
 use Rattle.pattern.specs.Nodes.{Syntax, word, treeAt, width, lay, extraOf, numberOf}
 use Rattle.pattern.specs.Walk.{nothing, single, Frame, State, Read, refused, chained, chosen, one, closing}
 use Rattle.pattern.specs.Invariants.{Tidy, lent, Room, state, from, groupEnds, branchEnds, classEnds, refusal, got, onward, Read-up, Said, SaysBranches, SaysSequence, goesOn, SaysItem, SaysOne, SaysClass, SaysQuantified, SaidBranches, SaidSequence, SaidItem, SaidOne, SaidClass, SaidQuantified, faultFor, faultOf}
 use Rattle.pattern.specs.declared.readers.Got.{Got}
-use Rattle.pattern.proofs.Base.{inside}
 use Rattle.pattern.proofs.Trees.{laid-tree, both-laid, one-laid, number-extra, extra-number}
 use Rattle.pattern.proofs.Sets.{words-item, Closed, class-closed}
 use Rattle.pattern.proofs.Steps.{lex, At, last, at-token, Ends, Other, from-one, from-set, from-open, from-deep, from-class, from-fault, from-repeat, from-repeat-fault, free-other, branch-bar, branch-last, group-closes, group-open, past, from-end}
@@ -76,6 +76,32 @@ same-long s a b lo n room t g r l = ap length (r .words) ∙ length-sets a n (la
 abbrev Joins : ℕ → Got → Got → Type 0
 Joins op g h = (h .n < lent) × (op < 8) × (g .root < h .n) × (h .root < h .n)
 
+-- a node without children, at the first free word
+module _ (P : Syntax → Type 0) (s a : List ℕ) (at n more : ℕ) (o : Options) (room : Room s a at n more) (some : 1 ≤ more) where
+  leaf-said : (t : Syntax) (w : ℕ) → lay n t ≡ w ∷ [] → width t ≡ 1 → Tidy t → P t → Said P s a (set a n w) at n (n + 6 * (length s - at) + more) (got at (n + 1) n o)
+  leaf-said t w l k d p =
+      said-yes P s a (set a n w) at n (n + 6 * (length s - at) + more) (got at (n + 1) n o) t (room .long) (omega (arith, room .space))
+      (record { words = rw l; tidy = d; count = omega arith; top = refl; on = omega arith; inside = room .inside; space = omega arith }) p
+
+-- a node above two trees, of which the second was read after the first
+module _ (s a b c : List ℕ) (at n : ℕ) (g h : Got) (x y : Syntax) (lx rx ly ry : ℕ) (X : Read-up s a b lx n rx x g) (Y : Read-up s b c ly (g .n) ry y h) where
+  both-up : (op : ℕ) (t : Syntax) (room : ℕ)
+      → lay n t ≡ (lay n x ++ lay (n + width x) y) ++ (word op (n + width x - 1) (n + width x + width y - 1) 0 ∷ [])
+      → width t ≡ width x + width y + 1 → Tidy t → at ≤ h .at → h .n + 1 + 6 * (length s - h .at) ≤ room
+      → Read-up s a (set c (h .n) (word op (g .root) (h .root) 0)) at n room t (got (h .at) (h .n + 1) (h .n) (h .options))
+  both-up op t room l k d o m =
+      let p : n + width x - 1 ≡ g .root = omega (arith, X .count, X .top) in
+      let q : n + width x + width y - 1 ≡ h .root = omega (arith, X .count, Y .count, Y .top) in
+      record {
+        words = both-laid x y a b c n (g .n) (h .n) (word op (g .root) (h .root) 0) (X .words) (Y .words) (X .count) (Y .count) (X .tidy) (Y .tidy) ∙ ap (sets a n) (sym (rw (p, q) at l));
+        tidy = d;
+        count = omega (arith, X .count, Y .count);
+        top = refl;
+        on = o;
+        inside = Y .inside;
+        space = m;
+      }
+
 -- ---- a sequence
 
 module _ (s a : List ℕ) (at d : ℕ) (o : Options) (n : ℕ) (room : Room s a at n 1) where
@@ -83,9 +109,7 @@ module _ (s a : List ℕ) (at d : ℕ) (o : Options) (n : ℕ) (room : Room s a 
   unfolding onward width lay Tidy
   seq-end b g l e u eg eb =
       rw (eg, eb)
-      (said-yes (SaysSequence s at d o (got at (n + 1) n o)) s a (set a n (word 0 0 0 0)) at n (n + 6 * (length s - at) + 1) (got at (n + 1) n o) empty
-      (room .long) (omega (arith, room .space))
-      (record { words = refl; tidy = tt; count = refl; top = refl; on = omega arith; inside = room .inside; space = omega arith })
+      (leaf-said (SaysSequence s at d o (got at (n + 1) n o)) s a at n 1 o room (omega arith) empty (word 0 0 0 0) refl refl tt
       (λ st al it z. from-end s at st al it o (l .fault) (l .size) (l .token) e u))
 
   pub seq-set : (b : List ℕ) (g : Got) (l : Lexeme) (i : Options) → lexemeOf o (drop at s) ≡ l → l .token ≡ Set i → SaidSequence s a b (at + l .size) d i n g → SaidSequence s a b at d o n g
@@ -123,23 +147,12 @@ module _ (s a : List ℕ) (at d : ℕ) (o : Options) (n : ℕ) (room : Room s a 
     unfolding onward chained width lay Tidy
     seq-both yes-h e r er ee =
         let x : Syntax = treeAt b (g .root) in
-        let y : Syntax = treeAt c (h .root) in
         let X = I .reads yes-g in
         let Y = S .reads yes-h in
-        let p : n + width x - 1 ≡ g .root = omega (arith, X .count, X .top) in
-        let q : n + width x + width y - 1 ≡ h .root = omega (arith, X .count, Y .count, Y .top) in
         rw (er, ee)
-        (said-yes (SaysSequence s at d o (got (h .at) (h .n + 1) (h .n) (h .options))) s a (set c (h .n) (word 3 (g .root) (h .root) 0)) at n (n + 6 * (length s - at) + 1) (got (h .at) (h .n + 1) (h .n) (h .options)) (then x y)
+        (said-yes (SaysSequence s at d o (got (h .at) (h .n + 1) (h .n) (h .options))) s a _ at n _ _ (then x (treeAt c (h .root)))
         (room .long) (omega (arith, room .space, X .space, Y .space, X .on))
-        (record {
-          words = rw (p, q) (both-laid x y a b c n (g .n) (h .n) (word 3 (g .root) (h .root) 0) (X .words) (Y .words) (X .count) (Y .count) (X .tidy) (Y .tidy));
-          tidy = (X .tidy, Y .tidy);
-          count = omega (arith, X .count, Y .count);
-          top = refl;
-          on = omega (arith, X .on, Y .on);
-          inside = Y .inside;
-          space = omega (arith, X .space, Y .space, X .on, X .inside);
-        })
+        (both-up s a b c at n g h x (treeAt c (h .root)) _ _ _ _ X Y 3 (then x (treeAt c (h .root))) _ refl refl (X .tidy, Y .tidy) (omega (arith, X .on, Y .on)) (omega (arith, X .space, Y .space, X .on, X .inside)))
         (λ st al it z. I .says st al it z ∙ on-ok g _ yes-g ∙ S .says st al (x ∷ it) z ∙ on-ok h _ yes-h))
 
 -- ---- branches
@@ -181,31 +194,20 @@ module _ (s a : List ℕ) (at d : ℕ) (o : Options) (n : ℕ) (room : Room s a 
       alt-joins z =
           let X = S .reads yes-g in
           let Y = B .reads z in
-          let i = inside s (g .at) 124 bar (omega arith) in
+          let i = inside s (g .at) (λ z. omega arith) in
           (omega (arith, room .space, X .space, Y .space, X .on), omega arith, omega (arith, X .top, Y .count), omega (arith, Y .top))
 
       pub alt-both : h .fault ≡ 0 → (e : List ℕ) (r : Got) → r ≡ got (h .at) (h .n + 1) (h .n) (h .options) → e ≡ set c (h .n) (word 4 (g .root) (h .root) 0) → SaidBranches s a e at d o n r
       unfolding onward chosen width lay Tidy
       alt-both yes-h e r er ee =
           let x : Syntax = treeAt b (g .root) in
-          let y : Syntax = treeAt c (h .root) in
           let X = S .reads yes-g in
           let Y = B .reads yes-h in
-          let i = inside s (g .at) 124 bar (omega arith) in
-          let p : n + width x - 1 ≡ g .root = omega (arith, X .count, X .top) in
-          let q : n + width x + width y - 1 ≡ h .root = omega (arith, X .count, Y .count, Y .top) in
+          let i = inside s (g .at) (λ z. omega arith) in
           rw (er, ee)
-          (said-yes (SaysBranches s at d o (got (h .at) (h .n + 1) (h .n) (h .options))) s a (set c (h .n) (word 4 (g .root) (h .root) 0)) at n (n + 6 * (length s - at) + 1) (got (h .at) (h .n + 1) (h .n) (h .options)) (or x y)
+          (said-yes (SaysBranches s at d o (got (h .at) (h .n + 1) (h .n) (h .options))) s a _ at n _ _ (or x (treeAt c (h .root)))
           (room .long) (omega (arith, room .space, X .space, Y .space, X .on))
-          (record {
-            words = rw (p, q) (both-laid x y a b c n (g .n) (h .n) (word 4 (g .root) (h .root) 0) (X .words) (Y .words) (X .count) (Y .count) (X .tidy) (Y .tidy));
-            tidy = (X .tidy, Y .tidy);
-            count = omega (arith, X .count, Y .count);
-            top = refl;
-            on = omega (arith, X .on, Y .on);
-            inside = Y .inside;
-            space = omega (arith, X .space, Y .space, X .on, X .inside);
-          })
+          (both-up s a b c at n g h x (treeAt c (h .root)) _ _ _ _ X Y 4 (or x (treeAt c (h .root))) _ refl refl (X .tidy, Y .tidy) (omega (arith, X .on, Y .on)) (omega (arith, X .space, Y .space, X .on, X .inside)))
           (λ st al z. over st al z ∙ on-ok h _ yes-h))
 
 -- ---- an item
@@ -389,20 +391,12 @@ module _ (s a : List ℕ) (at : ℕ) (o : Options) (n : ℕ) (room : Room s a at
     pub one-start : g ≡ got at (n + 1) n o → b ≡ set a n (word 2 0 0 0) → SaidOne s a b at o Start n g
     unfolding onward one width lay Tidy
     one-start eg eb =
-        rw (eg, eb)
-        (said-yes (SaysOne s at o Start (got at (n + 1) n o)) s a (set a n (word 2 0 0 0)) at n (n + 6 * (length s - at) + 5) (got at (n + 1) n o) (assertion at-start)
-        (room .long) (omega (arith, room .space))
-        (record { words = refl; tidy = tt; count = refl; top = refl; on = omega arith; inside = room .inside; space = omega arith })
-        (λ st al it. refl))
+        rw (eg, eb) (leaf-said (SaysOne s at o Start (got at (n + 1) n o)) s a at n 5 o room (omega arith) (assertion at-start) (word 2 0 0 0) refl refl tt (λ st al it. refl))
 
     pub one-end : g ≡ got at (n + 1) n o → b ≡ set a n (word 2 1 0 0) → SaidOne s a b at o End n g
     unfolding onward one width lay Tidy
     one-end eg eb =
-        rw (eg, eb)
-        (said-yes (SaysOne s at o End (got at (n + 1) n o)) s a (set a n (word 2 1 0 0)) at n (n + 6 * (length s - at) + 5) (got at (n + 1) n o) (assertion at-end)
-        (room .long) (omega (arith, room .space))
-        (record { words = refl; tidy = tt; count = refl; top = refl; on = omega arith; inside = room .inside; space = omega arith })
-        (λ st al it. refl))
+        rw (eg, eb) (leaf-said (SaysOne s at o End (got at (n + 1) n o)) s a at n 5 o room (omega arith) (assertion at-end) (word 2 1 0 0) refl refl tt (λ st al it. refl))
 
   -- an atom that takes a byte
   pub one-item : (x : Atom) → Takes x → (bytes b c : List ℕ) (g : Got) → bytes ≡ itemSet o x → b ≡ sets a n (bytes ++ (word 1 0 0 0 ∷ [])) → SaidQuantified s b c at o (n + 5) (n + 4) g → SaidOne s a c at o x n g

@@ -18,8 +18,9 @@ use Rattle.tokens.specs.declared.Class.{Class}
 use Rattle.tokens.specs.declared.Member.{Member}
 use Rattle.tokens.specs.declared.Options.{Options}
 use Rattle.tokens.specs.Class.{memberAt, joined, byteOf, refusedClass, closedClass, settled, membersOf, classOf}
-use Rattle.tokens.specs.Token.{allButNewline, itemSet}
-use Rattle.pattern.proofs.Base.{split, inside}
+use Rattle.tokens.specs.Token.{itemSet}
+use Rattle.tokens.proofs.Suffixes.{inside}
+use Rattle.pattern.proofs.Base.{split}
 
 words-cond : (b : Bool) (s t : List ℕ) → Words s → Words t → Words (cond b s t)
 words-cond true s t v w = v
@@ -93,7 +94,7 @@ unfolding classOf
 class-closed caseless v at =
     split (eqb (getD v 0 0) 94)
     (λ e.
-    let l : 0 < length v = inside v 0 94 (eqb-true (getD v 0 0) 94 e) (omega arith) in
+    let l : 0 < length v = inside v 0 (λ z. omega (arith, eqb-true (getD v 0 0) 94 e)) in
     rw e
     (λ z.
     let r = members-closed caseless true true emptySet 0 (drop 1 v) (at + 1) words-empty z in

@@ -19,11 +19,12 @@ use Rattle.tokens.specs.declared.Token.the-variants.{Finish, Bar, Close, Class,
 use Rattle.tokens.specs.declared.Lexeme.{Lexeme}
 use Rattle.tokens.specs.Class.{lower, classOf}
 use Rattle.tokens.specs.Token.{lexemeOf}
+use Rattle.tokens.proofs.Suffixes.{front}
 use Rattle.regex.specs.Tree.{empty, item, repeat}
 use Rattle.pattern.specs.Nodes.{Syntax, extraOf}
 use Rattle.pattern.specs.Walk.{Target, nothing, single, repeated, Frame, State, Read, tree, refused, Next, stop, go, chained, chosen, with-item, with-options, one, deepest, repeating, targetFault, closing, opening, act, context, next, finish, walk}
 use Rattle.pattern.specs.Invariants.{state, from, follow, ended, groupEnds, branchEnds, classEnds, faultFor, faultOf}
-use Rattle.pattern.proofs.Base.{by-lt, split, true-not-false, drop-one}
+use Rattle.pattern.proofs.Base.{by-lt, split, true-not-false}
 use Rattle.pattern.proofs.Lexemes.{Right, Sound, lexeme-sound}
 use Rattle.pattern.proofs.Sets.{class-closed}
 
@@ -38,20 +39,20 @@ pub walk-end : (s : List ℕ) (at : ℕ) (st : List Frame) (al it : List Syntax)
 unfolding walk
 walk-end s at st al it o t h = rw (drop-of-length-le s h) (finish-ended at st al it o t)
 
-walk-on : (s : List ℕ) (at : ℕ) (m : State) → at < length s → from s at m ≡ follow s at (next at (drop at s) m)
+pub walk-on : (s : List ℕ) (at : ℕ) (m : State) → at < length s → from s at m ≡ follow s at (next at (drop at s) m)
 unfolding walk
-walk-on s at m h = rw (drop-one s at h) (same (next at (getD s at 0 ∷ drop (at + 1) s) m))
+walk-on s at m h = rw (front s at h) (same (next at (getD s at 0 ∷ drop (at + 1) s) m))
   where
     same : (x : Next) → (elim x as (λ y. Read) [ stop n p ↦ refused n p | go k n ↦ walk (drop (at + 1) s) k (at + 1) n ]) ≡ follow s at x
     same (stop n p) = refl
     same (go k n) = refl
 
-walk-skip : (k : ℕ) (s : List ℕ) (at : ℕ) (m : State) → at + k ≤ length s → walk (drop at s) k at m ≡ from s (at + k) m
+pub walk-skip : (k : ℕ) (s : List ℕ) (at : ℕ) (m : State) → at + k ≤ length s → walk (drop at s) k at m ≡ from s (at + k) m
 unfolding walk
 walk-skip zero s at m h = rw (add-zero at)
 walk-skip (suc k) s at m h =
     let e : at + 1 + k ≡ at + suc k = omega arith in
-    rw (drop-one s at (omega arith), ← e) (walk-skip k s (at + 1) m (omega arith))
+    rw (front s at (omega arith), ← e) (walk-skip k s (at + 1) m (omega arith))
 
 -- ---- the token at a place
 
@@ -67,7 +68,7 @@ pub record At (s : List ℕ) (at : ℕ) (o : Options) (l : Lexeme) : Type 0 wher
 pub at-inside : (s : List ℕ) (at : ℕ) (o : Options) (l : Lexeme) → lexemeOf o (drop at s) ≡ l → at < length s → At s at o l
 at-inside s at o l e h =
     let n : suc (length (drop (at + 1) s)) ≡ length s - at = omega (arith, length-drop (at + 1) s) in
-    record { is = e; inside = h; sound = rw (← e, drop-one s at h, ← n) (lexeme-sound o (getD s at 0) (drop (at + 1) s)) }
+    record { is = e; inside = h; sound = rw (← e, front s at h, ← n) (lexeme-sound o (getD s at 0) (drop (at + 1) s)) }
 
 finish-at : (s : List ℕ) (at : ℕ) (o : Options) → length s ≤ at → lexemeOf o (drop at s) ≡ lex 0 0 Finish
 unfolding lexemeOf

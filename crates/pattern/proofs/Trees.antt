@@ -12,11 +12,12 @@ use lib.ListN.{length, getD, take, drop, set, length-append}
 use lib.Seq.{sets, sets-eq, drop-at, take-at, drop-drop, getD-drop, length-take-le}
 use Rattle.sets.proofs.Laws.{Words}
 use Rattle.tokens.specs.Number.{cap}
+use Rattle.tokens.proofs.Suffixes.{first}
 use Rattle.regex.specs.Tree.{Tree, empty, item, assertion, then, or, repeat, Extra, atMost, unbounded}
 use Rattle.regex.specs.Rule.{Assertion, at-start, at-end, ByteSet}
 use Rattle.pattern.specs.Nodes.{Syntax, word, opOf, xOf, yOf, zOf, extraOf, numberOf, assertionOf, codeOf, nodeOf, treeWithin, treeAt, width, lay}
 use Rattle.pattern.specs.Invariants.{Tidy, lent, childAt}
-use Rattle.pattern.proofs.Base.{at-first, sets-append}
+use Rattle.pattern.proofs.Base.{sets-append}
 
 -- ---- the fields of a word
 
@@ -82,11 +83,11 @@ Stands a n l r = drop n a ≡ l ++ r
 behind : (a : List ℕ) (n k : ℕ) (x y r : List ℕ) → Stands a n (x ++ y) r → length x ≡ k → Stands a (n + k) y r
 behind a n k x y r h e = sym (drop-drop k n a) ∙ rw (h, append-assoc) (drop-at x (y ++ r) k e)
 
-front : (a : List ℕ) (n : ℕ) (x y r : List ℕ) → Stands a n (x ++ y) r → Stands a n x (y ++ r)
-front a n x y r h = h ∙ append-assoc x y r
+ahead : (a : List ℕ) (n : ℕ) (x y r : List ℕ) → Stands a n (x ++ y) r → Stands a n x (y ++ r)
+ahead a n x y r h = h ∙ append-assoc x y r
 
 word-at : (a : List ℕ) (k w : ℕ) (r : List ℕ) → Stands a k (w ∷ []) r → getD a k 0 ≡ w
-word-at a k w r h = sym (at-first a k) ∙ rw h
+word-at a k w r h = sym (first a k) ∙ rw h
 
 -- a child that stands below is read
 child-read : (a : List ℕ) (d j k : ℕ) (t : Syntax) → j < k → treeWithin d a j ≡ t → cond (ltb j k) (treeWithin d a j) empty ≡ t
@@ -128,6 +129,25 @@ module _ (d : ℕ) (a : List ℕ) (k : ℕ) where
       let z : ℕ = numberOf j in
       rw (op-word 5 x m z (omega arith) hx (omega arith), x-word 5 x m z (omega arith) hx (omega arith), y-word 5 x m z (omega arith) hx (omega arith), z-word 5 x m z (omega arith) hx (omega arith), lt-ltb x k lx, ex, hj)
 
+-- a node with two children, whose words stand in front of its own
+module _ (f : ℕ) (a : List ℕ) (n : ℕ) (r : List ℕ) (x y : Syntax) (op : ℕ) (dx : Tidy x) (dy : Tidy y) (small : n + (width x + width y) < 2048) where
+  read-two : (k : ℕ) (node : Syntax)
+      → k ≡ n + (width x + width y)
+      → Stands a n ((lay n x ++ lay (n + width x) y) ++ (word op (n + width x - 1) (n + width x + width y - 1) 0 ∷ [])) r
+      → (Stands a n (lay n x) (lay (n + width x) y ++ ((word op (n + width x - 1) (n + width x + width y - 1) 0 ∷ []) ++ r)) → treeWithin f a (n + width x - 1) ≡ x)
+      → (Stands a (n + width x) (lay (n + width x) y) ((word op (n + width x - 1) (n + width x + width y - 1) 0 ∷ []) ++ r) → treeWithin f a (n + width x + width y - 1) ≡ y)
+      → ((lx : n + width x - 1 < k) (ly : n + width x + width y - 1 < k) → treeWithin f a (n + width x - 1) ≡ x → treeWithin f a (n + width x + width y - 1) ≡ y → node-at f a k (word op (n + width x - 1) (n + width x + width y - 1) 0) ≡ node)
+      → treeWithin (suc f) a k ≡ node
+  read-two k node e s ix iy is =
+      let p = width-pos x in
+      let q = width-pos y in
+      let w : ℕ = word op (n + width x - 1) (n + width x + width y - 1) 0 in
+      let both = ahead a n (lay n x ++ lay (n + width x) y) (w ∷ []) r s in
+      step f a k k w r refl (rw e (behind a n (width x + width y) (lay n x ++ lay (n + width x) y) (w ∷ []) r s (both-length x y n dx dy)))
+      ∙ is (omega arith) (omega arith)
+      (ix (ahead a n (lay n x) (lay (n + width x) y) ((w ∷ []) ++ r) both))
+      (iy (behind a n (width x) (lay n x) (lay (n + width x) y) ((w ∷ []) ++ r) both (lay-length x n dx)))
+
 read-laid : (t : Syntax) (d : ℕ) (a : List ℕ) (n k : ℕ) (r : List ℕ) → width t ≤ d → k + 1 ≡ n + width t → n + width t ≤ 2048 → Tidy t → Stands a n (lay n t) r → treeWithin d a k ≡ t
 unfolding width lay Tidy
 read-laid t zero a n k r hd e h d s = absurd (omega (arith, width-pos t))
@@ -136,35 +156,29 @@ read-laid (item c) (suc f) a n k r hd e h d s =
     let q : n + 4 ≡ k = omega arith in
     let z : k - 4 ≡ n = omega arith in
     let w : List ℕ = word 1 0 0 0 ∷ [] in
-    let l : Stands a (k - 4) c (w ++ r) = rw z (front a n c w r s) in
+    let l : Stands a (k - 4) c (w ++ r) = rw z (ahead a n c w r s) in
     step f a (n + 4) k (word 1 0 0 0) r (omega arith) (behind a n 4 c w r s (d .four)) ∙ rw q (read-item f a k c (w ++ r) (omega arith) (d .four) l)
 read-laid (assertion x) (suc f) a n k r hd e h d s = step f a n k _ r (omega arith) s ∙ read-assertion f a n x
 read-laid (then x y) (suc f) a n k r hd e h d s =
-    let j : ℕ = n + width x in
-    let l : List ℕ = word 3 (j - 1) (j + width y - 1) 0 ∷ [] in
     let p = width-pos x in
     let q = width-pos y in
-    step f a (n + (width x + width y)) k (word 3 (j - 1) (j + width y - 1) 0) r (omega arith)
-    (behind a n (width x + width y) (lay n x ++ lay j y) l r s (both-length x y n (d .0) (d .1)))
-    ∙ read-then f a (n + (width x + width y)) (j - 1) (j + width y - 1) (omega arith) (omega arith) (omega arith) (omega arith) x y
-    (read-laid x f a n (j - 1) (lay j y ++ (l ++ r)) (omega arith) (omega arith) (omega arith) (d .0) (front a n (lay n x) (lay j y) (l ++ r) (front a n (lay n x ++ lay j y) l r s)))
-    (read-laid y f a j (j + width y - 1) (l ++ r) (omega arith) (omega arith) (omega arith) (d .1) (behind a n (width x) (lay n x) (lay j y) (l ++ r) (front a n (lay n x ++ lay j y) l r s) (lay-length x n (d .0))))
+    read-two f a n r x y 3 (d .0) (d .1) (omega arith) k (then x y) (omega arith) s
+    (λ u. read-laid x f a n _ _ (omega arith) (omega arith) (omega arith) (d .0) u)
+    (λ u. read-laid y f a (n + width x) _ _ (omega arith) (omega arith) (omega arith) (d .1) u)
+    (λ lx ly u v. read-then f a k _ _ (omega arith) (omega arith) lx ly x y u v)
 read-laid (or x y) (suc f) a n k r hd e h d s =
-    let j : ℕ = n + width x in
-    let l : List ℕ = word 4 (j - 1) (j + width y - 1) 0 ∷ [] in
     let p = width-pos x in
     let q = width-pos y in
-    step f a (n + (width x + width y)) k (word 4 (j - 1) (j + width y - 1) 0) r (omega arith)
-    (behind a n (width x + width y) (lay n x ++ lay j y) l r s (both-length x y n (d .0) (d .1)))
-    ∙ read-or f a (n + (width x + width y)) (j - 1) (j + width y - 1) (omega arith) (omega arith) (omega arith) (omega arith) x y
-    (read-laid x f a n (j - 1) (lay j y ++ (l ++ r)) (omega arith) (omega arith) (omega arith) (d .0) (front a n (lay n x) (lay j y) (l ++ r) (front a n (lay n x ++ lay j y) l r s)))
-    (read-laid y f a j (j + width y - 1) (l ++ r) (omega arith) (omega arith) (omega arith) (d .1) (behind a n (width x) (lay n x) (lay j y) (l ++ r) (front a n (lay n x ++ lay j y) l r s) (lay-length x n (d .0))))
+    read-two f a n r x y 4 (d .0) (d .1) (omega arith) k (or x y) (omega arith) s
+    (λ u. read-laid x f a n _ _ (omega arith) (omega arith) (omega arith) (d .0) u)
+    (λ u. read-laid y f a (n + width x) _ _ (omega arith) (omega arith) (omega arith) (d .1) u)
+    (λ lx ly u v. read-or f a k _ _ (omega arith) (omega arith) lx ly x y u v)
 read-laid (repeat x m j) (suc f) a n k r hd e h d s =
     let w : ℕ = word 5 (n + width x - 1) m (numberOf j) in
     let p = width-pos x in
     step f a (n + width x) k w r (omega arith) (behind a n (width x) (lay n x) (w ∷ []) r s (lay-length x n (d .0)))
     ∙ read-repeat f a (n + width x) (n + width x - 1) m j (omega arith) (d .1) (d .2) (omega arith) x
-    (read-laid x f a n (n + width x - 1) ((w ∷ []) ++ r) (omega arith) (omega arith) (omega arith) (d .0) (front a n (lay n x) (w ∷ []) r s))
+    (read-laid x f a n (n + width x - 1) ((w ∷ []) ++ r) (omega arith) (omega arith) (omega arith) (d .0) (ahead a n (lay n x) (w ∷ []) r s))
 
 -- a tidy tree written from n on is the tree of its last word
 pub laid-tree : (t : Syntax) (a b : List ℕ) (n k : ℕ) → k + 1 ≡ n + width t → n + width t ≤ 2048 → n + width t ≤ length a → Tidy t → b ≡ sets a n (lay n t) → treeAt b k ≡ t

@@ -149,7 +149,7 @@ row9 v =
 
 -- A token stands at place `at` with m before it: the first at 0, and each next one after a token that is not refused.
 pub data Stands (s : List ℕ) (o : Options) : ℕ → State → Type 0 where
-  first : Stands s o 0 (begin o)
+  begins : Stands s o 0 (begin o)
   onward : (at k : ℕ) (m n : State) → Stands s o at m → at < length s → next at (drop at s) m ≡ go k n → Stands s o (at + 1 + k) n
 
 -- where the members of a class begin: "`[^..]`"
@@ -162,7 +162,7 @@ closes s at isFirst = eqb (getD s at 0) 93 && not isFirst
 
 -- A member, a range or the closing bracket stands at a place of the class that begins at `from`, the first one or a later one.
 pub data InClass (s : List ℕ) (from : ℕ) : ℕ → Bool → Type 0 where
-  first : InClass s from (membersAt s from) true
+  begins : InClass s from (membersAt s from) true
   onward : (at : ℕ) (isFirst : Bool)
       → InClass s from at isFirst → at < length s → closes s at isFirst ≡ false → memberAt (drop at s) .fault ≡ 0
       → InClass s from (at + memberAt (drop at s) .size) false

@@ -48,7 +48,7 @@ fn is_valid(s: Stream, words: &[u64]) -> bool
     let rules = words[RULES_AT];
     let positions = words[POSITIONS_AT];
     let live = s.live;
-    let same = (s.rules as u64 == rules) & (s.positions as u64 == positions);
+    let same = (s.rules == rules) & (s.positions == positions);
     let inside = live_inside(live, positions as usize);
     let marked = marks_single(s.reported, words, rules as usize);
     same & (inside & (marked & (s.taken <= STREAM_LIMIT)))

@@ -24,8 +24,8 @@ pub struct Stream {
     pub live: [u64; 4],
     pub reported: u64,
     pub taken: u64,
-    pub rules: u32,
-    pub positions: u32,
+    pub rules: u64,
+    pub positions: u64,
     pub closed: bool,
 }
 
@@ -51,7 +51,7 @@ pub struct Closed {
 }
 
 // A state with nothing taken.
-fn fresh_state(rules: u32, positions: u32, closed: bool) -> Stream
+fn fresh_state(rules: u64, positions: u64, closed: bool) -> Stream
     ensures { λ r. ⌜ r ≡ fresh rules positions closed ⌝ }
 {
     let live = sets::empty();
@@ -78,7 +78,7 @@ impl Stream {
         }
         Opened {
             number: 0,
-            stream: fresh_state(words[RULES_AT] as u32, words[POSITIONS_AT] as u32, false),
+            stream: fresh_state(words[RULES_AT], words[POSITIONS_AT], false),
         }
     }
 

@@ -165,16 +165,16 @@ pub record Ends (at n : ℕ) (c : Class) : Type 0 where
   pub after : c .number ≡ 0 → at < c .place
   pub fits : c .place ≤ at + n
 
-members-end : (caseless negated first : Bool) (set : List ℕ) (k : ℕ) (v : List ℕ) (at : ℕ)
+members-ends : (caseless negated first : Bool) (set : List ℕ) (k : ℕ) (v : List ℕ) (at : ℕ)
     → Ends at (length v) (membersOf caseless negated first set k v at)
 unfolding membersOf
-members-end caseless negated first set k [] at = record { after = λ e. absurd (omega arith); fits = omega arith }
-members-end caseless negated first set (suc k) (c ∷ v) at =
-    let more = members-end caseless negated first set k v (at + 1) in
+members-ends caseless negated first set k [] at = record { after = λ e. absurd (omega arith); fits = omega arith }
+members-ends caseless negated first set (suc k) (c ∷ v) at =
+    let more = members-ends caseless negated first set k v (at + 1) in
     record { after = λ e. omega (arith, more .after e); fits = omega (arith, more .fits) }
-members-end caseless negated first set zero (c ∷ v) at =
+members-ends caseless negated first set zero (c ∷ v) at =
     let m = memberAt (c ∷ v) in
-    let more = members-end caseless negated false (joined set (m .low) (m .high)) (pred (m .size)) v (at + 1) in
+    let more = members-ends caseless negated false (joined set (m .low) (m .high)) (pred (m .size)) v (at + 1) in
     let here = Ends at (length (c ∷ v)) in
     pick here (eqb c 93 && not first) (λ e. record { after = λ z. omega arith; fits = omega arith })
     (either here (eqb (m .fault) 0) (λ e. record { after = λ z. omega (arith, more .after z); fits = omega (arith, more .fits) })
@@ -185,7 +185,7 @@ unfolding classOf
 class-ends caseless v at =
     pick (Ends at (length v)) (eqb (getD v 0 0) 94)
     (λ e.
-    let more = members-end caseless true true emptySet 0 (drop 1 v) (at + 1) in
+    let more = members-ends caseless true true emptySet 0 (drop 1 v) (at + 1) in
     let l : 0 < length v = byte-within v 0 93 e in
     record { after = λ z. omega (arith, more .after z); fits = omega (arith, more .fits, length-drop 1 v) })
-    (members-end caseless false true emptySet 0 v at)
+    (members-ends caseless false true emptySet 0 v at)

@@ -1,7 +1,7 @@
 -- Class members, as the functions read them. Each law says a definition of specs/Class.antt at the bytes from a place on by what the code has in
 -- hand there. Bytes of a member that was read are skipped, so the members from one place on are those from the next member's place on.
 use mathlib.Core.Path.{_≡_, ap, _∙_}
-use mathlib.Core.Bool.{Bool, true, false, cond, not, _&&_}
+use mathlib.Core.Bool.{Bool, true, false, cond, not, _&&_, _||_}
 use mathlib.Core.List.{List, [], _∷_}
 use Prim.Native.Nat.{ℕ, zero, suc, pred, _+_, _-_, _≤_, _<_}
 use native.Mathlib.Decide.{decLt}
@@ -11,12 +11,19 @@ use lib.Dec.{eqb, ltb}
 use lib.ListN.{length, getD, drop, length-drop, drop-of-length-le}
 use lib.Seq.{getD-drop, drop-drop}
 use Rattle.tokens.specs.Escape.{good, bad, escapeOf}
-use Rattle.tokens.specs.Class.{opensName, memberOf, ranges, asMember, asRange, memberAt, joined, refusedClass, closedClass, settled, membersOf}
+use Rattle.tokens.specs.Class.{opensName, memberOf, isType, byteOf, rangeFault, ranges, asMember, asRange, memberAt}
+use Rattle.tokens.specs.Class.{joined, refusedClass, closedClass, settled, membersOf}
 use Rattle.tokens.specs.declared.Atom.the-variants.{Byte}
 use Rattle.tokens.specs.declared.Part.{Part}
 use Rattle.tokens.specs.declared.Member.{Member}
 use Rattle.tokens.proofs.Suffixes.{front, first}
 use Rattle.tokens.proofs.Sizes.{member-stands, Spans, member-spans}
+
+-- the ends m and n of a range: whether they are types, and their bytes
+pub range-fault-is : (m n : Part) (t u : Bool) (x y : ℕ) → t ≡ isType (m .atom) → u ≡ isType (n .atom) → x ≡ byteOf (m .atom) → y ≡ byteOf (n .atom)
+    → rangeFault m n ≡ cond (t || u) 9 (cond (eqb (m .fault) 0 && (eqb (n .fault) 0 && ltb y x)) 9 0)
+unfolding rangeFault
+range-fault-is m n t u x y et eu ex ey = rw (← et, ← eu, ← ex, ← ey)
 
 module _ (s : List ℕ) (at : ℕ) where
   pub member-end : length s ≤ at → memberOf (drop at s) ≡ bad 6 0
@@ -65,6 +72,7 @@ module _ (s : List ℕ) (at : ℕ) where
       (spans .takes f, omega (arith, spans .fits, length-drop at s))
 
 module _ (caseless negated : Bool) where
+  -- bytes that are skipped: the members are those from the place after them on
   skipped : (start : Bool) (set : List ℕ) (k : ℕ) (v : List ℕ) (at : ℕ) → k ≤ length v
       → membersOf caseless negated start set k v at ≡ membersOf caseless negated start set 0 (drop k v) (at + k)
   unfolding membersOf

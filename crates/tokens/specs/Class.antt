@@ -30,6 +30,7 @@ memberOf (c ∷ v) =
     (cond (eqb c 91 && opensName (getD v 0 0)) (bad 14 2)
     (good 1 (Byte c)))
 
+-- "a type such as `\d`"
 abbrev pub isType : Atom → Bool
 isType (Byte b) = false
 isType (OfKind k) = true
@@ -39,6 +40,7 @@ isType NotNewline = false
 isType Start = false
 isType End = false
 
+-- the byte that an atom stands for, else 0
 abbrev pub byteOf : Atom → ℕ
 byteOf (Byte b) = b
 byteOf (OfKind k) = 0
@@ -58,9 +60,11 @@ rangeFault m n =
 unfoldable pub ranges : List ℕ → Bool
 ranges v = eqb (getD v 0 0) 45 && (ltb 1 (length v) && not (eqb (getD v 1 0) 93))
 
+-- a member by itself
 abbrev pub asMember : Part → Member
 asMember m = record { fault = m .fault; size = m .size; low = m .atom; high = m .atom }
 
+-- a range, its two ends and the hyphen: the lowest of its faults
 abbrev pub asRange : Part → Part → Member
 asRange m n = record {
   fault = lower (m .fault) (lower (n .fault) (rangeFault m n));
@@ -86,9 +90,11 @@ joined set NotNewline high = set
 joined set Start high = set
 joined set End high = set
 
+-- a refusal's number and place
 abbrev pub refusedClass : ℕ → ℕ → Class
 refusedClass number place = record { number = number; place = place; set = emptySet }
 
+-- the place after the closing bracket, and the set
 abbrev pub closedClass : ℕ → List ℕ → Class
 closedClass place set = record { number = 0; place = place; set = set }
 

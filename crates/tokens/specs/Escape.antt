@@ -13,9 +13,11 @@ use Rattle.tokens.specs.declared.Part.{Part}
 use Rattle.tokens.specs.declared.Numeral.{Numeral}
 use Rattle.tokens.specs.Number.{digits, valueFrom, numeralOf}
 
+-- a part of so many bytes that stands for an atom
 abbrev pub good : ℕ → Atom → Part
 good size atom = record { fault = 0; size = size; atom = atom }
 
+-- a faulty part
 abbrev pub bad : ℕ → ℕ → Part
 bad fault size = record { fault = fault; size = size; atom = Byte 0 }
 
@@ -35,9 +37,11 @@ shortOf base v =
     let ds : List ℕ = take 2 (digits base v) in
     good (2 + length ds) (Byte (valueFrom base 0 ds))
 
+-- a byte below 128 with "its 64 bit flipped"
 unfoldable pub flipped64 : ℕ → ℕ
 flipped64 x = cond (leb 64 x) (x - 64) (x + 64)
 
+-- "raised to upper case"
 unfoldable pub raised : ℕ → ℕ
 raised x = cond (isLower x) (otherCase x) x
 

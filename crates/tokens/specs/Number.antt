@@ -25,6 +25,7 @@ valueFrom base acc (d ∷ ds) = valueFrom base (acc * base + d) ds
 abbrev pub cap : ℕ
 cap = 65536
 
+-- there is a digit
 abbrev pub some : List ℕ → Bool
 some [] = false
 some (d ∷ ds) = true

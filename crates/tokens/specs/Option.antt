@@ -8,15 +8,19 @@ use Rattle.tokens.specs.declared.Token.{Token}
 use Rattle.tokens.specs.declared.Token.the-variants.{Open, Set, Bad}
 use Rattle.tokens.specs.declared.Lexeme.{Lexeme}
 
+-- a token of so many bytes
 abbrev pub plain : ℕ → Token → Lexeme
 plain size token = record { fault = 0; size = size; token = token }
 
+-- a faulty token
 abbrev pub faulty : ℕ → Lexeme
 faulty fault = record { fault = fault; size = 0; token = Bad }
 
+-- the options with `i` on or off
 abbrev pub withCaseless : Bool → Options → Options
 withCaseless b o = record { caseless = b; dotall = o .dotall }
 
+-- the options with `s` on or off
 abbrev pub withDotAll : Bool → Options → Options
 withDotAll b o = record { caseless = o .caseless; dotall = b }
 

@@ -11,9 +11,11 @@ use Rattle.tokens.specs.declared.Lexeme.{Lexeme}
 use Rattle.tokens.specs.Number.{numeralOf, cap}
 use Rattle.tokens.specs.Class.{lower}
 
+-- no quantifier stands here
 abbrev pub noForm : Form
 noForm = record { is = false; size = 0; fault = 0; least = 0; extra = 0 }
 
+-- `extra` is how many copies more than `least`; `cap` is any number
 abbrev pub form : ℕ → ℕ → ℕ → Form
 form size least extra = record { is = true; size = size; fault = 0; least = least; extra = extra }
 
@@ -23,6 +25,7 @@ bounded size lo hi =
     cond (ltb lo cap && (ltb hi cap && leb lo hi)) (form size lo (hi - lo))
     (record { is = true; size = size; fault = 11; least = 0; extra = 0 })
 
+-- `{n,}`: 11 for a number above 65,535
 unfoldable pub open-ended : ℕ → ℕ → Form
 open-ended size lo = cond (ltb lo cap) (form size lo cap) (record { is = true; size = size; fault = 11; least = 0; extra = 0 })
 

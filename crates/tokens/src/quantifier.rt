@@ -7,7 +7,8 @@ use crate::number::CAP;
 use crate::number::numeral_at;
 use crate::number::peek;
 ghost use mathlib.Core.Path.{_≡_};
-ghost use Prim.Native.Nat.{_+_, _≤_, _<_, _^_};
+ghost use mathlib.Core.Bool.{true};
+ghost use Prim.Native.Nat.{_≤_, _<_, _^_};
 ghost use lib.ListN.{length, drop};
 ghost use Rattle.tokens.specs.Quantifier.{noForm, form, bounded, open-ended, bracesOf, formOf, marked};
 
@@ -37,13 +38,10 @@ fn sound_form(size: usize, least: u32, extra: u32) -> Form
     }
 }
 
-// From lo to hi copies.
-fn bounded_form(size: usize, lo: u32, hi: u32) -> Form
-    ensures { λ r. ⌜ r ≡ bounded size lo hi ⌝ }
+// A quantifier with fault 11.
+fn refused_form(size: usize) -> Form
+    ensures { λ r. ⌜ r ≡ record { is = true; size = size; fault = 11; least = 0; extra = 0 } ⌝ }
 {
-    if (lo < CAP) & ((hi < CAP) & (lo <= hi)) {
-        return sound_form(size, lo, hi - lo);
-    }
     Form {
         is: true,
         size,
@@ -53,6 +51,16 @@ fn bounded_form(size: usize, lo: u32, hi: u32) -> Form
     }
 }
 
+// From lo to hi copies.
+fn bounded_form(size: usize, lo: u32, hi: u32) -> Form
+    ensures { λ r. ⌜ r ≡ bounded size lo hi ⌝ }
+{
+    if (lo < CAP) & ((hi < CAP) & (lo <= hi)) {
+        return sound_form(size, lo, hi - lo);
+    }
+    refused_form(size)
+}
+
 // lo copies or more.
 fn open_form(size: usize, lo: u32) -> Form
     ensures { λ r. ⌜ r ≡ open-ended size lo ⌝ }
@@ -60,13 +68,7 @@ fn open_form(size: usize, lo: u32) -> Form
     if lo < CAP {
         return sound_form(size, lo, CAP);
     }
-    Form {
-        is: true,
-        size,
-        fault: 11,
-        least: 0,
-        extra: 0,
-    }
+    refused_form(size)
 }
 
 // After an opening brace.

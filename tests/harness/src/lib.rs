@@ -5,11 +5,17 @@
 //! `scenario` turns additions, a log and a caller's doings into a case whose answers the definition
 //! gives; `play` carries a case out, be it from there or from the corpus. `exhaustive` and `random`
 //! make scenarios, `shrink` makes a failing one small. `readings` compares the reader alone.
+//! `over_words` is a watcher made of calls over lent words, be they the interpreter's of `words` or
+//! the library's (`library`), and `damaged` compares such calls where the words are of any content.
 
 pub mod corpus_run;
+pub mod damaged;
 pub mod definition;
 pub mod exhaustive;
+#[cfg(feature = "library")]
+pub mod library;
 pub mod model;
+pub mod over_words;
 pub mod patterns;
 pub mod play;
 pub mod random;

@@ -1,25 +1,41 @@
-//! The harness as a command: the corpus, the exhaustive mode, the random mode. It prints counts,
-//! and ends with status 1 when anything disagrees.
+//! The harness as a command: what is under test, and then the corpus, the exhaustive mode, the random
+//! mode, or damaged words. It prints counts, and ends with status 1 when anything disagrees.
 
 use std::path::Path;
 use std::process::ExitCode;
 
 use harness::corpus_run::{run_cases, run_definition, run_folder, run_program, Tally};
 use harness::exhaustive::{self, Bounds};
+#[cfg(feature = "library")]
+use harness::library::Library;
 use harness::model::Model;
-use harness::{random, readings};
+use harness::over_words::OverWords;
+use harness::watcher::{PatternReader, Watcher};
+use harness::{damaged, random, readings};
+use words::calls::Calls;
+use words::interpreter::Interpreter;
 
 const USAGE: &str = "usage:
-  harness corpus
-  harness play FILE
-  harness exhaustive TOKENS BYTES [PART OF]
-  harness readings LENGTH
-  harness random SEED COUNT [FIRST]";
+  harness [WATCHER] corpus
+  harness [WATCHER] play FILE
+  harness [WATCHER] exhaustive TOKENS BYTES [PART OF]
+  harness [WATCHER] readings LENGTH
+  harness [WATCHER] random SEED COUNT [FIRST]
+  harness library damaged SEED COUNT [FIRST]
+WATCHER is model (the reference's calls, also if none is given), words (the interpreter of table
+words) or library.";
 
 fn main() -> ExitCode {
     let words: Vec<String> = std::env::args().skip(1).collect();
     let words: Vec<&str> = words.iter().map(String::as_str).collect();
-    match command(&words) {
+    let done = match &words[..] {
+        ["model", rest @ ..] => command(&Model, rest),
+        ["words", rest @ ..] => over_words(Interpreter, rest),
+        #[cfg(feature = "library")]
+        ["library", rest @ ..] => over_words(Library, rest),
+        rest => command(&Model, rest),
+    };
+    match done {
         Ok(()) => ExitCode::SUCCESS,
         Err(message) => {
             println!("{message}");
@@ -28,34 +44,48 @@ fn main() -> ExitCode {
     }
 }
 
-fn command(words: &[&str]) -> Result<(), String> {
+fn numbers(words: &[&str]) -> Result<Vec<u64>, String> {
+    words.iter().map(|word| word.parse().map_err(|_| USAGE.to_string())).collect()
+}
+
+/// The commands on calls over words, one of which no other watcher has.
+fn over_words<C: Calls>(calls: C, words: &[&str]) -> Result<(), String> {
+    if let ["damaged", rest @ ..] = words {
+        return match numbers(rest)?[..] {
+            [seed, count] => many_damaged(&calls, seed, 0, count),
+            [seed, count, first] => many_damaged(&calls, seed, first, count),
+            _ => Err(USAGE.to_string()),
+        };
+    }
+    command(&OverWords(calls), words)
+}
+
+fn command<W: Watcher + PatternReader>(watcher: &W, words: &[&str]) -> Result<(), String> {
     if let ["play", file] = words {
         let cases = corpus::files::cases_of(Path::new(file))?;
-        return show(file, &run_cases(&Model, &cases));
+        return show(file, &run_cases(watcher, &cases));
     }
-    let numbers: Vec<u64> = words
-        .iter()
-        .skip(1)
-        .map(|word| word.parse().map_err(|_| USAGE.to_string()))
-        .collect::<Result<_, _>>()?;
-    match (words.first().copied(), &numbers[..]) {
-        (Some("corpus"), []) => corpus(),
-        (Some("exhaustive"), &[tokens, bytes]) => all_small(tokens, bytes, (0, 1)),
-        (Some("exhaustive"), &[tokens, bytes, part, of]) if part < of => {
-            all_small(tokens, bytes, (part, of))
+    let Some((name, rest)) = words.split_first() else {
+        return Err(USAGE.to_string());
+    };
+    match (*name, &numbers(rest)?[..]) {
+        ("corpus", []) => corpus(watcher),
+        ("exhaustive", &[tokens, bytes]) => all_small(watcher, tokens, bytes, (0, 1)),
+        ("exhaustive", &[tokens, bytes, part, of]) if part < of => {
+            all_small(watcher, tokens, bytes, (part, of))
         }
-        (Some("readings"), &[length]) => all_readings(length),
-        (Some("random"), &[seed, count]) => many_random(seed, 0, count),
-        (Some("random"), &[seed, count, first]) => many_random(seed, first, count),
+        ("readings", &[length]) => all_readings(watcher, length),
+        ("random", &[seed, count]) => many_random(watcher, seed, 0, count),
+        ("random", &[seed, count, first]) => many_random(watcher, seed, first, count),
         _ => Err(USAGE.to_string()),
     }
 }
 
-fn corpus() -> Result<(), String> {
+fn corpus<W: Watcher>(watcher: &W) -> Result<(), String> {
     let folder = corpus::files::folder();
     show("corpus on the definition", &run_definition(folder)?)?;
-    show("corpus on the calls", &run_folder(&Model, folder)?)?;
-    show("corpus on the program", &run_program(&Model, folder)?)
+    show("corpus on the calls", &run_folder(watcher, folder)?)?;
+    show("corpus on the model of the program", &run_program(&Model, folder)?)
 }
 
 fn show(what: &str, tally: &Tally) -> Result<(), String> {
@@ -67,9 +97,14 @@ fn show(what: &str, tally: &Tally) -> Result<(), String> {
     Err(tally.failures.join("\n"))
 }
 
-fn all_small(tokens: u64, bytes: u64, part: (u64, u64)) -> Result<(), String> {
+fn all_small<W: Watcher + PatternReader>(
+    watcher: &W,
+    tokens: u64,
+    bytes: u64,
+    part: (u64, u64),
+) -> Result<(), String> {
     let bounds = Bounds { tokens: tokens as usize, bytes: bytes as usize, part };
-    let count = exhaustive::run(&Model, &Model, bounds)?;
+    let count = exhaustive::run(watcher, watcher, bounds)?;
     println!(
         "exhaustive: {} patterns read, {} accepted, {} (pattern, log) pairs, {} streams",
         count.patterns, count.accepted, count.pairs, count.streams
@@ -77,19 +112,29 @@ fn all_small(tokens: u64, bytes: u64, part: (u64, u64)) -> Result<(), String> {
     Ok(())
 }
 
-fn all_readings(length: u64) -> Result<(), String> {
-    let count = readings::run(&Model, length as usize)?;
+fn all_readings<R: PatternReader>(reader: &R, length: u64) -> Result<(), String> {
+    let count = readings::run(reader, length as usize)?;
     println!("readings: {} patterns, by number {:?}", count.patterns, count.by_number);
     Ok(())
 }
 
-fn many_random(seed: u64, first: u64, cases: u64) -> Result<(), String> {
-    let count = random::run(&Model, seed, first, cases)?;
+fn many_random<W: Watcher>(watcher: &W, seed: u64, first: u64, cases: u64) -> Result<(), String> {
+    let count = random::run(watcher, seed, first, cases)?;
     println!("random: seed {seed}, {} cases, {} (pattern, log) pairs", count.cases, count.pairs);
     println!(
         "random: {} calls, {} of them refused, {} reports",
         count.calls, count.refused_calls, count.reports
     );
     println!("random: additions by number {:?}", count.by_number);
+    Ok(())
+}
+
+fn many_damaged<C: Calls>(calls: &C, seed: u64, first: u64, cases: u64) -> Result<(), String> {
+    let count = damaged::run(calls, seed, first, cases)?;
+    println!(
+        "damaged: seed {seed}, {} cases, {} calls, {} bytes taken, {} reports",
+        count.cases, count.calls, count.taken, count.reports
+    );
+    println!("damaged: calls by number {:?}", count.by_number);
     Ok(())
 }

@@ -1,4 +1,4 @@
--- `stream::Stream::open` meets its contract: a table's counts are small, so they fit the state.
+-- `stream::Stream::open` meets its contract: a table has the words that are read.
 use borrow.Author.Needs.{needs}
 use mathlib.Core.Path.{sym, _∙_}
 use native.Mathlib.Omega.{arith}
@@ -30,22 +30,8 @@ shared-slice-read-fresh-state c =
     let c-if1 = c .before .if1 in
     omega (arith, passes (now (c-start .args .words)) (sym (c-is-table .ensures) ∙ not-false (c-is-table .result) (c-if1 .left)))
 
-cast-fresh-state : tie.Need-cast-fresh-state
-cast-fresh-state c =
-    let c-start = c .before .before .before .before in
-    let c-is-table = c .before .before .is-table in
-    let c-if1 = c .before .if1 in
-    omega (arith, passes (now (c-start .args .words)) (sym (c-is-table .ensures) ∙ not-false (c-is-table .result) (c-if1 .left)))
-
 shared-slice-read-fresh-state-2 : tie.Need-shared-slice-read-fresh-state-2
 shared-slice-read-fresh-state-2 c =
-    let c-start = c .before .before .before .before .before in
-    let c-is-table = c .before .before .before .is-table in
-    let c-if1 = c .before .before .if1 in
-    omega (arith, passes (now (c-start .args .words)) (sym (c-is-table .ensures) ∙ not-false (c-is-table .result) (c-if1 .left)))
-
-cast-fresh-state-2 : tie.Need-cast-fresh-state-2
-cast-fresh-state-2 c =
     let c-start = c .before .before .before .before .before in
     let c-is-table = c .before .before .before .is-table in
     let c-if1 = c .before .before .if1 in
@@ -70,8 +56,6 @@ open-spec =
     fresh-state-requires
     returns
     shared-slice-read-fresh-state
-    cast-fresh-state
     shared-slice-read-fresh-state-2
-    cast-fresh-state-2
     fresh-state-requires-2
     returns-2)

@@ -16,12 +16,6 @@ shared-slice-read-rules c = search needs
 shared-slice-read-positions : tie.Need-shared-slice-read-positions
 shared-slice-read-positions c = search needs
 
-cast-same : tie.Need-cast-same
-cast-same c = search needs
-
-cast-same-2 : tie.Need-cast-same-2
-cast-same-2 c = search needs
-
 live-inside-requires : tie.Need-live-inside-requires
 live-inside-requires c κs = search needs
 
@@ -44,8 +38,6 @@ is-valid-spec =
     (tie.spec
     shared-slice-read-rules
     shared-slice-read-positions
-    cast-same
-    cast-same-2
     live-inside-requires
     marks-single-requires
     returns)

@@ -15,7 +15,8 @@ fits c =
     let args = start .args in
     let high = c .before .before .before .digit-at in
     let low = c .before .digit-at2 in
-    short-fits (args .base) (start .pre .1) (args .s .now) (args .at) (high .result) (high .ensures) (omega arith) (low .result) (low .ensures) (omega arith)
+    short-fits (args .base) (start .pre .1) (args .s .now) (args .at) (high .result) (high .ensures) (omega arith) (low .result) (low .ensures)
+    (omega arith)
 
 digit-at-requires : tie.Need-digit-at-requires
 digit-at-requires c κs = tt

@@ -1,4 +1,6 @@
 -- `tokens::lexer::item_set` meets its contract, by cases on what the item stands for.
+use mathlib.Core.Path.{_≡_}
+use mathlib.Core.Bool.{true, false}
 use borrow.Author.Needs.{needs}
 use Rattle.tokens.specs.Token.{itemSet}
 use Rattle.tokens.proofs.lexer.item_set.Statement.{statement}
@@ -36,7 +38,10 @@ full-requires c κs = tt
 
 returns : tie.Need-returns
 unfolding itemSet
-returns c = rw (c .before .before .enum-told .given .1, c .before .if1 .taken) (c .full .ensures)
+returns c =
+    let args = c .before .before .before .before .args in
+    let all : args .options .dotall ≡ true = c .before .if1 .taken in
+    rw (c .before .before .enum-told .given .1, all) (c .full .ensures)
 
 all-but-newline-requires : tie.Need-all-but-newline-requires
 all-but-newline-requires c κs = tt
@@ -75,7 +80,10 @@ returns-4 c = rw (c .before .before .atom3 .given .1) (c .not-of-kind .ensures)
 
 returns-5 : tie.Need-returns-5
 unfolding itemSet
-returns-5 c = rw (c .before .before .enum-told .given .1, c .before .if1 .left) (c .all-but-newline .ensures)
+returns-5 c =
+    let args = c .before .before .before .before .args in
+    let all : args .options .dotall ≡ false = c .before .if1 .left in
+    rw (c .before .before .enum-told .given .1, all) (c .all-but-newline .ensures)
 
 returns-6 : tie.Need-returns-6
 unfolding itemSet

@@ -17,10 +17,13 @@ returns : tie.Need-returns
 unfolding bounded
 returns c = rw (c .before .if1 .taken) (c .sound-form .ensures)
 
+refused-form-requires : tie.Need-refused-form-requires
+refused-form-requires c κs = tt
+
 returns-2 : tie.Need-returns-2
 unfolding bounded
-returns-2 c = rw (c .if1 .left)
+returns-2 c = rw (c .before .if1 .left) (c .refused-form .ensures)
 
 pub bounded-form-spec : {M : Type 1} → statement M
 bounded-form-spec =
-    tie.close (tie.spec sub-sound-form sound-form-requires returns returns-2)
+    tie.close (tie.spec sub-sound-form sound-form-requires returns refused-form-requires returns-2)

@@ -1,5 +1,7 @@
 -- `tokens::quantifier::brace_form` meets its contract: the definition, read at the two numbers and the bytes after them, goes by the tests of the
 -- code. The digits stand within the pattern, so no sum wraps.
+use mathlib.Core.Path.{_≡_}
+use mathlib.Core.Bool.{true, false}
 use Prim.Native.Nat.{_+_, _-_, _≤_}
 use native.Mathlib.Omega.{arith}
 use lib.ListN.{length}
@@ -13,7 +15,8 @@ first-fits : (c : tie.After-numeral-at) → c .numeral-at .result .size ≤ leng
 first-fits c = numeral-fits 10 (c .before .before .args .s .now) (c .before .before .args .at) (c .numeral-at .result) (c .numeral-at .ensures)
 
 both-fit : (c : tie.After-numeral-at2)
-    → c .before .before .before .numeral-at .result .size + c .numeral-at2 .result .size ≤ length (c .before .before .before .before .before .args .s .now)
+    → c .before .before .before .numeral-at .result .size + c .numeral-at2 .result .size
+    ≤ length (c .before .before .before .before .before .args .s .now)
 both-fit c =
     let args = c .before .before .before .before .before .args in
     let a = c .before .before .before .numeral-at in
@@ -38,12 +41,12 @@ bounded-form-requires c κs = tt
 returns : tie.Need-returns
 returns c =
     let args = c .before .before .before .before .before .before .args in
+    let a = c .before .before .before .before .numeral-at in
     let s = args .s .now in
     let at = args .at in
-    let a = c .before .before .before .before .numeral-at in
     let p = c .before .before .before .peek in
-    rw (braces-one s at (a .result) (p .result) (a .ensures) (p .ensures) (c .before .before .if1 .taken), c .before .if2 .taken)
-    (c .bounded-form .ensures)
+    let from : a .result .some ≡ true = c .before .if2 .taken in
+    rw (braces-one s at (a .result) (p .result) (a .ensures) (p .ensures) (c .before .before .if1 .taken), from) (c .bounded-form .ensures)
 
 no-form-requires : tie.Need-no-form-requires
 no-form-requires c κs = tt
@@ -51,12 +54,12 @@ no-form-requires c κs = tt
 returns-2 : tie.Need-returns-2
 returns-2 c =
     let args = c .before .before .before .before .before .before .args in
+    let a = c .before .before .before .before .numeral-at in
     let s = args .s .now in
     let at = args .at in
-    let a = c .before .before .before .before .numeral-at in
     let p = c .before .before .before .peek in
-    rw (braces-one s at (a .result) (p .result) (a .ensures) (p .ensures) (c .before .before .if1 .taken), c .before .if2 .left)
-    (c .no-form .ensures)
+    let from : a .result .some ≡ false = c .before .if2 .left in
+    rw (braces-one s at (a .result) (p .result) (a .ensures) (p .ensures) (c .before .before .if1 .taken), from) (c .no-form .ensures)
 
 add-numeral-at : tie.Need-add-numeral-at
 add-numeral-at c = omega (arith, first-fits (c .before .before))
@@ -105,19 +108,20 @@ open-form-requires c κs = tt
 returns-4 : tie.Need-returns-4
 returns-4 c =
     let args = c .before .before .before .before .before .before .before .before .before .before .args in
+    let a = c .before .before .before .before .before .before .before .before .numeral-at in
     let s = args .s .now in
     let at = args .at in
-    let a = c .before .before .before .before .before .before .before .before .numeral-at in
     let p = c .before .before .before .before .before .before .before .peek in
     let b = c .before .before .before .before .before .numeral-at2 in
     let q = c .before .before .before .before .peek2 in
     let if1 = c .before .before .before .before .before .before .if1 in
     let if3 = c .before .before .before .if3 in
+    let from : a .result .some ≡ true = c .before .if5 .taken in
     rw (
       braces-two s at (a .result) (p .result) (a .ensures) (p .ensures) (b .result) (q .result) (b .ensures) (q .ensures) (if1 .left),
       if3 .taken,
       c .before .before .if4 .left,
-      c .before .if5 .taken,
+      from,
     )
     (c .open-form .ensures)
 
@@ -127,19 +131,20 @@ no-form-requires-2 c κs = tt
 returns-5 : tie.Need-returns-5
 returns-5 c =
     let args = c .before .before .before .before .before .before .before .before .before .before .args in
+    let a = c .before .before .before .before .before .before .before .before .numeral-at in
     let s = args .s .now in
     let at = args .at in
-    let a = c .before .before .before .before .before .before .before .before .numeral-at in
     let p = c .before .before .before .before .before .before .before .peek in
     let b = c .before .before .before .before .before .numeral-at2 in
     let q = c .before .before .before .before .peek2 in
     let if1 = c .before .before .before .before .before .before .if1 in
     let if3 = c .before .before .before .if3 in
+    let from : a .result .some ≡ false = c .before .if5 .left in
     rw (
       braces-two s at (a .result) (p .result) (a .ensures) (p .ensures) (b .result) (q .result) (b .ensures) (q .ensures) (if1 .left),
       if3 .taken,
       c .before .before .if4 .left,
-      c .before .if5 .left,
+      from,
     )
     (c .no-form2 .ensures)
 

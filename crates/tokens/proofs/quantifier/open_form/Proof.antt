@@ -12,9 +12,13 @@ returns : tie.Need-returns
 unfolding open-ended
 returns c = rw (lt-ltb _ cap (c .before .if1 .taken)) (c .sound-form .ensures)
 
+refused-form-requires : tie.Need-refused-form-requires
+refused-form-requires c κs = tt
+
 returns-2 : tie.Need-returns-2
 unfolding open-ended
-returns-2 c = rw (le-ltb _ cap (c .if1 .left))
+returns-2 c = rw (le-ltb _ cap (c .before .if1 .left)) (c .refused-form .ensures)
 
 pub open-form-spec : {M : Type 1} → statement M
-open-form-spec = tie.close (tie.spec sound-form-requires returns returns-2)
+open-form-spec =
+    tie.close (tie.spec sound-form-requires returns refused-form-requires returns-2)

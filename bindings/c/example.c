@@ -1,0 +1,79 @@
+/* Two rules, a stream in two blocks with a match across the border, and what was reported. */
+#include <stdio.h>
+#include <string.h>
+
+#include "watcher.h"
+
+static uint64_t table[WATCHER_TABLE_WORDS];
+static uint64_t state[WATCHER_STATE_WORDS];
+static uint32_t ids[WATCHER_MAX_RULES];
+static uint64_t offsets[WATCHER_MAX_RULES];
+
+static int refused(const char *what, watcher_error_t number) {
+  printf("%s refused %u\n", what, (unsigned)number);
+  return 1;
+}
+
+static int add(uint32_t id, uint32_t flags, const char *pattern) {
+  size_t place;
+  watcher_error_t number = watcher_add(table, WATCHER_TABLE_WORDS, id, flags,
+                                       (const uint8_t *)pattern, strlen(pattern), &place);
+  if (number != WATCHER_SUCCESS) {
+    printf("rule %u refused %u at %zu\n", (unsigned)id, (unsigned)number, place);
+    return 1;
+  }
+  return 0;
+}
+
+static void show(size_t reports) {
+  for (size_t i = 0; i < reports; i++) {
+    printf("%u %llu\n", (unsigned)ids[i], (unsigned long long)offsets[i]);
+  }
+}
+
+/* Offers a block until all of it is taken. */
+static int scan(const char *block) {
+  const uint8_t *next = (const uint8_t *)block;
+  size_t left = strlen(block);
+  do {
+    size_t taken, reports;
+    watcher_error_t number = watcher_scan(table, WATCHER_TABLE_WORDS, state, WATCHER_STATE_WORDS, next, left, ids,
+                                          WATCHER_MAX_RULES, offsets, WATCHER_MAX_RULES, &taken, &reports);
+    if (number != WATCHER_SUCCESS) {
+      return refused("scan", number);
+    }
+    show(reports);
+    next += taken;
+    left -= taken;
+  } while (left > 0);
+  return 0;
+}
+
+int main(void) {
+  size_t reports;
+  watcher_error_t number = watcher_empty(table, WATCHER_TABLE_WORDS);
+  if (number != WATCHER_SUCCESS) {
+    return refused("table", number);
+  }
+  if (add(7, 0, "foo.*bar") || add(9, WATCHER_FLAG_CASELESS, "BAR$")) {
+    return 1;
+  }
+  if (!add(8, 0, "a**")) {
+    return 1;
+  }
+  number = watcher_open(table, WATCHER_TABLE_WORDS, state, WATCHER_STATE_WORDS);
+  if (number != WATCHER_SUCCESS) {
+    return refused("opening", number);
+  }
+  if (scan("fooxyzb") || scan("arbar")) {
+    return 1;
+  }
+  printf("busy %u\n", (unsigned)watcher_busy(state, WATCHER_STATE_WORDS));
+  number = watcher_close(table, WATCHER_TABLE_WORDS, state, WATCHER_STATE_WORDS, ids, WATCHER_MAX_RULES, offsets,
+                         WATCHER_MAX_RULES, &reports);
+  if (number != WATCHER_SUCCESS) {
+    return refused("closing", number);
+  }
+  show(reports);
+  return 0;
+}

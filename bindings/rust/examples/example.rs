@@ -1,0 +1,18 @@
+//! Two rules, a stream in two blocks with a match across the border, and what was reported.
+
+use watcher::{Error, Flags, Report, Stream, Table};
+
+fn main() -> Result<(), Error> {
+    let mut table = Table::new();
+    table.add(7, Flags::NONE, b"foo.*bar")?;
+    table.add(9, Flags::CASELESS, b"BAR$")?;
+    if let Err(error) = table.add(8, Flags::NONE, b"a**") {
+        println!("rule 8 refused {} at {}", error.number(), error.place());
+    }
+    let show = |report: Report| println!("{} {}", report.id, report.end);
+    let mut stream = Stream::open(&table);
+    stream.scan(b"fooxyzb", show)?;
+    stream.scan(b"arbar", show)?;
+    println!("busy {}", stream.busy());
+    stream.close(show)
+}

@@ -1,0 +1,60 @@
+-- Each function for C: its number, and every lent word afterwards, for any words. The calls themselves are those of the crates table and stream; this adds
+-- the state as words, and number 23 for a state of fewer than nine words, which changes nothing. Assumes nothing: these are definitions.
+use mathlib.Core.Bool.{cond}
+use mathlib.Core.List.{List}
+use Prim.Native.Nat.{ℕ}
+use lib.Dec.{eqb}
+use Rattle.table.specs.Table.{isTable}
+use Rattle.stream.specs.declared.Opened.{Opened}
+use Rattle.stream.specs.declared.Scanned.{Scanned}
+use Rattle.stream.specs.declared.Closed.{Closed}
+use Rattle.stream.specs.Calls.{opened, scanned, scannedIds, scannedOffsets, closed, closedIds, closedOffsets, busyOf}
+use Rattle.watcher_c.specs.State.{short, stateOf, stored}
+
+-- fewer than nine words lent for the state
+abbrev pub shortState : ℕ
+shortState = 23
+
+-- the test of words: 0 for a table, 1 for anything else
+unfoldable pub testNumber : List ℕ → ℕ
+testNumber t = cond (isTable t) 0 1
+
+-- An opening writes the state also when it is refused with 1.
+unfoldable pub openNumber : (t state : List ℕ) → ℕ
+openNumber t state = cond (short state) shortState (opened t .number)
+
+unfoldable pub openState : (t state : List ℕ) → List ℕ
+openState t state = cond (short state) state (stored (opened t .stream) state)
+
+module _ (t state block ids offsets : List ℕ) where
+  -- what a scan of the state in these words answers
+  unfoldable pub scanAnswer : Scanned
+  scanAnswer =
+      cond (short state) (record { number = shortState; taken = 0; reports = 0; stream = stateOf state }) (scanned t (stateOf state) block ids offsets)
+
+  unfoldable pub scanState : List ℕ
+  scanState = cond (eqb (scanAnswer .number) 0) (stored (scanAnswer .stream) state) state
+
+  unfoldable pub scanIds : List ℕ
+  scanIds = cond (short state) ids (scannedIds t (stateOf state) block ids offsets)
+
+  unfoldable pub scanOffsets : List ℕ
+  scanOffsets = cond (short state) offsets (scannedOffsets t (stateOf state) block ids offsets)
+
+module _ (t state ids offsets : List ℕ) where
+  -- what closing the state in these words answers
+  unfoldable pub closeAnswer : Closed
+  closeAnswer = cond (short state) (record { number = shortState; reports = 0; stream = stateOf state }) (closed t (stateOf state) ids offsets)
+
+  unfoldable pub closeState : List ℕ
+  closeState = cond (eqb (closeAnswer .number) 0) (stored (closeAnswer .stream) state) state
+
+  unfoldable pub closeIds : List ℕ
+  closeIds = cond (short state) ids (closedIds t (stateOf state) ids offsets)
+
+  unfoldable pub closeOffsets : List ℕ
+  closeOffsets = cond (short state) offsets (closedOffsets t (stateOf state) ids offsets)
+
+-- the busy figure; fewer than nine words have none live
+unfoldable pub busyFigure : List ℕ → ℕ
+busyFigure state = cond (short state) 0 (busyOf (stateOf state))

@@ -1,0 +1,140 @@
+// The functions for C and Rust, over numbers and slices only: a slice is a pointer and a length there. The state is nine words that the caller owns. Nothing
+// is required of a caller but that its slices are what they say. specs/Interface.antt has each answer and every lent word afterwards.
+mod state;
+
+use state::STATE_WORDS;
+use state::load;
+use state::store;
+use stream::Stream;
+ghost use mathlib.Core.Path.{_≡_};
+ghost use Rattle.table.specs.Table.{emptyNumber, emptied};
+ghost use Rattle.rules.specs.Add.{addAnswer, addWords};
+ghost use Rattle.watcher_c.specs.Interface.{testNumber, openNumber, openState, scanAnswer, scanState, scanIds, scanOffsets, closeAnswer, closeState, closeIds, closeOffsets, busyFigure};
+
+// The number for a state of fewer than nine words.
+const SHORT_STATE: u32 = 23;
+
+// Writes the empty table.
+#[no_mangle]
+pub extern "C" fn watcher_empty(table: &mut [u64]) -> u32
+    ensures answer { λ r. ⌜ r ≡ emptyNumber (now (table .entry)) ⌝ }
+    ensures table { λ r. ⌜ now (table .exit) ≡ emptied (now (table .entry)) ⌝ }
+{
+    table::empty(table)
+}
+
+// 0 if the words are a table, else 1.
+#[no_mangle]
+pub extern "C" fn watcher_test(table: &[u64]) -> u32
+    ensures { λ r. ⌜ r ≡ testNumber (now (table .entry)) ⌝ }
+{
+    if table::is_table(table) { 0 } else { 1 }
+}
+
+// Adds a rule, and says where the fault of a refused pattern lies.
+#[no_mangle]
+pub extern "C" fn watcher_add(
+    table: &mut [u64],
+    id: u32,
+    flags: u32,
+    pattern: &[u8],
+    place: &mut usize,
+) -> u32
+    ensures answer { λ r. ⌜ r ≡ addAnswer (now (table .entry)) id flags (now (pattern .entry)) .number ⌝ }
+    ensures table { λ r. ⌜ now (table .exit) ≡ addWords (now (table .entry)) id flags (now (pattern .entry)) ⌝ }
+    ensures place { λ r. ⌜ now (place .exit) ≡ addAnswer (now (table .entry)) id flags (now (pattern .entry)) .place ⌝ }
+{
+    let r = rules::add(table, id, flags, pattern);
+    *place = r.place;
+    r.number
+}
+
+// Opens a stream over a table.
+#[no_mangle]
+pub extern "C" fn watcher_open(table: &[u64], state: &mut [u64]) -> u32
+    ensures answer { λ r. ⌜ r ≡ openNumber (now (table .entry)) (now (state .entry)) ⌝ }
+    ensures state { λ r. ⌜ now (state .exit) ≡ openState (now (table .entry)) (now (state .entry)) ⌝ }
+{
+    if state.len() < STATE_WORDS {
+        return SHORT_STATE;
+    }
+    let r = Stream::open(table);
+    let next = r.stream;
+    store(state, next);
+    r.number
+}
+
+// Scans a block, and says how many bytes it took and how many reports it wrote.
+#[no_mangle]
+pub extern "C" fn watcher_scan(
+    table: &[u64],
+    state: &mut [u64],
+    block: &[u8],
+    ids: &mut [u32],
+    offsets: &mut [u64],
+    taken: &mut usize,
+    reports: &mut usize,
+) -> u32
+    ensures answer { λ r. ⌜ r ≡ scanAnswer (now (table .entry)) (now (state .entry)) (now (block .entry)) (now (ids .entry)) (now (offsets .entry)) .number ⌝ }
+    ensures state { λ r. ⌜ now (state .exit) ≡ scanState (now (table .entry)) (now (state .entry)) (now (block .entry)) (now (ids .entry)) (now (offsets .entry)) ⌝ }
+    ensures ids { λ r. ⌜ now (ids .exit) ≡ scanIds (now (table .entry)) (now (state .entry)) (now (block .entry)) (now (ids .entry)) (now (offsets .entry)) ⌝ }
+    ensures offsets { λ r. ⌜ now (offsets .exit) ≡ scanOffsets (now (table .entry)) (now (state .entry)) (now (block .entry)) (now (ids .entry)) (now (offsets .entry)) ⌝ }
+    ensures taken { λ r. ⌜ now (taken .exit) ≡ scanAnswer (now (table .entry)) (now (state .entry)) (now (block .entry)) (now (ids .entry)) (now (offsets .entry)) .taken ⌝ }
+    ensures reports { λ r. ⌜ now (reports .exit) ≡ scanAnswer (now (table .entry)) (now (state .entry)) (now (block .entry)) (now (ids .entry)) (now (offsets .entry)) .reports ⌝ }
+{
+    if state.len() < STATE_WORDS {
+        *taken = 0;
+        *reports = 0;
+        return SHORT_STATE;
+    }
+    let s = load(state);
+    let r = s.scan(table, block, ids, offsets);
+    *taken = r.taken;
+    *reports = r.reports;
+    let next = r.stream;
+    if r.number == 0 {
+        store(state, next);
+    }
+    r.number
+}
+
+// Closes a stream, and says how many reports it wrote.
+#[no_mangle]
+pub extern "C" fn watcher_close(
+    table: &[u64],
+    state: &mut [u64],
+    ids: &mut [u32],
+    offsets: &mut [u64],
+    reports: &mut usize,
+) -> u32
+    ensures answer { λ r. ⌜ r ≡ closeAnswer (now (table .entry)) (now (state .entry)) (now (ids .entry)) (now (offsets .entry)) .number ⌝ }
+    ensures state { λ r. ⌜ now (state .exit) ≡ closeState (now (table .entry)) (now (state .entry)) (now (ids .entry)) (now (offsets .entry)) ⌝ }
+    ensures ids { λ r. ⌜ now (ids .exit) ≡ closeIds (now (table .entry)) (now (state .entry)) (now (ids .entry)) (now (offsets .entry)) ⌝ }
+    ensures offsets { λ r. ⌜ now (offsets .exit) ≡ closeOffsets (now (table .entry)) (now (state .entry)) (now (ids .entry)) (now (offsets .entry)) ⌝ }
+    ensures reports { λ r. ⌜ now (reports .exit) ≡ closeAnswer (now (table .entry)) (now (state .entry)) (now (ids .entry)) (now (offsets .entry)) .reports ⌝ }
+{
+    if state.len() < STATE_WORDS {
+        *reports = 0;
+        return SHORT_STATE;
+    }
+    let s = load(state);
+    let r = s.close(table, ids, offsets);
+    *reports = r.reports;
+    let next = r.stream;
+    if r.number == 0 {
+        store(state, next);
+    }
+    r.number
+}
+
+// How many positions are live.
+#[no_mangle]
+pub extern "C" fn watcher_busy(state: &[u64]) -> u32
+    ensures { λ r. ⌜ r ≡ busyFigure (now (state .entry)) ⌝ }
+{
+    if state.len() < STATE_WORDS {
+        return 0;
+    }
+    let s = load(state);
+    s.busy()
+}

@@ -1,0 +1,129 @@
+/*
+ * A verified regular-expression stream watcher: the interface for C and C++.
+ *
+ * Rules are added to a table, a stream is opened on the table, blocks of bytes
+ * are scanned, the stream is closed. Every match is reported as the id of its
+ * rule and its end offset in the stream, whatever the blocks are like. The rules
+ * of matching are Hyperscan's: all matches, end offsets only.
+ *
+ * The library has no heap, no globals and no callbacks. The caller owns all
+ * memory: WATCHER_TABLE_WORDS words for a table, WATCHER_STATE_WORDS words for a
+ * stream, and two lists for reports. Both may be copied with memcpy and kept in a
+ * file. Calls on different memory may run at once; a table is only read by
+ * watcher_open, watcher_scan and watcher_close, so streams may share it.
+ *
+ * Every function answers for any content of the words it is lent. What it asks
+ * of its caller is what C cannot check: each pointer is valid for as many
+ * elements as the length after it says, is not NULL and is aligned, also where
+ * the length is 0; and memory that a call writes overlaps no other memory of the
+ * same call.
+ *
+ * Numbers other than WATCHER_SUCCESS are refusals. A refused call changes
+ * nothing but *place, *taken and *reports; a refused opening also closes the
+ * state. docs/EMBEDDING.md tells more.
+ */
+#ifndef WATCHER_H
+#define WATCHER_H
+
+#include <stddef.h>
+#include <stdint.h>
+
+#ifdef __cplusplus
+extern "C" {
+#endif
+
+/* The words of a table, and of a stream's state. */
+#define WATCHER_TABLE_WORDS 4096
+#define WATCHER_STATE_WORDS 9
+
+/* A table holds at most so many rules, so a scan needs no more report slots. */
+#define WATCHER_MAX_RULES 32
+
+/* How many bytes a stream may have. */
+#define WATCHER_MAX_STREAM UINT64_C(1099511627775)
+
+/* Flags of a rule, with Hyperscan's values; combine them with |. */
+#define WATCHER_FLAG_CASELESS 1u
+#define WATCHER_FLAG_DOTALL 2u
+#define WATCHER_FLAG_SINGLEMATCH 8u
+
+/* The number that a call answers: 0, or why it was refused. */
+typedef uint32_t watcher_error_t;
+
+#define WATCHER_SUCCESS 0u          /* accepted */
+#define WATCHER_NO_TABLE 1u         /* fewer than 4096 words, or the words are no table */
+#define WATCHER_BAD_FLAG 2u         /* a flag other than the three above */
+#define WATCHER_ID_TAKEN 3u         /* a rule of the table has this id */
+#define WATCHER_TABLE_FULL 4u       /* 32 rules are there */
+#define WATCHER_LONG_PATTERN 5u     /* a pattern of more than 256 bytes */
+#define WATCHER_BAD_ESCAPE 6u       /* an escape that is cut off, or \c before a byte it does not take */
+#define WATCHER_BIG_ESCAPE 7u       /* a number escape over 255 */
+#define WATCHER_OPEN_CLASS 8u       /* a class that is not closed */
+#define WATCHER_BAD_RANGE 9u        /* a range that falls, or has a type such as \d at an end */
+#define WATCHER_BAD_QUANTIFIER 10u  /* a quantifier with nothing to repeat */
+#define WATCHER_BAD_COUNT 11u       /* a lower count above the upper, or a count over 65535 */
+#define WATCHER_BAD_GROUP 12u       /* a group that is not closed, or a ')' without one */
+#define WATCHER_DEEP_GROUP 13u      /* a 17th group open at once */
+#define WATCHER_UNSUPPORTED 14u     /* a construct outside the subset */
+#define WATCHER_EMPTY_MATCH 15u     /* the rule could match no bytes */
+#define WATCHER_LARGE_RULE 16u      /* more than 256 positions in the rule */
+#define WATCHER_LARGE_TABLE 17u     /* more than 256 positions with those in the table */
+#define WATCHER_BAD_STATE 18u       /* a state that is not valid for the table */
+#define WATCHER_CLOSED 19u          /* the stream is closed */
+#define WATCHER_SMALL_SPACE 20u     /* fewer report slots than the table has rules */
+#define WATCHER_LONG_STREAM 21u     /* the bytes taken and this block are over WATCHER_MAX_STREAM */
+#define WATCHER_SHORT_STATE 23u     /* fewer than 9 words for the state */
+
+/* Makes the words an empty table, whatever they held. Refuses only too few words. */
+watcher_error_t watcher_empty(uint64_t *table, size_t table_words);
+
+/* WATCHER_SUCCESS if the words are a table, else WATCHER_NO_TABLE. */
+watcher_error_t watcher_test(const uint64_t *table, size_t table_words);
+
+/*
+ * Adds a rule. *place is 0, or for a refusal from 6 on where the fault lies in
+ * the pattern: the first byte of the faulty token, or the pattern's length for a
+ * fault known only at its end. An accepted rule ends all open streams of the
+ * table: their states are refused with WATCHER_BAD_STATE from then on.
+ */
+watcher_error_t watcher_add(uint64_t *table, size_t table_words, uint32_t id,
+                            uint32_t flags, const uint8_t *pattern,
+                            size_t pattern_length, size_t *place);
+
+/*
+ * Opens a stream on the table. A refusal with WATCHER_NO_TABLE leaves a closed
+ * state, all else in it zero.
+ */
+watcher_error_t watcher_open(const uint64_t *table, size_t table_words,
+                             uint64_t *state, size_t state_words);
+
+/*
+ * Scans a block. Reports are written from the front of both lists, ids[i] with
+ * offsets[i], by rising offset and for one offset by rising id; slots past
+ * *reports keep what they held. The scan stops before the first byte whose
+ * reports do not all fit, so *taken may be less than the length: take the reports
+ * out and call again with the rest of the block. With WATCHER_MAX_RULES slots or
+ * more each call takes at least one byte.
+ */
+watcher_error_t watcher_scan(const uint64_t *table, size_t table_words,
+                             uint64_t *state, size_t state_words,
+                             const uint8_t *block, size_t block_length,
+                             uint32_t *ids, size_t ids_length,
+                             uint64_t *offsets, size_t offsets_length,
+                             size_t *taken, size_t *reports);
+
+/* Closes the stream, and reports the matches that needed its end. */
+watcher_error_t watcher_close(const uint64_t *table, size_t table_words,
+                              uint64_t *state, size_t state_words,
+                              uint32_t *ids, size_t ids_length,
+                              uint64_t *offsets, size_t offsets_length,
+                              size_t *reports);
+
+/* The busy figure: how many positions are live. 0 for too few words. */
+uint32_t watcher_busy(const uint64_t *state, size_t state_words);
+
+#ifdef __cplusplus
+}
+#endif
+
+#endif

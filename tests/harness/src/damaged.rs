@@ -1,0 +1,235 @@
+//! Words of any content: tables and states that are damaged here and there, or made up from nothing,
+//! and calls on them, compared with the interpreter of table words: the answer, and every lent word
+//! afterwards. States start anywhere in a stream, also past 65,535 and 4,294,967,296 bytes and at its
+//! limit. Case i of a run depends on the seed and on i alone.
+
+use words::calls::{Answer, Calls};
+use words::interpreter::Interpreter;
+use words::layout::*;
+
+use crate::patterns::pattern;
+use crate::rng::Rng;
+
+#[derive(Clone, Debug, Default)]
+pub struct Count {
+    pub cases: u64,
+    pub calls: u64,
+    pub reports: u64,
+    pub taken: u64,
+    /// Calls by their number.
+    pub by_number: [u64; 24],
+}
+
+/// Everything that a call is lent.
+#[derive(Clone, Debug, PartialEq)]
+struct Lent {
+    table: Vec<u64>,
+    state: Vec<u64>,
+    ids: Vec<u32>,
+    offsets: Vec<u64>,
+}
+
+/// One call on what is lent; a scan if there is a block.
+fn call<C: Calls>(calls: &C, lent: &mut Lent, block: Option<&[u8]>) -> Answer {
+    let Lent { table, state, ids, offsets } = lent;
+    match block {
+        Some(block) => calls.scan(table, state, block, ids, offsets),
+        None => calls.close(table, state, ids, offsets),
+    }
+}
+
+/// Runs the cases from `first` on; the first disagreement is the error.
+pub fn run<C: Calls>(calls: &C, seed: u64, first: u64, cases: u64) -> Result<Count, String> {
+    let mut count = Count::default();
+    for index in first..first + cases {
+        let mut rng = Rng::for_case(seed, index);
+        one_case(calls, &mut rng, &mut count)
+            .map_err(|message| format!("damaged, seed {seed}, case {index}: {message}"))?;
+        count.cases += 1;
+    }
+    Ok(count)
+}
+
+fn one_case<C: Calls>(calls: &C, rng: &mut Rng, count: &mut Count) -> Result<(), String> {
+    let table = table(rng);
+    same("test", calls.test(&table), Interpreter.test(&table))?;
+    let state = state(rng, &table);
+    let mut lent = Lent { table, state, ids: Vec::new(), offsets: Vec::new() };
+    for _ in 0..1 + rng.below(4) {
+        if rng.once_in(8) {
+            opened(calls, &mut lent)?;
+        }
+        if rng.once_in(8) {
+            added(calls, rng, &mut lent)?;
+        }
+        lent.ids = (0..space(rng)).map(|_| rng.word() as u32).collect();
+        lent.offsets = (0..space(rng)).map(|_| rng.word()).collect();
+        let block: Vec<u8> = (0..rng.below(40)).map(|_| byte(rng)).collect();
+        let block = (!rng.once_in(6)).then_some(&block[..]);
+        same("busy figure", calls.busy(&lent.state), Interpreter.busy(&lent.state))?;
+        let before = lent.clone();
+        let mut wanted = before.clone();
+        let answer = call(calls, &mut lent, block);
+        let expected = call(&Interpreter, &mut wanted, block);
+        let what = || format!("{block:?} on state {:?}", before.state);
+        same(&what(), answer, expected)?;
+        if lent != wanted {
+            return Err(format!("{}: other words were left", what()));
+        }
+        if answer.number != 0 && lent != before {
+            return Err(format!("{}: a refusal changed a word", what()));
+        }
+        count.calls += 1;
+        count.by_number[answer.number as usize] += 1;
+        count.reports += answer.count as u64;
+        count.taken += answer.taken as u64;
+    }
+    Ok(())
+}
+
+fn opened<C: Calls>(calls: &C, lent: &mut Lent) -> Result<(), String> {
+    let mut wanted = lent.clone();
+    let number = calls.open(&lent.table, &mut lent.state);
+    same("opening", number, Interpreter.open(&wanted.table, &mut wanted.state))?;
+    if *lent != wanted {
+        return Err("an opening left other words".to_string());
+    }
+    Ok(())
+}
+
+/// An addition, after which the state may be valid no more.
+fn added<C: Calls>(calls: &C, rng: &mut Rng, lent: &mut Lent) -> Result<(), String> {
+    let (id, flags, pattern) = (rng.below(40) as u32, *rng.pick(&[0, 1, 8]), pattern(rng));
+    let mut wanted = lent.clone();
+    let answer = calls.add(&mut lent.table, id, flags, &pattern);
+    same("addition", answer, Interpreter.add(&mut wanted.table, id, flags, &pattern))?;
+    if *lent != wanted {
+        return Err(format!("the addition of {} left other words", pattern.escape_ascii()));
+    }
+    Ok(())
+}
+
+fn same<T: PartialEq + std::fmt::Debug>(what: &str, got: T, wanted: T) -> Result<(), String> {
+    if got == wanted {
+        return Ok(());
+    }
+    Err(format!("{what}: got {got:?}, wanted {wanted:?}"))
+}
+
+/// Mostly enough for all rules.
+fn space(rng: &mut Rng) -> usize {
+    match rng.below(6) {
+        0 => rng.below(8),
+        1..=3 => 32,
+        _ => 32 + rng.below(300),
+    }
+}
+
+fn byte(rng: &mut Rng) -> u8 {
+    *rng.pick(&[b'a', b'b', b'c', b'A', b'0', 10, 0, 255])
+}
+
+/// A table of a few rules, or of made-up sets, and then damaged.
+fn table(rng: &mut Rng) -> Vec<u64> {
+    let mut words = vec![0; TABLE_WORDS + rng.below(3)];
+    Interpreter.empty(&mut words);
+    for _ in 0..rng.below(5) {
+        let (id, flags) = (rng.below(9) as u32, *rng.pick(&[0, 1, 2, 8, 8, 11]));
+        Interpreter.add(&mut words, id, flags, &pattern(rng));
+    }
+    if rng.once_in(4) {
+        made_up(rng, &mut words);
+    }
+    for _ in 0..rng.below(4) {
+        damage(rng, &mut words);
+    }
+    if rng.once_in(40) {
+        words.truncate(TABLE_WORDS - 1 - rng.below(2) * rng.below(TABLE_WORDS));
+    }
+    words
+}
+
+/// Some counts and records that pass the test, and sets of any content, thick or thin.
+fn made_up(rng: &mut Rng, words: &mut [u64]) {
+    let rules = *rng.pick(&[1, 2, 5, 31, 32]);
+    let positions = *rng.pick(&[0, 1, 63, 64, 65, 128, 255, 256]);
+    words[RULES] = rules;
+    words[POSITIONS] = positions;
+    let mut id = 0;
+    for place in 0..rules as usize {
+        id += 1 + rng.word() % 0x0700_0000;
+        words[record(place) + ID] = id;
+        words[record(place) + FLAGS] = *rng.pick(&[0, 1, 2, 8, 11]);
+        words[record(place) + FROM] = 0;
+        words[record(place) + TO] = positions;
+    }
+    let thin = rng.below(6);
+    let word = |rng: &mut Rng| (0..thin).fold(rng.word(), |word, _| word & rng.word());
+    for at in (FIRST..FIRST + 8).chain(1_024..3_072) {
+        words[at] = word(rng);
+    }
+    for place in 0..rules as usize {
+        for at in record(place) + LAST..record(place) + LAST + 8 {
+            words[at] = word(rng);
+        }
+    }
+}
+
+/// One word changed: in the header, in a record, in a set, or anywhere.
+fn damage(rng: &mut Rng, words: &mut [u64]) {
+    let at = match rng.below(6) {
+        0 => rng.below(3),
+        1 => record(rng.below(6)) + rng.below(4),
+        2 => record(rng.below(6)) + rng.below(RECORD_WORDS),
+        3 => FIRST + rng.below(8),
+        4 => 1_024 + rng.below(2_048),
+        _ => rng.below(words.len()),
+    };
+    words[at] = match rng.below(6) {
+        0 => rng.word(),
+        1 => words[at] ^ 1 << rng.below(64),
+        2 => words[at].wrapping_add(1),
+        3 => words[at] | 1 << 32,
+        4 => rng.below(40) as u64,
+        _ => u64::MAX,
+    };
+}
+
+/// A state that was opened on the table, somewhere in its stream, and then perhaps damaged.
+fn state(rng: &mut Rng, table: &[u64]) -> Vec<u64> {
+    let mut state = vec![0x5a5a; STATE_WORDS + rng.below(2)];
+    Interpreter.open(table, &mut state);
+    let positions = state[STATE_POSITIONS].min(MAX_POSITIONS as u64) as usize;
+    if positions > 0 {
+        for _ in 0..rng.below(6) {
+            put(&mut state, 0, rng.below(positions));
+        }
+    }
+    state[TAKEN] = match rng.below(8) {
+        0 | 1 => 0,
+        2 => 65_535 - rng.word() % 40,
+        3 => 4_294_967_296 - rng.word() % 40,
+        4 => MAX_STREAM - rng.word() % 40,
+        5 => MAX_STREAM,
+        _ => rng.word() % MAX_STREAM,
+    };
+    if rng.once_in(6) {
+        damage_state(rng, &mut state);
+    }
+    if rng.once_in(40) {
+        state.truncate(rng.below(STATE_WORDS));
+    }
+    state
+}
+
+fn damage_state(rng: &mut Rng, state: &mut [u64]) {
+    let at = rng.below(STATE_WORDS);
+    state[at] = match rng.below(6) {
+        0 => rng.word(),
+        1 => state[at] ^ 1 << rng.below(64),
+        2 => state[at] + (1 << 32),
+        3 => state[at].wrapping_add(1),
+        4 => MAX_STREAM + 1,
+        _ => u64::MAX,
+    };
+}

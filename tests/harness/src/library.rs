@@ -1,0 +1,61 @@
+//! The library behind the calls over words, through the functions that its static library exports.
+
+use watcher::raw;
+use words::calls::{Answer, Calls};
+#[cfg(not(feature = "add"))]
+use words::interpreter::Interpreter;
+
+pub struct Library;
+
+impl Calls for Library {
+    fn empty(&self, table: &mut [u64]) -> u32 {
+        raw::empty(table)
+    }
+
+    fn test(&self, table: &[u64]) -> u32 {
+        raw::test(table)
+    }
+
+    #[cfg(feature = "add")]
+    fn add(&self, table: &mut [u64], id: u32, flags: u32, pattern: &[u8]) -> (u32, usize) {
+        raw::add(table, id, flags, pattern)
+    }
+
+    #[cfg(not(feature = "add"))]
+    fn add(&self, table: &mut [u64], id: u32, flags: u32, pattern: &[u8]) -> (u32, usize) {
+        Interpreter.add(table, id, flags, pattern)
+    }
+
+    fn open(&self, table: &[u64], state: &mut [u64]) -> u32 {
+        raw::open(table, state)
+    }
+
+    fn scan(
+        &self,
+        table: &[u64],
+        state: &mut [u64],
+        block: &[u8],
+        ids: &mut [u32],
+        offsets: &mut [u64],
+    ) -> Answer {
+        answer(raw::scan(table, state, block, ids, offsets))
+    }
+
+    fn close(
+        &self,
+        table: &[u64],
+        state: &mut [u64],
+        ids: &mut [u32],
+        offsets: &mut [u64],
+    ) -> Answer {
+        answer(raw::close(table, state, ids, offsets))
+    }
+
+    fn busy(&self, state: &[u64]) -> u32 {
+        raw::busy(state)
+    }
+}
+
+fn answer(answer: raw::Answer) -> Answer {
+    Answer { number: answer.number, taken: answer.taken, count: answer.reports }
+}

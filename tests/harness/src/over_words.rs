@@ -1,0 +1,83 @@
+//! A watcher made of calls over lent words.
+
+use words::calls::Calls;
+use words::layout::{FORMAT, MARKS, POSITIONS, STATE_WORDS, TABLE_WORDS, TAKEN};
+
+use crate::watcher::{Answer, Change, PatternReader, Reading, Watcher};
+
+pub struct OverWords<C>(pub C);
+
+impl<C: Calls> Watcher for OverWords<C> {
+    type Table = Vec<u64>;
+    type Stream = [u64; STATE_WORDS];
+
+    fn words(&self, count: usize) -> Vec<u64> {
+        (0..count as u64).map(|index| !FORMAT ^ index).collect()
+    }
+
+    fn resized(&self, table: &Vec<u64>, count: usize) -> Vec<u64> {
+        let mut words = self.words(count.max(table.len()));
+        words[..table.len()].copy_from_slice(table);
+        words.truncate(count);
+        words
+    }
+
+    fn empty(&self, table: &mut Vec<u64>) -> u32 {
+        self.0.empty(table)
+    }
+
+    fn add(&self, table: &mut Vec<u64>, id: u32, flags: u32, pattern: &[u8]) -> (u32, usize) {
+        self.0.add(table, id, flags, pattern)
+    }
+
+    fn open(&self, table: &Vec<u64>) -> (u32, Self::Stream) {
+        let mut state = [0xdead_beef; STATE_WORDS];
+        (self.0.open(table, &mut state), state)
+    }
+
+    fn scan(
+        &self,
+        table: &Vec<u64>,
+        mut stream: Self::Stream,
+        block: &[u8],
+        ids: &mut [u32],
+        offsets: &mut [u64],
+    ) -> Answer<Self::Stream> {
+        let answer = self.0.scan(table, &mut stream, block, ids, offsets);
+        Answer { number: answer.number, taken: answer.taken, count: answer.count, stream }
+    }
+
+    fn close(
+        &self,
+        table: &Vec<u64>,
+        mut stream: Self::Stream,
+        ids: &mut [u32],
+        offsets: &mut [u64],
+    ) -> Answer<Self::Stream> {
+        let answer = self.0.close(table, &mut stream, ids, offsets);
+        Answer { number: answer.number, taken: answer.taken, count: answer.count, stream }
+    }
+
+    fn busy(&self, stream: &Self::Stream) -> usize {
+        self.0.busy(stream) as usize
+    }
+
+    fn changed(&self, stream: &Self::Stream, change: Change) -> Option<Self::Stream> {
+        let mut state = *stream;
+        match change {
+            Change::Total(total) => state[TAKEN] = total,
+            Change::Live(position) => *state[..4].get_mut(position / 64)? |= 1 << (position % 64),
+            Change::Mark(rule) => state[MARKS] |= 1u64.checked_shl(rule as u32)?,
+        }
+        Some(state)
+    }
+}
+
+impl<C: Calls> PatternReader for OverWords<C> {
+    fn read(&self, flags: u32, pattern: &[u8]) -> Reading {
+        let mut table = vec![0; TABLE_WORDS];
+        self.0.empty(&mut table);
+        let (number, place) = self.0.add(&mut table, 0, flags, pattern);
+        Reading { number, place, positions: table[POSITIONS] as usize }
+    }
+}

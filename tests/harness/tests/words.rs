@@ -1,0 +1,170 @@
+//! The interpreter of table words can be trusted, and so can the mode of damaged words: on the tables
+//! that the compiler writes, the interpreter gives what the definition gives, for the whole corpus
+//! and some random cases; and the mode finds calls over words with one mistake each.
+
+use harness::corpus_run::run_folder;
+use harness::damaged::run;
+use harness::over_words::OverWords;
+use harness::random;
+use words::calls::{Answer, Calls};
+use words::interpreter::Interpreter;
+use words::layout::*;
+
+/// The interpreter with one mistake.
+#[derive(Clone, Copy, Debug)]
+enum Slip {
+    ClosedIsOneOnly,
+    CountsIn32Bits,
+    MarksPastTheRules,
+    LiveOutside,
+    RefusalStores,
+    RefusedOpeningLeavesState,
+    WordPastTheState,
+    ShortStateIsNoTable,
+    OffsetsIn32Bits,
+    EqualIds,
+}
+
+const ALL: [Slip; 10] = [
+    Slip::ClosedIsOneOnly,
+    Slip::CountsIn32Bits,
+    Slip::MarksPastTheRules,
+    Slip::LiveOutside,
+    Slip::RefusalStores,
+    Slip::RefusedOpeningLeavesState,
+    Slip::WordPastTheState,
+    Slip::ShortStateIsNoTable,
+    Slip::OffsetsIn32Bits,
+    Slip::EqualIds,
+];
+
+impl Slip {
+    /// The words that the slipping calls take for the state.
+    fn before(self, table: &[u64], state: &mut [u64]) {
+        if state.len() < STATE_WORDS || table.len() < TABLE_WORDS {
+            return;
+        }
+        match self {
+            Slip::ClosedIsOneOnly => state[CLOSED] = u64::from(state[CLOSED] == 1),
+            Slip::CountsIn32Bits => {
+                state[STATE_RULES] &= 0xffff_ffff;
+                state[STATE_POSITIONS] &= 0xffff_ffff;
+            }
+            Slip::MarksPastTheRules => {
+                state[MARKS] &= 1u64.checked_shl(table[RULES] as u32).map_or(!0, |bit| bit - 1)
+            }
+            Slip::LiveOutside => {
+                for p in (0..MAX_POSITIONS).skip(table[POSITIONS] as usize) {
+                    state[p / 64] &= !(1 << (p % 64));
+                }
+            }
+            _ => {}
+        }
+    }
+
+    fn after(self, answer: &mut Answer, state: &mut [u64], kept: &[u64], offsets: &mut [u64]) {
+        if answer.number != 0 {
+            state.copy_from_slice(kept);
+        }
+        match self {
+            Slip::RefusalStores if answer.number == 19 => state[CLOSED] = 1,
+            Slip::WordPastTheState if answer.number == 0 && state.len() > STATE_WORDS => {
+                state[STATE_WORDS] = 0
+            }
+            Slip::ShortStateIsNoTable if answer.number == SHORT_STATE => answer.number = 1,
+            Slip::OffsetsIn32Bits => {
+                offsets[..answer.count].iter_mut().for_each(|end| *end &= 0xffff_ffff)
+            }
+            _ => {}
+        }
+    }
+}
+
+impl Calls for Slip {
+    fn empty(&self, table: &mut [u64]) -> u32 {
+        Interpreter.empty(table)
+    }
+
+    fn test(&self, table: &[u64]) -> u32 {
+        let mut words = table.to_vec();
+        let two = words.len() >= TABLE_WORDS && words[RULES] == 2;
+        if matches!(self, Slip::EqualIds) && two && words[record(1)] == words[record(0)] {
+            words[record(1)] += 1;
+        }
+        Interpreter.test(&words)
+    }
+
+    fn add(&self, table: &mut [u64], id: u32, flags: u32, pattern: &[u8]) -> (u32, usize) {
+        Interpreter.add(table, id, flags, pattern)
+    }
+
+    fn open(&self, table: &[u64], state: &mut [u64]) -> u32 {
+        let kept = state.to_vec();
+        let number = Interpreter.open(table, state);
+        if matches!(self, Slip::RefusedOpeningLeavesState) && number != 0 {
+            state.copy_from_slice(&kept);
+        }
+        number
+    }
+
+    fn scan(
+        &self,
+        table: &[u64],
+        state: &mut [u64],
+        block: &[u8],
+        ids: &mut [u32],
+        offsets: &mut [u64],
+    ) -> Answer {
+        let kept = state.to_vec();
+        self.before(table, state);
+        let mut answer = Interpreter.scan(table, state, block, ids, offsets);
+        self.after(&mut answer, state, &kept, offsets);
+        answer
+    }
+
+    fn close(
+        &self,
+        table: &[u64],
+        state: &mut [u64],
+        ids: &mut [u32],
+        offsets: &mut [u64],
+    ) -> Answer {
+        let kept = state.to_vec();
+        self.before(table, state);
+        let mut answer = Interpreter.close(table, state, ids, offsets);
+        self.after(&mut answer, state, &kept, offsets);
+        answer
+    }
+
+    fn busy(&self, state: &[u64]) -> u32 {
+        Interpreter.busy(state)
+    }
+}
+
+#[test]
+fn the_interpreter_agrees_with_itself() {
+    let count = run(&Interpreter, 1, 0, 3_000).unwrap();
+    for number in [0, 1, 18, 19, 20, 21, 23] {
+        assert!(count.by_number[number] > 20, "number {number} is too rare");
+    }
+}
+
+#[test]
+fn every_slip_is_found() {
+    for slip in ALL {
+        assert!(run(&slip, 1, 0, 30_000).is_err(), "{slip:?} was not found");
+    }
+}
+
+#[test]
+fn the_corpus() {
+    let tally = run_folder(&OverWords(Interpreter), corpus::files::folder()).unwrap();
+    assert!(tally.failures.is_empty(), "{}", tally.failures.join("\n"));
+    assert_eq!(tally.skipped, 0);
+    assert!(tally.passed >= 1_000);
+}
+
+#[test]
+fn random_cases() {
+    random::run(&OverWords(Interpreter), 5, 0, 3_000).unwrap();
+}

@@ -1,0 +1,40 @@
+//! The calls over lent words, as the library has them: a state is nine words that the caller owns.
+
+/// What a scan or a closing answers besides the words it leaves; a closing takes no bytes.
+#[derive(Clone, Copy, Debug, PartialEq, Eq)]
+pub struct Answer {
+    pub number: u32,
+    pub taken: usize,
+    pub count: usize,
+}
+
+pub trait Calls {
+    fn empty(&self, table: &mut [u64]) -> u32;
+
+    /// 0 for words that are a table, else 1.
+    fn test(&self, table: &[u64]) -> u32;
+
+    /// The number and the place.
+    fn add(&self, table: &mut [u64], id: u32, flags: u32, pattern: &[u8]) -> (u32, usize);
+
+    fn open(&self, table: &[u64], state: &mut [u64]) -> u32;
+
+    fn scan(
+        &self,
+        table: &[u64],
+        state: &mut [u64],
+        block: &[u8],
+        ids: &mut [u32],
+        offsets: &mut [u64],
+    ) -> Answer;
+
+    fn close(
+        &self,
+        table: &[u64],
+        state: &mut [u64],
+        ids: &mut [u32],
+        offsets: &mut [u64],
+    ) -> Answer;
+
+    fn busy(&self, state: &[u64]) -> u32;
+}

@@ -1,0 +1,227 @@
+//! What table words mean to the calls. Every question is asked of one position, one rule or one
+//! byte at a time; nothing is computed for a whole set, and nothing is skipped.
+
+use crate::calls::{Answer, Calls};
+use crate::compiler;
+use crate::layout::*;
+
+pub struct Interpreter;
+
+/// The words that a call is lent, once they are known to be a table.
+struct Table<'w>(&'w [u64]);
+
+impl Table<'_> {
+    fn rules(&self) -> usize {
+        self.0[RULES] as usize
+    }
+
+    fn positions(&self) -> usize {
+        self.0[POSITIONS] as usize
+    }
+
+    fn single(&self, place: usize) -> bool {
+        self.0[record(place) + FLAGS] & SINGLE_MATCH != 0
+    }
+
+    /// Has the rule a live position in the set at this word of its record?
+    fn ends(&self, live: &[u64], place: usize, set: usize) -> bool {
+        (0..MAX_POSITIONS).any(|p| has(live, 0, p) && has(self.0, record(place) + set, p))
+    }
+
+    /// The live set after one more byte.
+    fn next_live(&self, live: &[u64], taken: u64, byte: u8) -> [u64; 4] {
+        let first = if taken == 0 { FIRST_AT_START } else { FIRST };
+        let mut next = [0; 4];
+        for q in 0..self.positions() {
+            let reached = has(self.0, first, q)
+                || (0..MAX_POSITIONS).any(|p| has(live, 0, p) && has(self.0, follow(p), q));
+            if reached && has(self.0, takers(byte), q) {
+                put(&mut next, 0, q);
+            }
+        }
+        next
+    }
+
+    /// Is the state valid for this table?
+    fn fits(&self, state: &[u64]) -> bool {
+        state[STATE_RULES] == self.0[RULES]
+            && state[STATE_POSITIONS] == self.0[POSITIONS]
+            && (self.positions()..MAX_POSITIONS).all(|p| !has(state, 0, p))
+            && (0..64).all(|a| state[MARKS] >> a & 1 == 0 || (a < self.rules() && self.single(a)))
+            && state[TAKEN] <= MAX_STREAM
+    }
+
+    /// Writes a report for each of these rules at the front of the free slots, if all fit.
+    fn report(
+        &self,
+        found: &[usize],
+        end: u64,
+        ids: &mut [u32],
+        offsets: &mut [u64],
+        count: &mut usize,
+    ) -> bool {
+        if *count + found.len() > ids.len().min(offsets.len()) {
+            return false;
+        }
+        for &place in found {
+            ids[*count] = self.0[record(place) + ID] as u32;
+            offsets[*count] = end;
+            *count += 1;
+        }
+        true
+    }
+}
+
+/// The test of docs/TABLE.md.
+fn table(words: &[u64]) -> Option<Table<'_>> {
+    if words.len() < TABLE_WORDS || words[0] != FORMAT {
+        return None;
+    }
+    if words[RULES] > MAX_RULES as u64 || words[POSITIONS] > MAX_POSITIONS as u64 {
+        return None;
+    }
+    let mut before: Option<u64> = None;
+    for place in 0..words[RULES] as usize {
+        let of = &words[record(place)..];
+        let (id, flags, from, to) = (of[ID], of[FLAGS], of[FROM], of[TO]);
+        let rises = before.map_or(true, |before| before < id);
+        let known = flags & !KNOWN_FLAGS == 0;
+        if id >> 32 != 0 || !rises || !known || from > to || to > words[POSITIONS] {
+            return None;
+        }
+        before = Some(id);
+    }
+    Some(Table(words))
+}
+
+/// The checks of a scan in their order; a closing is checked as a scan of no bytes.
+fn checked<'w>(
+    words: &'w [u64],
+    state: &[u64],
+    block: usize,
+    space: usize,
+) -> Result<Table<'w>, u32> {
+    if state.len() < STATE_WORDS {
+        return Err(SHORT_STATE);
+    }
+    let table = table(words).ok_or(1u32)?;
+    if !table.fits(state) {
+        return Err(18);
+    }
+    if state[CLOSED] != 0 {
+        return Err(19);
+    }
+    if block as u64 > MAX_STREAM - state[TAKEN] {
+        return Err(21);
+    }
+    if space < table.rules() {
+        return Err(20);
+    }
+    Ok(table)
+}
+
+fn refused(number: u32) -> Answer {
+    Answer { number, taken: 0, count: 0 }
+}
+
+impl Calls for Interpreter {
+    fn empty(&self, words: &mut [u64]) -> u32 {
+        if words.len() < TABLE_WORDS {
+            return 1;
+        }
+        words[..TABLE_WORDS].fill(0);
+        words[0] = FORMAT;
+        0
+    }
+
+    fn test(&self, words: &[u64]) -> u32 {
+        u32::from(table(words).is_none())
+    }
+
+    fn add(&self, words: &mut [u64], id: u32, flags: u32, pattern: &[u8]) -> (u32, usize) {
+        if table(words).is_none() {
+            return (1, 0);
+        }
+        compiler::add(words, id, flags, pattern)
+    }
+
+    fn open(&self, words: &[u64], state: &mut [u64]) -> u32 {
+        if state.len() < STATE_WORDS {
+            return SHORT_STATE;
+        }
+        state[..STATE_WORDS].fill(0);
+        match table(words) {
+            Some(_) => {
+                state[STATE_RULES] = words[RULES];
+                state[STATE_POSITIONS] = words[POSITIONS];
+                0
+            }
+            None => {
+                state[CLOSED] = 1;
+                1
+            }
+        }
+    }
+
+    fn scan(
+        &self,
+        words: &[u64],
+        state: &mut [u64],
+        block: &[u8],
+        ids: &mut [u32],
+        offsets: &mut [u64],
+    ) -> Answer {
+        let table = match checked(words, state, block.len(), ids.len().min(offsets.len())) {
+            Ok(table) => table,
+            Err(number) => return refused(number),
+        };
+        let mut count = 0;
+        let mut taken = 0;
+        for &byte in block {
+            let live = table.next_live(&state[..4], state[TAKEN], byte);
+            let ending: Vec<usize> =
+                (0..table.rules()).filter(|&a| table.ends(&live, a, LAST)).collect();
+            let due: Vec<usize> =
+                ending.iter().copied().filter(|a| state[MARKS] >> a & 1 == 0).collect();
+            if !table.report(&due, state[TAKEN] + 1, ids, offsets, &mut count) {
+                break;
+            }
+            for a in due.into_iter().filter(|&a| table.single(a)) {
+                state[MARKS] |= 1 << a;
+            }
+            state[..4].copy_from_slice(&live);
+            state[TAKEN] += 1;
+            taken += 1;
+        }
+        Answer { number: 0, taken, count }
+    }
+
+    fn close(
+        &self,
+        words: &[u64],
+        state: &mut [u64],
+        ids: &mut [u32],
+        offsets: &mut [u64],
+    ) -> Answer {
+        let table = match checked(words, state, 0, ids.len().min(offsets.len())) {
+            Ok(table) => table,
+            Err(number) => return refused(number),
+        };
+        let live = &state[..4];
+        let found: Vec<usize> = (0..table.rules())
+            .filter(|&a| table.ends(live, a, LAST_AT_END) && !table.ends(live, a, LAST))
+            .filter(|&a| state[MARKS] >> a & 1 == 0)
+            .collect();
+        let mut count = 0;
+        table.report(&found, state[TAKEN], ids, offsets, &mut count);
+        state[CLOSED] = 1;
+        Answer { number: 0, taken: 0, count }
+    }
+
+    fn busy(&self, state: &[u64]) -> u32 {
+        if state.len() < STATE_WORDS {
+            return 0;
+        }
+        (0..MAX_POSITIONS).filter(|&p| has(state, 0, p)).count() as u32
+    }
+}

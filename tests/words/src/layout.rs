@@ -1,0 +1,58 @@
+//! The places of a table's words and of a state's words, as docs/TABLE.md and docs/EMBEDDING.md
+//! list them.
+
+pub const TABLE_WORDS: usize = 4_096;
+pub const FORMAT: u64 = 0x7761_7463_6865_7231;
+pub const MAX_RULES: usize = 32;
+pub const MAX_POSITIONS: usize = 256;
+/// How many bytes a stream may have.
+pub const MAX_STREAM: u64 = 1_099_511_627_775;
+
+pub const RULES: usize = 1;
+pub const POSITIONS: usize = 2;
+pub const FIRST: usize = 4;
+pub const FIRST_AT_START: usize = 8;
+
+/// The words of a record, from its first.
+pub const ID: usize = 0;
+pub const FLAGS: usize = 1;
+pub const FROM: usize = 2;
+pub const TO: usize = 3;
+pub const LAST: usize = 4;
+pub const LAST_AT_END: usize = 8;
+pub const RECORD_WORDS: usize = 16;
+
+pub const KNOWN_FLAGS: u64 = 1 + 2 + 8;
+pub const SINGLE_MATCH: u64 = 8;
+
+pub fn record(place: usize) -> usize {
+    64 + RECORD_WORDS * place
+}
+
+pub fn follow(position: usize) -> usize {
+    1_024 + 4 * position
+}
+
+pub fn takers(byte: u8) -> usize {
+    2_048 + 4 * byte as usize
+}
+
+/// Is the position in the set whose four words begin at `at`?
+pub fn has(words: &[u64], at: usize, position: usize) -> bool {
+    words[at + position / 64] >> (position % 64) & 1 == 1
+}
+
+/// Puts the position into the set whose four words begin at `at`.
+pub fn put(words: &mut [u64], at: usize, position: usize) {
+    words[at + position / 64] |= 1 << (position % 64);
+}
+
+/// The words of a state: the live set's four from 0 on, and these.
+pub const MARKS: usize = 4;
+pub const TAKEN: usize = 5;
+pub const STATE_RULES: usize = 6;
+pub const STATE_POSITIONS: usize = 7;
+pub const CLOSED: usize = 8;
+pub const STATE_WORDS: usize = 9;
+/// The number for fewer words than a state has.
+pub const SHORT_STATE: u32 = 23;

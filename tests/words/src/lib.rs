@@ -1,0 +1,9 @@
+//! Table words and state words, written from docs/TABLE.md and the product's rules alone: what a
+//! table's words mean to the calls (`interpreter`), and the words of a table that has some rules
+//! (`compiler`). It is plain and slow on purpose, and it is what the library's calls are compared
+//! with where the words are damaged, so that no pattern describes them any more.
+
+pub mod calls;
+pub mod compiler;
+pub mod interpreter;
+pub mod layout;
