@@ -2,8 +2,6 @@
 
 use watcher::raw;
 use words::calls::{Answer, Calls};
-#[cfg(not(feature = "add"))]
-use words::interpreter::Interpreter;
 
 pub struct Library;
 
@@ -16,14 +14,8 @@ impl Calls for Library {
         raw::test(table)
     }
 
-    #[cfg(feature = "add")]
     fn add(&self, table: &mut [u64], id: u32, flags: u32, pattern: &[u8]) -> (u32, usize) {
         raw::add(table, id, flags, pattern)
-    }
-
-    #[cfg(not(feature = "add"))]
-    fn add(&self, table: &mut [u64], id: u32, flags: u32, pattern: &[u8]) -> (u32, usize) {
-        Interpreter.add(table, id, flags, pattern)
     }
 
     fn open(&self, table: &[u64], state: &mut [u64]) -> u32 {
