@@ -2,14 +2,16 @@
 // an array of words, each node's children with smaller numbers, so nothing is lent and a refusal has nothing to leave alone.
 mod figures;
 mod nodes;
+mod reader;
 mod readers;
 
 use figures::count;
 use figures::nullable;
-use readers::Got;
+pub use reader::Reader;
 use readers::branches;
 use tokens::Options;
 ghost use mathlib.Core.Path.{_≡_};
+ghost use lib.ListN.{drop};
 ghost use Rattle.pattern.specs.Read.{readOf, optionsOf, answerOf};
 ghost use Rattle.pattern.specs.Walk.{Read};
 
@@ -48,8 +50,8 @@ fn options_of(flags: u32) -> Options
     }
 }
 
-// Reads a pattern.
-pub fn read(pattern: &[u8], flags: u32) -> Reading
+// Reads a pattern, all of it.
+fn read_all(pattern: &[u8], flags: u32) -> Reading
     ensures { λ r. ⌜ r ≡ answerOf (readOf (now (pattern .entry)) (optionsOf flags)) ⌝ }
 {
     let length = pattern.len();
@@ -79,4 +81,20 @@ pub fn read(pattern: &[u8], flags: u32) -> Reading
         positions: positions as u32,
         nodes,
     }
+}
+
+// Reads the pattern that stands from a place on; past the end there is the empty one. The answer's place counts from there.
+pub fn read_at(s: &[u8], at: usize, flags: u32) -> Reading
+    ensures { λ r. ⌜ r ≡ answerOf (readOf (drop at (now (s .entry))) (optionsOf flags)) ⌝ }
+{
+    let length = s.len();
+    let from = if at < length { at } else { length };
+    read_all(&s[from..], flags)
+}
+
+// Reads a pattern.
+pub fn read(pattern: &[u8], flags: u32) -> Reading
+    ensures { λ r. ⌜ r ≡ answerOf (readOf (now (pattern .entry)) (optionsOf flags)) ⌝ }
+{
+    Reader::new(pattern).read(flags)
 }
