@@ -7,19 +7,16 @@ use lib.Dec.{ltb}
 use lib.ListN.{length, drop}
 use lib.Seq.{sets}
 use Rattle.sets.specs.Set.{has, setOf, emptySet, unionOf, inserted}
-use Rattle.regex.specs.Tree.{empty, Extra, atMost, unbounded}
+use Rattle.regex.specs.Tree.{Extra, atMost, unbounded}
 use Rattle.regex.specs.Form.{Form, write, positions}
 use Rattle.regex.specs.Rule.{Assertion, ByteSet}
 use Rattle.regex.specs.Automaton.{null, first, last, follow, items}
-use Rattle.pattern.specs.Nodes.{Syntax, treeAt}
+use Rattle.pattern.specs.Nodes.{treeAt}
+use Rattle.pattern.specs.Invariants.{childAt}
 use Rattle.automaton.specs.Parts.{fourWords, flat, inside, atStart, atEnd}
 use Rattle.automaton.specs.declared.fragments.Fragment.{Fragment}
 
 -- ---- nodes
-
--- the tree of x as a child of node k: a child that is not smaller reads as empty
-unfoldable pub childAt : List ℕ → ℕ → ℕ → Syntax
-childAt a k x = cond (ltb x k) (treeAt a x) empty
 
 -- the written-out form of node k, and of its child x
 abbrev pub Written : Type 0

@@ -4,6 +4,7 @@ use crate::fragments;
 use crate::fragments::Fragment;
 use crate::nodes;
 use crate::rows;
+use pattern::layout;
 ghost use mathlib.Core.Path.{_≡_};
 ghost use Prim.Native.Nat.{_+_, _≤_, _<_};
 ghost use Rattle.regex.specs.Form.{plus, optionals, repeated};
@@ -127,28 +128,28 @@ pub fn node(
     requires { ⌜ Room (formAt (now a) k) b ⌝ }
     ensures { λ r. ⌜ Built (formAt (now (a .entry)) k) b (now (follow .entry)) (now (follow .exit)) (now (takes .entry)) (now (takes .exit)) r ⌝ }
 {
-    let w = nodes::word(a, k);
+    let w = layout::word(a, k);
     let op = w % 8;
     let x = w / 8 % 2048;
     let y = w / 16384 % 131072;
     let z = w / 2147483648;
-    if op == nodes::ITEM {
+    if op == layout::ITEM {
         rows::put(takes, b, nodes::set_of(a, k));
         return fragments::one(b);
     }
-    if op == nodes::ASSERTION {
+    if op == layout::ASSERTION {
         return fragments::bare(false, x == 0, x != 0);
     }
-    if (op == nodes::THEN) | (op == nodes::OR) {
+    if (op == layout::THEN) | (op == layout::OR) {
         let f = child(a, k, x, b, follow, takes);
         let g = child(a, k, y, b + f.size, follow, takes);
-        if op == nodes::THEN {
+        if op == layout::THEN {
             return then(f, g, follow);
         }
         return fragments::choice(f, g);
     }
-    if op == nodes::REPEAT {
-        return repeat(a, k, x, y, z == nodes::ENDLESS, z, b, follow, takes);
+    if op == layout::REPEAT {
+        return repeat(a, k, x, y, z == layout::ENDLESS, z, b, follow, takes);
     }
     fragments::bare(true, true, true)
 }

@@ -1,6 +1,5 @@
 // The builder: from the reader's numbered nodes to the position automaton of the written-out form: first, last and follow sets, and the byte set of each
 // position, by recursion over the nodes, the node number falling.
-mod counts;
 mod forms;
 mod fragments;
 mod nodes;
@@ -70,7 +69,7 @@ fn whole(nodes: &[u64], root: usize, base: usize) -> Parts
 pub fn build(nodes: &[u64], root: usize, base: usize) -> Parts
     ensures { λ r. ⌜ r ≡ partsOf (treeAt (now (nodes .entry)) root) base ⌝ }
 {
-    let n = counts::count(nodes, root) as usize;
+    let n = pattern::count(nodes, root) as usize;
     if n > 256 {
         return none();
     }

@@ -1,21 +1,19 @@
 -- The whole reading: what the readers answered of the pattern, the two figures of its tree, and the public answer. Assumes nothing.
 use mathlib.Core.Path.{_≡_, refl, sym, ap, _∙_}
-use mathlib.Core.Bool.{Bool, true, false, cond}
-use mathlib.Core.List.{List, [], _∷_, _++_, append-assoc}
-use Prim.Native.Nat.{ℕ, _+_, _-_, _*_, _≤_, _<_}
+use mathlib.Core.Bool.{true, false}
+use mathlib.Core.List.{List, [], _++_}
+use Prim.Native.Nat.{ℕ, _+_, _-_, _≤_, _<_}
 use native.Mathlib.Omega.{arith}
 use borrow.Author.Tests.{lt-ltb, le-ltb}
-use lib.Dec.{eqb, ltb}
-use lib.ListN.{length, take, drop, replicate, length-replicate, replicate-append-replicate}
-use lib.Seq.{sets, sets-eq, drop-at}
+use lib.ListN.{length, drop, replicate, length-replicate, replicate-append-replicate}
+use lib.Seq.{sets, sets-eq, length-sets, drop-at}
 use Rattle.tokens.specs.declared.Options.{Options}
 use Rattle.regex.specs.Count.{limit, saturating, nullable}
 use Rattle.pattern.specs.Nodes.{Syntax, treeAt, width, lay}
-use Rattle.pattern.specs.Walk.{Read, tree, refused, closing, chosen, walk, begin}
+use Rattle.pattern.specs.Walk.{tree, refused, closing, chosen, walk, begin}
 use Rattle.pattern.specs.Read.{longest, judged, readOf, room, answerOf}
-use Rattle.pattern.specs.Invariants.{Tidy, lent, groupEnds, SaidBranches}
+use Rattle.pattern.specs.Invariants.{Tidy, SaidBranches}
 use Rattle.pattern.specs.declared.readers.Got.{Got}
-use Rattle.pattern.specs.declared.Reading.{Reading}
 use Rattle.pattern.proofs.Trees.{lay-length}
 use Rattle.pattern.proofs.Steps.{group-closes, group-open}
 use Rattle.pattern.proofs.Returns.{on-ok, on-no}
@@ -50,6 +48,12 @@ module _ (s z b : List ℕ) (o : Options) (g : Got) (zeros : z ≡ replicate roo
   whole-no bad = read-walk ∙ rw (B .says [] [] refl ∙ on-no g _ bad)
 
   module _ (yes-g : g .fault ≡ 0) where
+    -- writing keeps the number of words
+    pub whole-room : room ≡ length b
+    whole-room =
+        let x : ℕ = 0 in
+        sym (ap length (B .reads yes-g .words) ∙ length-sets z 0 (lay 0 (treeAt b (g .root))) ∙ ap length zeros ∙ length-replicate room x)
+
     pub whole-left : g .at < length s → readOf s o ≡ refused 12 (g .at)
     unfolding judged closing
     whole-left h = read-walk ∙ rw (B .says [] [] refl ∙ on-ok g _ yes-g ∙ group-closes s [] _ (g .at) h)
@@ -58,9 +62,6 @@ module _ (s z b : List ℕ) (o : Options) (g : Got) (zeros : z ≡ replicate roo
       whole-tree : walk s 0 0 (begin o) ≡ tree (treeAt b (g .root))
       unfolding chosen
       whole-tree = B .says [] [] refl ∙ on-ok g _ yes-g ∙ group-open s [] (treeAt b (g .root)) (g .at) all
-
-      pub root-inside : g .root < lent
-      root-inside = let X = B .reads yes-g in omega (arith, X .space, X .top, short)
 
       pub whole-empty : nullable (treeAt b (g .root)) ≡ true → readOf s o ≡ refused 15 (length s)
       unfolding judged

@@ -1,23 +1,16 @@
 // The two figures of a tree, worked out over its nodes by recursion with the node number falling: how many positions it has, and whether it could
-// match no bytes.
-use crate::nodes::ITEM;
-use crate::nodes::OR;
-use crate::nodes::REPEAT;
-use crate::nodes::THEN;
+// match no bytes. Any words stand for some tree, so nothing is asked of them.
+use crate::layout::ENDLESS;
+use crate::layout::ITEM;
+use crate::layout::OR;
+use crate::layout::REPEAT;
+use crate::layout::THEN;
+use crate::layout::word;
 ghost use mathlib.Core.Path.{_≡_};
 ghost use Prim.Native.Nat.{_<_};
-ghost use lib.ListN.{getD};
 ghost use Rattle.regex.specs.Count.{copied, capped, saturating, nullable};
 ghost use Rattle.pattern.specs.Nodes.{treeAt, extraOf};
-ghost use Rattle.pattern.specs.Invariants.{lent, childAt};
-
-// The word of node k.
-fn word(a: &[u64; 2048], k: usize) -> u64
-    requires { ⌜ k < lent ⌝ }
-    ensures { λ r. ⌜ r ≡ getD (now (a .entry)) k 0 ⌝ }
-{
-    a[k]
-}
+ghost use Rattle.pattern.specs.Invariants.{childAt};
 
 // A number as it is up to 256, and 257 for all above.
 fn cap(x: u64) -> u64
@@ -31,15 +24,14 @@ fn copies(least: u64, extra: u64) -> u64
     requires { ⌜ (least < 131072) × (extra < 8589934592) ⌝ }
     ensures { λ r. ⌜ r ≡ copied least (extraOf extra) ⌝ }
 {
-    if extra != 65536 {
+    if extra != ENDLESS {
         return least + extra;
     }
     if least == 0 { 1 } else { least }
 }
 
 // The positions of node k's child x: a child has a smaller number.
-fn count_child(a: &[u64; 2048], k: usize, x: u64) -> u64
-    requires { ⌜ k < lent ⌝ }
+fn count_child(a: &[u64], k: usize, x: u64) -> u64
     ensures { λ r. ⌜ r ≡ saturating (childAt (now (a .entry)) k x) ⌝ }
 {
     if x < k as u64 {
@@ -50,8 +42,7 @@ fn count_child(a: &[u64; 2048], k: usize, x: u64) -> u64
 }
 
 // The positions of node k's tree: exact up to 256, and 257 for all above.
-pub fn count(a: &[u64; 2048], k: usize) -> u64
-    requires { ⌜ k < lent ⌝ }
+pub fn count(a: &[u64], k: usize) -> u64
     ensures { λ r. ⌜ r ≡ saturating (treeAt (now (a .entry)) k) ⌝ }
 {
     let w = word(a, k);
@@ -71,8 +62,7 @@ pub fn count(a: &[u64; 2048], k: usize) -> u64
 }
 
 // Whether node k's child x could match no bytes.
-fn nullable_child(a: &[u64; 2048], k: usize, x: u64) -> bool
-    requires { ⌜ k < lent ⌝ }
+fn nullable_child(a: &[u64], k: usize, x: u64) -> bool
     ensures { λ r. ⌜ r ≡ nullable (childAt (now (a .entry)) k x) ⌝ }
 {
     if x < k as u64 {
@@ -83,8 +73,7 @@ fn nullable_child(a: &[u64; 2048], k: usize, x: u64) -> bool
 }
 
 // Whether node k's tree could match no bytes, were all its assertions true.
-pub fn nullable(a: &[u64; 2048], k: usize) -> bool
-    requires { ⌜ k < lent ⌝ }
+pub fn nullable(a: &[u64], k: usize) -> bool
     ensures { λ r. ⌜ r ≡ nullable (treeAt (now (a .entry)) k) ⌝ }
 {
     let w = word(a, k);

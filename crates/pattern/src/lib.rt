@@ -1,12 +1,13 @@
 // The reader: pattern bytes and options in, a refusal with its place or the syntax tree out. The tree comes back by value as numbered nodes in
 // an array of words, each node's children with smaller numbers, so nothing is lent and a refusal has nothing to leave alone.
 mod figures;
+pub mod layout;
 mod nodes;
 mod reader;
 mod readers;
 
-use figures::count;
-use figures::nullable;
+pub use figures::count;
+pub use figures::nullable;
 pub use reader::Reader;
 use readers::branches;
 use tokens::Options;

@@ -1,4 +1,5 @@
-// Nodes in words, as specs/Nodes.antt says: a node is one word, an item's set stands in the four words before it.
+// Writing nodes into words, as specs/Nodes.antt says: a node is one word, an item's set stands in the four words before it.
+use crate::layout::ITEM;
 ghost use mathlib.Core.Path.{_≡_};
 ghost use mathlib.Core.List.{[], _∷_, _++_};
 ghost use Prim.Native.Nat.{_+_, _≤_, _<_, _^_};
@@ -7,19 +8,6 @@ ghost use lib.Seq.{sets};
 ghost use Rattle.tokens.specs.Number.{cap};
 ghost use Rattle.pattern.specs.Nodes.{word};
 ghost use Rattle.pattern.specs.Invariants.{lent};
-
-// What a node is: the lowest three bits of its word.
-pub const EMPTY: u64 = 0;
-
-pub const ITEM: u64 = 1;
-
-pub const ASSERTION: u64 = 2;
-
-pub const THEN: u64 = 3;
-
-pub const OR: u64 = 4;
-
-pub const REPEAT: u64 = 5;
 
 // Writes a node's word.
 pub fn put(a: &mut [u64; 2048], n: usize, op: u64, x: u64, y: u64, z: u64)

@@ -1,10 +1,10 @@
 // The readers: branches, a sequence, an item, which call one another with the unread length falling, and what they share. Each writes the nodes of
 // what it has read, children first.
-use crate::nodes::ASSERTION;
-use crate::nodes::EMPTY;
-use crate::nodes::OR;
-use crate::nodes::REPEAT;
-use crate::nodes::THEN;
+use crate::layout::ASSERTION;
+use crate::layout::EMPTY;
+use crate::layout::OR;
+use crate::layout::REPEAT;
+use crate::layout::THEN;
 use crate::nodes::put;
 use crate::nodes::put_item;
 use tokens::Atom;
@@ -15,7 +15,7 @@ use tokens::class_at;
 use tokens::item_set;
 use tokens::token_at;
 ghost use mathlib.Core.Path.{_≡_};
-ghost use Prim.Native.Nat.{ℕ, _+_, _≤_, _<_};
+ghost use Prim.Native.Nat.{_+_, _≤_, _<_};
 ghost use lib.ListN.{set};
 ghost use Rattle.pattern.specs.Nodes.{word};
 ghost use Rattle.pattern.specs.Invariants.{lent, Room, refusal, got, faultOf, Here, SaidBranches, SaidSequence, SaidItem, SaidOne, SaidClass, SaidQuantified};

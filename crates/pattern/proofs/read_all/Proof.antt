@@ -1,3 +1,5 @@
+-- `read_all` meets its contract: each return is one law of `Whole` about the answer that the readers gave. The readers' contract names the tree in the words
+-- afterwards, and the two figures are asked of that tree.
 use borrow.Author.Needs.{needs}
 use mathlib.Core.Path.{refl, sym, ap, _∙_}
 use native.Mathlib.Omega.{arith}
@@ -5,13 +7,6 @@ use Rattle.pattern.specs.Read.{optionsOf, answerOf}
 use Rattle.pattern.proofs.Whole as whole
 use Rattle.pattern.proofs.read_all.Statement.{statement}
 use Rattle.pattern.proofs.read_all.Tie as tie
-use Rattle.pattern.proofs.read_all.Reads as reads
-use Rattle.pattern.proofs.read_all.Lts as lts
-use Rattle.pattern.proofs.figures.count.Reads as count-reads
-use Rattle.pattern.proofs.figures.nullable.Reads as nullable-reads
-use Rattle.pattern.proofs.options_of.Reads as options-of-reads
-use Rattle.pattern.proofs.readers.branches.Reads as branches-reads
-use Rattle.pattern.proofs.refused.Reads as refused-reads
 
 refused-requires : tie.Need-refused-requires
 refused-requires c κs = search needs
@@ -56,15 +51,17 @@ returns-3 c =
     let c-if3 = c .before .if3 in
     let x = c-start .args in c-refused3 .ensures ∙ sym (ap answerOf (whole.whole-left (x .pattern .now) _ (c-branches .last .1 .1 .1 .1 .0) (optionsOf (x .flags)) (c-branches .result) refl (c-if1 .left) (rw (c-options-of .ensures) at (c-branches .ensures)) (c-if2 .left) (c-if3 .taken)))
 
-nullable-requires : tie.Need-nullable-requires
-nullable-requires c κs =
+slice-aggregate-nullable : tie.Need-slice-aggregate-nullable
+slice-aggregate-nullable c =
     let c-start = c .before .before .before .before .before .before .before .before .before .before in
     let c-branches = c .before .before .before .before .before .branches in
     let c-if1 = c .before .before .before .before .before .before .before .before .if1 in
     let c-options-of = c .before .before .before .before .before .before .before .options-of in
     let c-if2 = c .before .before .before .if2 in
-    let c-if3 = c .before .if3 in
-    let x = c-start .args in whole.root-inside (x .pattern .now) _ (c-branches .last .1 .1 .1 .1 .0) (optionsOf (x .flags)) (c-branches .result) refl (c-if1 .left) (rw (c-options-of .ensures) at (c-branches .ensures)) (c-if2 .left) (c-if3 .left)
+    let x = c-start .args in whole.whole-room (x .pattern .now) _ (c-branches .last .1 .1 .1 .1 .0) (optionsOf (x .flags)) (c-branches .result) refl (c-if1 .left) (rw (c-options-of .ensures) at (c-branches .ensures)) (c-if2 .left)
+
+nullable-requires : tie.Need-nullable-requires
+nullable-requires c κs = tt
 
 refused-requires-4 : tie.Need-refused-requires-4
 refused-requires-4 c κs = search needs
@@ -82,15 +79,17 @@ returns-4 c =
     let c-if4 = c .before .if4 in
     let x = c-start .args in c-refused4 .ensures ∙ sym (ap answerOf (whole.whole-empty (x .pattern .now) _ (c-branches .last .1 .1 .1 .1 .0) (optionsOf (x .flags)) (c-branches .result) refl (c-if1 .left) (rw (c-options-of .ensures) at (c-branches .ensures)) (c-if2 .left) (c-if3 .left) (sym (c-nullable .ensures) ∙ c-if4 .taken)))
 
-count-requires : tie.Need-count-requires
-count-requires c κs =
+slice-aggregate-count : tie.Need-slice-aggregate-count
+slice-aggregate-count c =
     let c-start = c .before .before .before .before .before .before .before .before .before .before .before .before .before in
     let c-branches = c .before .before .before .before .before .before .before .before .branches in
     let c-if1 = c .before .before .before .before .before .before .before .before .before .before .before .if1 in
     let c-options-of = c .before .before .before .before .before .before .before .before .before .before .options-of in
     let c-if2 = c .before .before .before .before .before .before .if2 in
-    let c-if3 = c .before .before .before .before .if3 in
-    let x = c-start .args in whole.root-inside (x .pattern .now) _ (c-branches .last .1 .1 .1 .1 .0) (optionsOf (x .flags)) (c-branches .result) refl (c-if1 .left) (rw (c-options-of .ensures) at (c-branches .ensures)) (c-if2 .left) (c-if3 .left)
+    let x = c-start .args in whole.whole-room (x .pattern .now) _ (c-branches .last .1 .1 .1 .1 .0) (optionsOf (x .flags)) (c-branches .result) refl (c-if1 .left) (rw (c-options-of .ensures) at (c-branches .ensures)) (c-if2 .left)
+
+count-requires : tie.Need-count-requires
+count-requires c κs = tt
 
 refused-requires-5 : tie.Need-refused-requires-5
 refused-requires-5 c κs = search needs
@@ -110,8 +109,8 @@ returns-5 c =
     let c-count = c .before .before .count in
     let x = c-start .args in c-refused5 .ensures ∙ sym (ap answerOf (whole.whole-many (x .pattern .now) _ (c-branches .last .1 .1 .1 .1 .0) (optionsOf (x .flags)) (c-branches .result) refl (c-if1 .left) (rw (c-options-of .ensures) at (c-branches .ensures)) (c-if2 .left) (c-if3 .left) (sym (c-nullable .ensures) ∙ c-if4 .left) (omega (arith, c-if5 .taken, c-count .ensures))))
 
-cast-t13 : tie.Need-cast-t13
-cast-t13 c = search needs
+cast-t15 : tie.Need-cast-t15
+cast-t15 c = search needs
 
 returns-6 : tie.Need-returns-6
 returns-6 c =
@@ -139,11 +138,13 @@ read-all-spec =
     returns-2
     refused-requires-3
     returns-3
+    slice-aggregate-nullable
     nullable-requires
     refused-requires-4
     returns-4
+    slice-aggregate-count
     count-requires
     refused-requires-5
     returns-5
-    cast-t13
+    cast-t15
     returns-6)

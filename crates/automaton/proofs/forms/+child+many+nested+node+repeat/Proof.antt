@@ -7,7 +7,9 @@ use borrow.Fn.Kinds.{In}
 use borrow.Fn.PlainCycle.{Measures, is, falls, and}
 use Rattle.regex.specs.Form.{seq, positions, optionals}
 use Rattle.pattern.specs.Nodes.{xOf}
-use Rattle.automaton.specs.Invariants.{childAt, childForm, extra}
+use Rattle.pattern.specs.Invariants.{childAt}
+use Rattle.pattern.proofs.layout.word.Reads as word-reads
+use Rattle.automaton.specs.Invariants.{childForm, extra}
 use Rattle.automaton.proofs.Steps as steps
 use Rattle.automaton.proofs.forms.child.Reads as child
 use Rattle.automaton.proofs.forms.child.Kinds as child-kinds
@@ -30,7 +32,6 @@ use Rattle.automaton.proofs.fragments.choice.Reads as choice-reads
 use Rattle.automaton.proofs.fragments.one.Reads as one-reads
 use Rattle.automaton.proofs.fragments.optional.Reads as optional-reads
 use Rattle.automaton.proofs.nodes.set_of.Reads as set-of-reads
-use Rattle.automaton.proofs.nodes.word.Reads as word-reads
 use Rattle.automaton.proofs.rows.join.Reads as join-reads
 use Rattle.automaton.proofs.rows.put.Reads as put-reads
 use Rattle.automaton.proofs.forms.+child+many+nested+node+repeat.{statement}

@@ -1,6 +1,5 @@
 -- The count of positions and the count of a child meet their contracts together: the node number falls from a node to its child. The laws of `Counts` say what a node's figure is by its children's.
 use Prim.Native.Nat.{ℕ, _+_, _*_, _^_, _<_, _≤_}
-use mathlib.Core.Path.{_≡_, sym, _∙_}
 use mathlib.Core.Logic.{inl, inr, ⊎-elim}
 use borrow.Author.Needs.{needs}
 use borrow.Author.Tests.{eqb-true, eqb-false}
@@ -19,7 +18,7 @@ use Rattle.pattern.proofs.figures.count_child.Kinds as count-child-kind
 use Rattle.pattern.proofs.figures.+count+count_child.Lts-count_child as count-child-lts
 use Rattle.pattern.proofs.figures.cap.Reads as cap-reads
 use Rattle.pattern.proofs.figures.copies.Reads as copies-reads
-use Rattle.pattern.proofs.figures.word.Reads as word-reads
+use Rattle.pattern.proofs.layout.word.Reads as word-reads
 use Rattle.pattern.proofs.figures.+count+count_child.{statement}
 use Rattle.pattern.proofs.figures.+count+count_child.Tie.{close}
 
@@ -49,24 +48,24 @@ count-child-uses t = (count-below t, count.Post)
 
 module _ (t : ℕ) where
   count-word-requires : count-lts.Need-word-requires (count-uses t) (count-at t) count.Post
-  count-word-requires c κs = omega arith
+  count-word-requires c κs = tt
 
   count-returns : count-lts.Need-returns (count-uses t) (count-at t) count.Post
   count-returns c =
-      let c-start = c .before .before in
+      let c-start = c .before .before .before in
       let c-word = c .before .word in
       let c-if1 = c .if1 in
       let x = c-start .args in counts.count-item (x .a .now) (x .k) (c-word .result) (c-word .ensures) (c-if1 .taken)
 
   count-count-child-requires : count-lts.Need-count-child-requires (count-uses t) (count-at t) count.Post
-  count-count-child-requires c κs = omega arith
+  count-count-child-requires c κs = (omega arith, tt)
 
   count-count-child-requires-2 : count-lts.Need-count-child-requires-2 (count-uses t) (count-at t) count.Post
-  count-count-child-requires-2 c κs = omega arith
+  count-count-child-requires-2 c κs = (omega arith, tt)
 
   count-add-cap : count-lts.Need-add-cap (count-uses t) (count-at t) count.Post
   count-add-cap c =
-      let c-start = c .before .before .before .before .before in
+      let c-start = c .before .before .before .before .before .before in
       let c-word = c .before .before .before .before .word in
       let c-count-child = c .before .count-child in
       let c-count-child2 = c .count-child2 in
@@ -77,7 +76,7 @@ module _ (t : ℕ) where
 
   count-returns-2 : count-lts.Need-returns-2 (count-uses t) (count-at t) count.Post
   count-returns-2 c =
-      let c-start = c .before .before .before .before .before .before in
+      let c-start = c .before .before .before .before .before .before .before in
       let c-word = c .before .before .before .before .before .word in
       let c-count-child = c .before .before .count-child in
       let c-count-child2 = c .before .count-child2 in
@@ -91,12 +90,12 @@ module _ (t : ℕ) where
       omega (arith, c-word .ok)
 
   count-count-child-requires-3 : count-lts.Need-count-child-requires-3 (count-uses t) (count-at t) count.Post
-  count-count-child-requires-3 c κs = omega arith
+  count-count-child-requires-3 c κs = (omega arith, tt)
 
   count-mul-cap : count-lts.Need-mul-cap (count-uses t) (count-at t) count.Post
   count-mul-cap c =
       let c-count-child3 = c .count-child3 in
-      let c-start = c .before .before .before .before .before .before .before in
+      let c-start = c .before .before .before .before .before .before .before .before in
       let c-word = c .before .before .before .before .before .before .word in
       let c-copies = c .before .copies in
       let h : c-count-child3 .result ≤ 257 = omega (arith, c-count-child3 .ensures, counts.small (childAt (c-start .args .a .now) (c-start .args .k) (xOf (c-word .result)))) in let k : c-copies .result ≤ 2 ^ 34 = omega (arith, c-copies .ensures, counts.copied-small (yOf (c-word .result)) (zOf (c-word .result)) (omega arith) (omega (arith, c-word .ok))) in let m : c-copies .result * c-count-child3 .result ≤ 2 ^ 34 * 257 = mul-le-mul k h in omega arith
@@ -106,7 +105,7 @@ module _ (t : ℕ) where
 
   count-returns-3 : count-lts.Need-returns-3 (count-uses t) (count-at t) count.Post
   count-returns-3 c =
-      let c-start = c .before .before .before .before .before .before .before .before in
+      let c-start = c .before .before .before .before .before .before .before .before .before in
       let c-word = c .before .before .before .before .before .before .before .word in
       let c-copies = c .before .before .copies in
       let c-count-child3 = c .before .count-child3 in
@@ -116,7 +115,7 @@ module _ (t : ℕ) where
 
   count-returns-4 : count-lts.Need-returns-4 (count-uses t) (count-at t) count.Post
   count-returns-4 c =
-      let c-start = c .before .before .before .before .before in
+      let c-start = c .before .before .before .before .before .before in
       let c-word = c .before .before .before .before .word in
       let c-if1 = c .before .before .before .if1 in
       let c-if2 = c .before .before .if2 in
@@ -126,18 +125,18 @@ module _ (t : ℕ) where
 
 module _ (t : ℕ) where
   count-child-count-requires : count-child-lts.Need-count-requires (count-child-uses t) (count-child-at t) count-child.Post
-  count-child-count-requires c κs = omega arith
+  count-child-count-requires c κs = (omega arith, tt)
 
   count-child-returns : count-child-lts.Need-returns (count-child-uses t) (count-child-at t) count-child.Post
   count-child-returns c =
-      let c-start = c .before .before in
+      let c-start = c .before .before .before in
       let c-count = c .count in
       let c-if1 = c .before .if1 in
       let x = c-start .args in counts.count-inside (x .a .now) (x .k) (x .x) (c-count .result) (c-if1 .taken) (c-count .ensures)
 
   count-child-returns-2 : count-child-lts.Need-returns-2 (count-child-uses t) (count-child-at t) count-child.Post
   count-child-returns-2 c =
-      let c-start = c .before in
+      let c-start = c .before .before in
       let c-if1 = c .if1 in
       let x = c-start .args in counts.count-outside (x .a .now) (x .k) (x .x) (c-if1 .left)
 

@@ -1,7 +1,6 @@
 -- The test for matching no bytes and the test of a child meet their contracts together: the node number falls from a node to its child. The laws of `Counts` say what a node's figure is by its children's.
-use Prim.Native.Nat.{ℕ, _+_, _*_, _^_, _<_, _≤_}
-use mathlib.Core.Path.{_≡_, sym, _∙_}
-use borrow.Author.Needs.{needs}
+use Prim.Native.Nat.{ℕ, _+_, _*_, _<_}
+use mathlib.Core.Path.{_∙_}
 use borrow.Author.Tests.{eq-eqb}
 use native.Mathlib.Omega.{arith}
 use borrow.Fn.Kinds.{In}
@@ -13,7 +12,7 @@ use Rattle.pattern.proofs.figures.+nullable+nullable_child.Lts-nullable
 use Rattle.pattern.proofs.figures.nullable_child.Reads as nullable-child
 use Rattle.pattern.proofs.figures.nullable_child.Kinds as nullable-child-kinds
 use Rattle.pattern.proofs.figures.+nullable+nullable_child.Lts-nullable_child as nullable-child-lts
-use Rattle.pattern.proofs.figures.word.Reads as word-reads
+use Rattle.pattern.proofs.layout.word.Reads as word-reads
 use Rattle.pattern.proofs.figures.+nullable+nullable_child.{statement}
 use Rattle.pattern.proofs.figures.+nullable+nullable_child.Tie.{close}
 
@@ -43,24 +42,24 @@ nullable-child-uses t = (nullable-below t, nullable.Post)
 
 module _ (t : ℕ) where
   nullable-word-requires : nullable-lts.Need-word-requires (nullable-uses t) (nullable-at t) nullable.Post
-  nullable-word-requires c κs = omega arith
+  nullable-word-requires c κs = tt
 
   nullable-returns : nullable-lts.Need-returns (nullable-uses t) (nullable-at t) nullable.Post
   nullable-returns c =
-      let c-start = c .before .before in
+      let c-start = c .before .before .before in
       let c-word = c .before .word in
       let c-if1 = c .if1 in
       let x = c-start .args in counts.nullable-item (x .a .now) (x .k) (c-word .result) (c-word .ensures) (c-if1 .taken)
 
   nullable-nullable-child-requires : nullable-lts.Need-nullable-child-requires (nullable-uses t) (nullable-at t) nullable.Post
-  nullable-nullable-child-requires c κs = omega arith
+  nullable-nullable-child-requires c κs = (omega arith, tt)
 
   nullable-nullable-child-requires-2 : nullable-lts.Need-nullable-child-requires-2 (nullable-uses t) (nullable-at t) nullable.Post
-  nullable-nullable-child-requires-2 c κs = omega arith
+  nullable-nullable-child-requires-2 c κs = (omega arith, tt)
 
   nullable-returns-2 : nullable-lts.Need-returns-2 (nullable-uses t) (nullable-at t) nullable.Post
   nullable-returns-2 c =
-      let c-start = c .before .before .before .before .before in
+      let c-start = c .before .before .before .before .before .before in
       let c-word = c .before .before .before .before .word in
       let c-nullable-child = c .before .nullable-child in
       let c-nullable-child2 = c .nullable-child2 in
@@ -68,14 +67,14 @@ module _ (t : ℕ) where
       let x = c-start .args in counts.nullable-then (x .a .now) (x .k) (c-word .result) (c-word .ensures) (c-nullable-child .result) (c-nullable-child2 .result) (c-if2 .taken) (c-nullable-child .ensures) (c-nullable-child2 .ensures)
 
   nullable-nullable-child-requires-3 : nullable-lts.Need-nullable-child-requires-3 (nullable-uses t) (nullable-at t) nullable.Post
-  nullable-nullable-child-requires-3 c κs = omega arith
+  nullable-nullable-child-requires-3 c κs = (omega arith, tt)
 
   nullable-nullable-child-requires-4 : nullable-lts.Need-nullable-child-requires-4 (nullable-uses t) (nullable-at t) nullable.Post
-  nullable-nullable-child-requires-4 c κs = omega arith
+  nullable-nullable-child-requires-4 c κs = (omega arith, tt)
 
   nullable-returns-3 : nullable-lts.Need-returns-3 (nullable-uses t) (nullable-at t) nullable.Post
   nullable-returns-3 c =
-      let c-start = c .before .before .before .before .before .before in
+      let c-start = c .before .before .before .before .before .before .before in
       let c-word = c .before .before .before .before .before .word in
       let c-nullable-child3 = c .before .nullable-child3 in
       let c-nullable-child4 = c .nullable-child4 in
@@ -83,11 +82,11 @@ module _ (t : ℕ) where
       let x = c-start .args in counts.nullable-or (x .a .now) (x .k) (c-word .result) (c-word .ensures) (c-nullable-child3 .result) (c-nullable-child4 .result) (c-if3 .taken) (c-nullable-child3 .ensures) (c-nullable-child4 .ensures)
 
   nullable-nullable-child-requires-5 : nullable-lts.Need-nullable-child-requires-5 (nullable-uses t) (nullable-at t) nullable.Post
-  nullable-nullable-child-requires-5 c κs = omega arith
+  nullable-nullable-child-requires-5 c κs = (omega arith, tt)
 
   nullable-returns-4 : nullable-lts.Need-returns-4 (nullable-uses t) (nullable-at t) nullable.Post
   nullable-returns-4 c =
-      let c-start = c .before .before .before .before .before .before in
+      let c-start = c .before .before .before .before .before .before .before in
       let c-if5 = c .if5 in
       let c-word = c .before .before .before .before .before .word in
       let c-if4 = c .before .if4 in
@@ -95,7 +94,7 @@ module _ (t : ℕ) where
 
   nullable-returns-5 : nullable-lts.Need-returns-5 (nullable-uses t) (nullable-at t) nullable.Post
   nullable-returns-5 c =
-      let c-start = c .before .before .before .before .before .before .before in
+      let c-start = c .before .before .before .before .before .before .before .before in
       let c-word = c .before .before .before .before .before .before .word in
       let c-nullable-child5 = c .nullable-child5 in
       let c-if4 = c .before .before .if4 in
@@ -104,7 +103,7 @@ module _ (t : ℕ) where
 
   nullable-returns-6 : nullable-lts.Need-returns-6 (nullable-uses t) (nullable-at t) nullable.Post
   nullable-returns-6 c =
-      let c-start = c .before .before .before .before .before in
+      let c-start = c .before .before .before .before .before .before in
       let c-word = c .before .before .before .before .word in
       let c-if1 = c .before .before .before .if1 in
       let c-if2 = c .before .before .if2 in
@@ -114,18 +113,18 @@ module _ (t : ℕ) where
 
 module _ (t : ℕ) where
   nullable-child-nullable-requires : nullable-child-lts.Need-nullable-requires (nullable-child-uses t) (nullable-child-at t) nullable-child.Post
-  nullable-child-nullable-requires c κs = omega arith
+  nullable-child-nullable-requires c κs = (omega arith, tt)
 
   nullable-child-returns : nullable-child-lts.Need-returns (nullable-child-uses t) (nullable-child-at t) nullable-child.Post
   nullable-child-returns c =
-      let c-start = c .before .before in
+      let c-start = c .before .before .before in
       let c-nullable = c .nullable in
       let c-if1 = c .before .if1 in
       let x = c-start .args in counts.nullable-inside (x .a .now) (x .k) (x .x) (c-nullable .result) (c-if1 .taken) (c-nullable .ensures)
 
   nullable-child-returns-2 : nullable-child-lts.Need-returns-2 (nullable-child-uses t) (nullable-child-at t) nullable-child.Post
   nullable-child-returns-2 c =
-      let c-start = c .before in
+      let c-start = c .before .before in
       let c-if1 = c .if1 in
       let x = c-start .args in counts.nullable-outside (x .a .now) (x .k) (x .x) (c-if1 .left)
 

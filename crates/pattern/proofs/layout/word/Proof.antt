@@ -1,9 +1,9 @@
--- `nodes::word` meets its contract: past the end a list reads as 0.
+-- `word` meets its contract: past the end a list reads as 0.
 use mathlib.Core.Path.{refl, sym}
 use native.Mathlib.Omega.{arith}
 use lib.ListN.{List·getD-eq-default}
-use Rattle.automaton.proofs.nodes.word.Statement.{statement}
-use Rattle.automaton.proofs.nodes.word.Tie as tie
+use Rattle.pattern.proofs.layout.word.Statement.{statement}
+use Rattle.pattern.proofs.layout.word.Tie as tie
 
 mul-result : tie.Need-mul-result
 mul-result c = omega arith
