@@ -1,14 +1,13 @@
 -- A pattern of at most 256 bytes is accepted exactly if none of the reasons 6 to 16 holds. Where a token stands, the walk from the pattern's start is the
 -- walk from there. There it goes on or is refused by what the rows say of the token; so a reason refuses the pattern, and a refusal has a reason.
 -- Assumes nothing.
-use mathlib.Core.Path.{_≡_, refl, sym, ap, subst, _∙_}
-use mathlib.Core.Bool.{Bool, true, false, cond, not, _&&_, _||_, Bool·not-not, and-eq-true-iff}
+use mathlib.Core.Path.{_≡_, refl, sym, ap, _∙_}
+use mathlib.Core.Bool.{Bool, true, false, not, _||_, Bool·not-not, and-eq-true-iff}
 use mathlib.Core.List.{List, [], _∷_}
 use mathlib.Core.Logic.{_⊎_, inl, inr, ⊎-elim, _↔_}
-use Prim.Native.Nat.{ℕ, zero, suc, pred, _+_, _-_, _≤_, _<_}
+use Prim.Native.Nat.{ℕ, zero, suc, pred, _+_, _≤_, _<_}
 use native.Mathlib.Omega.{arith}
-use native.Mathlib.Nat.{add-zero}
-use borrow.Author.Tests.{eqb-true, eqb-false, leb-true, leb-false, ltb-true, ltb-false, eq-eqb, ne-eqb, le-leb, lt-leb, lt-ltb, le-ltb, not-true}
+use borrow.Author.Tests.{eqb-true, eq-eqb, ne-eqb, le-leb, lt-leb, le-ltb}
 use lib.Dec.{T, eqb, leb, ltb}
 use lib.ListN.{length, getD, drop, drop-of-length-le, length-drop}
 use lib.Seq.{drop-drop}
@@ -18,15 +17,14 @@ use Rattle.tokens.specs.declared.Member.{Member}
 use Rattle.tokens.specs.declared.Token.{Token}
 use Rattle.tokens.specs.declared.Token.the-variants.{Finish, Bar, Close, Class, One, Open, Set, Repeat, Bad}
 use Rattle.tokens.specs.declared.Lexeme.{Lexeme}
-use Rattle.tokens.specs.Class.{lower, memberAt, joined, membersOf, refusedClass, classOf, settled}
+use Rattle.tokens.specs.Class.{lower, memberAt, joined, membersOf, classOf}
 use Rattle.tokens.specs.Quantifier.{formOf}
 use Rattle.tokens.specs.Token.{lexemeOf}
 use Rattle.sets.specs.Set.{emptySet}
 use Rattle.regex.specs.Count.{limit, saturating, nullable}
 use Rattle.pattern.specs.Nodes.{Syntax}
-use Rattle.pattern.specs.Walk.{Target, nothing, single, repeated, Frame, State, Read, tree, refused, Next, stop, go, groupOf, deepest, targetFault, closing, opening, act, context, next, finish, walk, begin}
+use Rattle.pattern.specs.Walk.{Target, nothing, single, repeated, Frame, State, Read, tree, refused, Next, stop, go, groupOf, deepest, targetFault, closing, opening, act, context, next, walk, begin}
 use Rattle.pattern.specs.Read.{longest, judged, readOf, answerOf}
-use Rattle.pattern.specs.Reasons as reasons
 use Rattle.pattern.specs.Reasons.{row6, row7, row9, row10, row11, row14, memberRow14, ofEnd, Stands, InClass, membersAt, closes, tokenAt, ClassAt, MemberAt, Finished, Reason}
 use Rattle.pattern.proofs.Base.{either, split, true-not-false, by-lt, by-eq, left-true, right-true}
 use Rattle.tokens.proofs.Suffixes.{first}
@@ -35,7 +33,7 @@ use Rattle.tokens.proofs.Ranges.{member-advances, members-end, members-close, m
 use Rattle.pattern.specs.Invariants.{state, from, follow, ended}
 use Rattle.pattern.proofs.Sets.{class-closed}
 use Rattle.pattern.proofs.Steps.{walk-end, walk-on, walk-skip}
-use Rattle.pattern.proofs.Answers.{Accepted, accepted-tree}
+use Rattle.pattern.proofs.Answers.{accepted-tree}
 use Rattle.pattern.proofs.Rows.{tokenRows, lower-clean, lexeme-clean, memberRows, members-clean}
 
 -- ---- truth values

@@ -1,14 +1,13 @@
 -- What every reading gives: a refusal with a number, or a tree that fits the words and is read back from them. Each token adds at most six words a byte
 -- and only tidy trees, so the walk keeps both. Assumes nothing.
 use mathlib.Core.Path.{_≡_, refl, sym, ap, _∙_}
-use mathlib.Core.Bool.{Bool, true, false, cond}
-use mathlib.Core.List.{List, [], _∷_, _++_}
+use mathlib.Core.Bool.{false}
+use mathlib.Core.List.{List, [], _∷_}
 use Prim.Native.Nat.{ℕ, zero, suc, pred, _+_, _-_, _*_, _≤_, _<_}
 use native.Mathlib.Omega.{arith}
-use borrow.Author.Tests.{eqb-true, eqb-false, leb-false, ltb-false}
+use borrow.Author.Tests.{eqb-true, eqb-false, ltb-false}
 use lib.Dec.{eqb, leb, ltb}
-use lib.ListN.{length, drop, replicate, length-replicate}
-use Rattle.sets.proofs.Laws.{Words}
+use lib.ListN.{length, drop, replicate}
 use Rattle.tokens.specs.declared.Options.{Options}
 use Rattle.tokens.specs.declared.Atom.{Atom}
 use Rattle.tokens.specs.declared.Atom.the-variants.{Byte, OfKind, NotOfKind, Dot, NotNewline, Start, End}
@@ -16,11 +15,11 @@ use Rattle.tokens.specs.declared.Token.{Token}
 use Rattle.tokens.specs.declared.Token.the-variants.{Finish, Bar, Close, Class, One, Open, Set, Repeat, Bad}
 use Rattle.tokens.specs.declared.Lexeme.{Lexeme}
 use Rattle.tokens.specs.Class.{lower, classOf}
-use Rattle.tokens.specs.Token.{lexemeOf, itemSet}
-use Rattle.regex.specs.Tree.{empty, item, assertion, then, or, repeat}
+use Rattle.tokens.specs.Token.{lexemeOf}
+use Rattle.regex.specs.Tree.{empty, item, then, or}
 use Rattle.regex.specs.Count.{limit, saturating, nullable}
-use Rattle.pattern.specs.Nodes.{Syntax, treeAt, width, lay, extraOf}
-use Rattle.pattern.specs.Walk.{Target, nothing, single, repeated, Frame, State, Read, tree, refused, Next, stop, go, chained, chosen, branchOf, groupOf, with-item, with-options, one, deepest, repeating, closing, opening, act, context, next, finish, walk, begin}
+use Rattle.pattern.specs.Nodes.{Syntax, treeAt, width}
+use Rattle.pattern.specs.Walk.{Target, nothing, single, Frame, State, Read, tree, refused, Next, stop, go, chained, chosen, branchOf, groupOf, with-item, one, deepest, repeating, closing, opening, act, context, next, finish, walk, begin}
 use Rattle.pattern.specs.Read.{longest, judged, readOf, room, answerOf}
 use Rattle.pattern.specs.declared.Reading.{Reading}
 use Rattle.pattern.specs.Invariants.{Tidy}

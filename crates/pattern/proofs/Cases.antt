@@ -1,6 +1,6 @@
 -- The cases come out as they must: the checker reads every pattern by the definitions. Assumes nothing.
 use mathlib.Core.Path.{_≡_, refl}
-use mathlib.Core.List.{List, []}
+use mathlib.Core.List.{[]}
 use Rattle.kinds.specs.Kind.{isDigit, isLower, isUpper}
 use Rattle.kinds.specs.Case.{otherCase}
 use Rattle.tokens.specs.Number.{digitOf, digits, valueFrom, numeralOf}
@@ -12,7 +12,7 @@ use Rattle.tokens.specs.Token.{escaped, lexemeOf}
 use Rattle.regex.specs.Count.{copied, capped, saturating, nullable}
 use Rattle.pattern.specs.Walk.{chained, chosen, one, repeating, closing, opening, act, next, finish, walk}
 use Rattle.pattern.specs.Read.{judged, readOf}
-use Rattle.pattern.specs.Cases.{Case, gives, right, wrong, cases}
+use Rattle.pattern.specs.Cases.{gives, right, wrong, cases}
 
 pub none-wrong : wrong cases ≡ []
 unfolding isDigit isLower isUpper otherCase digitOf digits valueFrom numeralOf bracedOf shortOf flipped64 raised controlOf typeOf namedOf placedOf hexOf octalOf isAlnum escapeOf lower opensName memberOf rangeFault ranges memberAt membersOf classOf lettersOf openingOf bounded open-ended bracesOf formOf marked quantifierOf escaped lexemeOf copied capped saturating nullable chained chosen one repeating closing opening act next finish walk judged readOf gives right wrong cases

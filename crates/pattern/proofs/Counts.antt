@@ -2,15 +2,15 @@
 use mathlib.Core.Path.{_≡_, refl, sym, ap, _∙_}
 use mathlib.Core.Bool.{Bool, true, false, _&&_, _||_}
 use mathlib.Core.List.{List}
-use mathlib.Core.Logic.{_⊎_, inl, inr, ⊎-elim}
+use mathlib.Core.Logic.{_⊎_, ⊎-elim}
 use Prim.Native.Nat.{ℕ, zero, suc, _+_, _*_, _^_, _≤_, _<_}
 use native.Mathlib.Omega.{arith}
 use borrow.Author.Tests.{ne-eqb}
 use lib.Dec.{eqb}
 use lib.ListN.{getD}
 use Rattle.tokens.specs.Number.{cap}
-use Rattle.regex.specs.Tree.{Extra, atMost, unbounded, repeat}
-use Rattle.regex.specs.Count.{limit, copied, capped, saturating, nullable}
+use Rattle.regex.specs.Tree.{Extra, repeat}
+use Rattle.regex.specs.Count.{copied, capped, saturating, nullable}
 use Rattle.regex.proofs.Counted.{saturated}
 use Rattle.pattern.specs.Nodes.{Syntax, opOf, xOf, yOf, zOf, extraOf, nodeOf, treeAt}
 use Rattle.pattern.specs.Invariants.{childAt}

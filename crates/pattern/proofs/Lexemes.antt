@@ -1,15 +1,14 @@
 -- What the token at a place can be, from its definition: only a bad token or a quantifier has a fault, a quantifier's numbers are small, `|` and `)` are
 -- told by their bytes. Each branch of the definition is looked at once; how many bytes a token takes is known of the tokens already. Assumes nothing.
-use mathlib.Core.Path.{_≡_, refl, sym}
+use mathlib.Core.Path.{_≡_, refl}
 use mathlib.Core.Bool.{Bool, true, false, cond, _&&_, and-eq-true-iff}
 use mathlib.Core.List.{List, [], _∷_}
 use mathlib.Core.Logic.{_⊎_, inl, inr, ⊎-elim}
-use Prim.Native.Nat.{ℕ, suc, _+_, _-_, _≤_, _<_, min}
+use Prim.Native.Nat.{ℕ, suc, _+_, _-_, _≤_, _<_}
 use native.Mathlib.Omega.{arith}
 use borrow.Author.Tests.{eqb-true, eqb-false, ltb-true}
 use lib.Dec.{eqb, leb, ltb}
 use lib.ListN.{length, getD, drop}
-use Rattle.tokens.specs.declared.Atom.the-variants.{Byte, Dot, Start, End}
 use Rattle.tokens.specs.declared.Options.{Options}
 use Rattle.tokens.specs.declared.Part.{Part}
 use Rattle.tokens.specs.declared.Form.{Form}
@@ -19,7 +18,7 @@ use Rattle.tokens.specs.declared.Lexeme.{Lexeme}
 use Rattle.tokens.specs.Number.{cap, numeralOf}
 use Rattle.tokens.specs.Escape.{escapeOf}
 use Rattle.tokens.specs.Class.{lower}
-use Rattle.tokens.specs.Option.{plain, faulty, withCaseless, withDotAll, lettersOf, openingOf}
+use Rattle.tokens.specs.Option.{faulty, withCaseless, withDotAll, lettersOf, openingOf}
 use Rattle.tokens.specs.Quantifier.{noForm, form, bounded, open-ended, bracesOf, formOf, marked, quantifierOf}
 use Rattle.tokens.specs.Token.{escaped, lexemeOf}
 use Rattle.tokens.proofs.Lengths.{lexeme-takes}

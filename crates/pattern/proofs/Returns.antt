@@ -1,13 +1,12 @@
 -- What each return of a reader owes, over plain lists and numbers: one law for each return. The walk's steps are chained; the words are one run of
 -- stores after another. Assumes nothing.
 use mathlib.Core.Path.{_≡_, refl, sym, ap, subst, _∙_}
-use mathlib.Core.Bool.{Bool, true, false, cond}
+use mathlib.Core.Bool.{false}
 use mathlib.Core.List.{List, [], _∷_, _++_}
-use Prim.Native.Nat.{ℕ, zero, suc, _+_, _*_, _-_, _≤_, _<_}
+use Prim.Native.Nat.{ℕ, suc, _+_, _*_, _-_, _≤_, _<_}
 use native.Mathlib.Omega.{arith}
 use native.Mathlib.Numerals.{add-one}
 use borrow.Author.Tests.{eq-eqb, ne-eqb}
-use lib.Dec.{eqb}
 use lib.ListN.{length, getD, drop, set, length-drop}
 use lib.Seq.{sets, length-sets}
 use Rattle.sets.proofs.Laws.{Words}
@@ -15,8 +14,7 @@ use Rattle.tokens.specs.declared as declared
 use Rattle.tokens.specs.declared.Options.{Options}
 use Rattle.tokens.specs.declared.Atom.{Atom}
 use Rattle.tokens.specs.declared.Atom.the-variants.{Byte, OfKind, NotOfKind, Dot, NotNewline, Start, End}
-use Rattle.tokens.specs.declared.Token.{Token}
-use Rattle.tokens.specs.declared.Token.the-variants.{Finish, Bar, Close, Class, One, Open, Set, Repeat, Bad}
+use Rattle.tokens.specs.declared.Token.the-variants.{Class, One, Open, Set, Repeat}
 use Rattle.tokens.specs.declared.Lexeme.{Lexeme}
 use Rattle.tokens.specs.Class.{classOf}
 use Rattle.tokens.specs.Number.{cap}
@@ -24,9 +22,9 @@ use Rattle.tokens.specs.Token.{lexemeOf, itemSet}
 use Rattle.tokens.proofs.Suffixes.{inside}
 use Rattle.regex.specs.Tree.{empty, item, assertion, then, or, repeat}
 use Rattle.regex.specs.Rule.{at-start, at-end}
-use Rattle.pattern.specs.Nodes.{Syntax, word, treeAt, width, lay, extraOf, numberOf}
-use Rattle.pattern.specs.Walk.{nothing, single, Frame, State, Read, refused, chained, chosen, one, closing}
-use Rattle.pattern.specs.Invariants.{Tidy, lent, Room, state, from, groupEnds, branchEnds, classEnds, refusal, got, onward, Read-up, Said, SaysBranches, SaysSequence, goesOn, SaysItem, SaysOne, SaysClass, SaysQuantified, SaidBranches, SaidSequence, SaidItem, SaidOne, SaidClass, SaidQuantified, faultFor, faultOf}
+use Rattle.pattern.specs.Nodes.{Syntax, word, treeAt, width, lay, extraOf}
+use Rattle.pattern.specs.Walk.{nothing, single, Frame, Read, refused, chained, chosen, one, closing}
+use Rattle.pattern.specs.Invariants.{Tidy, lent, Room, state, from, groupEnds, classEnds, refusal, got, onward, Read-up, Said, SaysBranches, SaysSequence, SaysItem, SaysOne, SaysClass, SaysQuantified, SaidBranches, SaidSequence, SaidItem, SaidOne, SaidClass, SaidQuantified, faultOf}
 use Rattle.pattern.specs.declared.readers.Got.{Got}
 use Rattle.pattern.proofs.Trees.{laid-tree, both-laid, one-laid, number-extra, extra-number}
 use Rattle.pattern.proofs.Sets.{words-item, Closed, class-closed}

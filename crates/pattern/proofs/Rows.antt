@@ -3,28 +3,27 @@
 use mathlib.Core.Path.{_≡_, refl, sym, ap, ap₂, subst, _∙_}
 use mathlib.Core.Bool.{Bool, true, false, cond, not, _&&_, _||_, Bool·not-not, or-true, or-false, and-false, and-eq-true-iff}
 use mathlib.Core.List.{List, [], _∷_}
-use Prim.Native.Nat.{ℕ, suc, _+_, _-_, _≤_, _<_, min}
+use Prim.Native.Nat.{ℕ, suc, _+_, _≤_, _<_, min}
 use native.Mathlib.Omega.{arith}
-use borrow.Author.Tests.{eqb-true, eqb-false, leb-true, leb-false, ltb-true, ltb-false, eq-eqb, ne-eqb, lt-ltb, le-ltb, le-leb, lt-leb}
+use borrow.Author.Tests.{eqb-true, eqb-false, leb-true, leb-false, ltb-true, ltb-false, ne-eqb, lt-ltb, le-ltb, le-leb, lt-leb}
 use lib.Dec.{eqb, leb, ltb, leb·suc-suc, leb·suc-zero}
 use lib.ListN.{length, getD, drop, length-drop}
-use lib.Seq.{getD-drop, drop-drop}
+use lib.Seq.{getD-drop}
 use Rattle.kinds.specs.Kind.{within, isLower, isUpper, isDigit}
 use Rattle.kinds.specs.declared.Kind.the-variants.{Digit, Word, Space, Horizontal, Vertical}
 use Rattle.tokens.specs.declared.Atom.{Atom}
-use Rattle.tokens.specs.declared.Atom.the-variants.{Byte, OfKind, NotOfKind, Dot, NotNewline, Start, End}
+use Rattle.tokens.specs.declared.Atom.the-variants.{Byte, OfKind, NotOfKind, NotNewline, Start, End}
 use Rattle.tokens.specs.declared.Part.{Part}
 use Rattle.tokens.specs.declared.Options.{Options}
 use Rattle.tokens.specs.declared.Form.{Form}
 use Rattle.tokens.specs.declared.Lexeme.{Lexeme}
-use Rattle.tokens.specs.declared.Token.the-variants.{Repeat}
 use Rattle.tokens.specs.Number.{cap, some, digits, valueFrom, numeralOf}
-use Rattle.tokens.specs.Escape.{good, bad, bracedOf, shortOf, controlOf, typeOf, namedOf, placedOf, hexOf, octalOf, isAlnum, escapeOf}
-use Rattle.tokens.specs.Class.{lower, opensName, memberOf, rangeFault, isType, byteOf, ranges, asMember, asRange, memberAt}
-use Rattle.tokens.specs.Option.{plain, faulty, withCaseless, withDotAll, lettersOf, openingOf}
-use Rattle.tokens.specs.Quantifier.{noForm, form, bounded, open-ended, bracesOf, formOf, marked, quantifierOf}
+use Rattle.tokens.specs.Escape.{good, bracedOf, shortOf, controlOf, typeOf, namedOf, placedOf, hexOf, octalOf, isAlnum, escapeOf}
+use Rattle.tokens.specs.Class.{lower, opensName, memberOf, rangeFault, isType, byteOf, ranges, memberAt}
+use Rattle.tokens.specs.Option.{withCaseless, withDotAll, lettersOf, openingOf}
+use Rattle.tokens.specs.Quantifier.{bounded, open-ended, bracesOf, formOf, marked, quantifierOf}
 use Rattle.tokens.specs.Token.{escaped, lexemeOf}
-use Rattle.pattern.specs.Reasons.{braced, cutShort, over255, tooLarge, letters, among, unknown, optionBytes, hyphens, setting, badOpening, numberOf10, second, badBounds, row6, row7, row9, row11, row14, memberRow14, isRange, farEnd, ofEnd}
+use Rattle.pattern.specs.Reasons.{braced, cutShort, tooLarge, unknown, optionBytes, hyphens, setting, badOpening, numberOf10, badBounds, row6, row7, row9, row11, row14, memberRow14, isRange, farEnd, ofEnd}
 use Rattle.pattern.proofs.Base.{either, split, true-not-false, right-true}
 
 -- ---- escapes

@@ -1,6 +1,6 @@
 -- The sets of items: four 64-bit words each, since every operation makes its result by `setOf`; and where a class ends, by induction on the bytes
 -- after its bracket. Assumes nothing.
-use mathlib.Core.Path.{_≡_, refl, sym, ap, _∙_}
+use mathlib.Core.Path.{_≡_}
 use mathlib.Core.Bool.{Bool, true, false, cond, not, _&&_}
 use mathlib.Core.List.{List, [], _∷_}
 use Prim.Native.Nat.{ℕ, zero, suc, pred, _+_, _≤_, _<_}
@@ -8,16 +8,15 @@ use native.Mathlib.Omega.{arith}
 use borrow.Author.Tests.{eqb-true, eqb-false}
 use lib.Dec.{eqb}
 use lib.ListN.{length, getD, drop, length-drop}
-use Rattle.sets.specs.Set.{setOf, emptySet, fullSet, inserted, insertedRange, unionOf, complementOf}
+use Rattle.sets.specs.Set.{emptySet, fullSet, inserted, insertedRange, unionOf, complementOf}
 use Rattle.sets.proofs.Laws.{Words, words-setOf}
-use Rattle.kinds.specs.Kind.{isKind, isNotKind}
 use Rattle.kinds.specs.Case.{caseClosed}
 use Rattle.tokens.specs.declared.Atom.{Atom}
 use Rattle.tokens.specs.declared.Atom.the-variants.{Byte, OfKind, NotOfKind, Dot, NotNewline, Start, End}
 use Rattle.tokens.specs.declared.Class.{Class}
 use Rattle.tokens.specs.declared.Member.{Member}
 use Rattle.tokens.specs.declared.Options.{Options}
-use Rattle.tokens.specs.Class.{memberAt, joined, byteOf, refusedClass, closedClass, settled, membersOf, classOf}
+use Rattle.tokens.specs.Class.{memberAt, joined, settled, membersOf, classOf}
 use Rattle.tokens.specs.Token.{itemSet}
 use Rattle.tokens.proofs.Suffixes.{inside}
 use Rattle.pattern.proofs.Base.{split}

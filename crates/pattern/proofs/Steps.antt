@@ -3,11 +3,11 @@ use mathlib.Core.Path.{_≡_, refl, sym, ap, _∙_}
 use mathlib.Core.Bool.{Bool, true, false, cond}
 use mathlib.Core.List.{List, [], _∷_}
 use mathlib.Core.Logic.{_⊎_, inl, inr, ⊎-elim}
-use Prim.Native.Nat.{ℕ, zero, suc, pred, _+_, _-_, _≤_, _<_, min}
+use Prim.Native.Nat.{ℕ, zero, suc, pred, _+_, _-_, _≤_, _<_}
 use native.Mathlib.Omega.{arith}
 use native.Mathlib.Nat.{add-zero}
 use borrow.Author.Tests.{eqb-true, eqb-false, lt-ltb, le-ltb, eq-eqb, ne-eqb, le-leb, lt-leb}
-use lib.Dec.{eqb, ltb, leb}
+use lib.Dec.{eqb}
 use lib.ListN.{length, getD, drop, drop-of-length-le, length-drop, List·getD-eq-default}
 use lib.Seq.{drop-drop}
 use Rattle.tokens.specs.declared as declared
@@ -22,7 +22,7 @@ use Rattle.tokens.specs.Token.{lexemeOf}
 use Rattle.tokens.proofs.Suffixes.{front}
 use Rattle.regex.specs.Tree.{empty, item, repeat}
 use Rattle.pattern.specs.Nodes.{Syntax, extraOf}
-use Rattle.pattern.specs.Walk.{Target, nothing, single, repeated, Frame, State, Read, tree, refused, Next, stop, go, chained, chosen, with-item, with-options, one, deepest, repeating, targetFault, closing, opening, act, context, next, finish, walk}
+use Rattle.pattern.specs.Walk.{Target, nothing, single, repeated, Frame, State, Read, refused, Next, stop, go, chained, chosen, with-item, one, deepest, repeating, targetFault, closing, opening, act, context, next, finish, walk}
 use Rattle.pattern.specs.Invariants.{state, from, follow, ended, groupEnds, branchEnds, classEnds, faultFor, faultOf}
 use Rattle.pattern.proofs.Base.{by-lt, split, true-not-false}
 use Rattle.pattern.proofs.Lexemes.{Right, Sound, lexeme-sound}

@@ -3,20 +3,19 @@
 use mathlib.Core.Path.{_≡_, refl, sym, ap, fun-ext, _∙_}
 use mathlib.Core.Bool.{Bool, true, false, cond}
 use mathlib.Core.List.{List, [], _∷_, _++_, append-assoc}
-use Prim.Native.Nat.{ℕ, zero, suc, _+_, _-_, _*_, _/_, _%_, _^_, _≤_, _<_}
+use Prim.Native.Nat.{ℕ, zero, suc, _+_, _-_, _*_, _/_, _^_, _≤_, _<_}
 use native.Mathlib.Omega.{arith}
 use native.Mathlib.Numerals.{towards-suc}
-use borrow.Author.Tests.{lt-ltb, le-ltb, ltb-true, eq-eqb, ne-eqb}
+use borrow.Author.Tests.{lt-ltb, le-ltb, ltb-true}
 use lib.Dec.{eqb, ltb}
 use lib.ListN.{length, getD, take, drop, set, length-append}
-use lib.Seq.{sets, sets-eq, drop-at, take-at, drop-drop, getD-drop, length-take-le}
-use Rattle.sets.proofs.Laws.{Words}
+use lib.Seq.{sets, sets-eq, drop-at, take-at, drop-drop, length-take-le}
 use Rattle.tokens.specs.Number.{cap}
 use Rattle.tokens.proofs.Suffixes.{first}
-use Rattle.regex.specs.Tree.{Tree, empty, item, assertion, then, or, repeat, Extra, atMost, unbounded}
+use Rattle.regex.specs.Tree.{empty, item, assertion, then, or, repeat, Extra, atMost, unbounded}
 use Rattle.regex.specs.Rule.{Assertion, at-start, at-end, ByteSet}
-use Rattle.pattern.specs.Nodes.{Syntax, word, opOf, xOf, yOf, zOf, extraOf, numberOf, assertionOf, codeOf, nodeOf, treeWithin, treeAt, width, lay}
-use Rattle.pattern.specs.Invariants.{Tidy, lent, childAt}
+use Rattle.pattern.specs.Nodes.{Syntax, word, opOf, xOf, yOf, zOf, extraOf, numberOf, codeOf, nodeOf, treeWithin, treeAt, width, lay}
+use Rattle.pattern.specs.Invariants.{Tidy, childAt}
 use Rattle.pattern.proofs.Base.{sets-append}
 
 -- ---- the fields of a word

@@ -12,11 +12,11 @@ use Rattle.tokens.specs.declared.Atom.{Atom}
 use Rattle.tokens.specs.declared.Token.{Token}
 use Rattle.tokens.specs.declared.Token.the-variants.{Finish, Bar, Close, Class, One, Open, Set, Repeat, Bad}
 use Rattle.tokens.specs.declared.Lexeme.{Lexeme}
-use Rattle.tokens.specs.Class.{lower, classOf}
+use Rattle.tokens.specs.Class.{classOf}
 use Rattle.tokens.specs.Number.{cap}
 use Rattle.tokens.specs.Token.{lexemeOf}
 use Rattle.regex.specs.Tree.{empty, item, assertion, then, or, repeat}
-use Rattle.pattern.specs.Nodes.{Syntax, treeAt, treeWithin, width, lay, extraOf, numberOf}
+use Rattle.pattern.specs.Nodes.{Syntax, treeAt, width, lay, extraOf, numberOf}
 use Rattle.pattern.specs.Walk.{Target, nothing, single, Frame, State, Read, tree, refused, Next, stop, go, chained, chosen, with-item, one, closing, walk}
 use Rattle.pattern.specs.declared.readers.Got.{Got}
 

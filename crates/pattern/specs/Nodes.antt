@@ -1,6 +1,6 @@
 -- How words hold a syntax tree: a node is one word, its number is the word's index, and its children have smaller numbers. An item's set stands in
 -- the four words before it. Assumes nothing: these are definitions.
-use mathlib.Core.Bool.{Bool, true, false, cond}
+use mathlib.Core.Bool.{cond}
 use mathlib.Core.List.{List, [], _∷_, _++_}
 use Prim.Native.Nat.{ℕ, zero, suc, _+_, _-_, _*_, _/_, _%_, _^_}
 use lib.Dec.{eqb, ltb}

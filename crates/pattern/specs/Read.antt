@@ -1,12 +1,12 @@
 -- The answer of the one reading call. Assumes nothing: these are definitions.
-use mathlib.Core.Bool.{Bool, true, false, cond}
-use mathlib.Core.List.{List, [], _∷_, _++_}
+use mathlib.Core.Bool.{cond}
+use mathlib.Core.List.{List, _++_}
 use Prim.Native.Nat.{ℕ, _-_, _/_, _%_}
 use lib.Dec.{eqb, ltb}
 use lib.ListN.{length, replicate}
 use Rattle.tokens.specs.declared.Options.{Options}
 use Rattle.regex.specs.Count.{limit, saturating, nullable}
-use Rattle.pattern.specs.Nodes.{Syntax, width, lay}
+use Rattle.pattern.specs.Nodes.{width, lay}
 use Rattle.pattern.specs.Walk.{Read, tree, refused, walk, begin}
 use Rattle.pattern.specs.declared.Reading.{Reading}
 

@@ -18,7 +18,7 @@ use Rattle.tokens.specs.Quantifier.{formOf}
 use Rattle.tokens.specs.Token.{lexemeOf}
 use Rattle.regex.specs.Count.{limit, saturating, nullable}
 use Rattle.pattern.specs.Nodes.{Syntax}
-use Rattle.pattern.specs.Walk.{Target, nothing, single, repeated, State, Next, go, groupOf, deepest, next, begin}
+use Rattle.pattern.specs.Walk.{Target, nothing, single, repeated, State, go, groupOf, deepest, next, begin}
 
 -- ---- escapes: v is the pattern after the `\`
 

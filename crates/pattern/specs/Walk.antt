@@ -1,6 +1,6 @@
 -- Reading a pattern: a walk over its bytes from left to right with the open groups on a stack. "The first faulty token decides." Assumes nothing:
 -- these are definitions.
-use mathlib.Core.Bool.{Bool, true, false, cond}
+use mathlib.Core.Bool.{cond}
 use mathlib.Core.List.{List, [], _∷_}
 use Prim.Native.Nat.{ℕ, zero, suc, pred, _+_, _-_}
 use lib.Dec.{eqb, leb}

@@ -1,83 +1,63 @@
+-- `nodes::put_item` meets its contract: five stores in a row are one run of stores (`item-sets`), and the words have room for them.
 use borrow.Author.Needs.{needs}
 use Rattle.pattern.proofs.Trees.{item-sets}
 use Rattle.pattern.proofs.nodes.put_item.Statement.{statement}
 use Rattle.pattern.proofs.nodes.put_item.Tie as tie
-use Rattle.pattern.proofs.nodes.put_item.Reads as reads
-use Rattle.pattern.proofs.nodes.put_item.Lts as lts
 
--- src/nodes.rt:37:12
 array-read-a : tie.Need-array-read-a
 array-read-a c = search needs
 
--- src/nodes.rt:37:5
 mul-a : tie.Need-mul-a
 mul-a c = search needs
 
--- src/nodes.rt:37:5
 element-write-a : tie.Need-element-write-a
 element-write-a c = search needs
 
--- src/nodes.rt:38:16
 array-read-a-2 : tie.Need-array-read-a-2
 array-read-a-2 c = search needs
 
--- src/nodes.rt:38:7
 add-a : tie.Need-add-a
 add-a c = search needs
 
--- src/nodes.rt:38:5
 mul-a-2 : tie.Need-mul-a-2
 mul-a-2 c = search needs
 
--- src/nodes.rt:38:5
 element-write-a-2 : tie.Need-element-write-a-2
 element-write-a-2 c = search needs
 
--- src/nodes.rt:39:16
 array-read-a-3 : tie.Need-array-read-a-3
 array-read-a-3 c = search needs
 
--- src/nodes.rt:39:7
 add-a-2 : tie.Need-add-a-2
 add-a-2 c = search needs
 
--- src/nodes.rt:39:5
 mul-a-3 : tie.Need-mul-a-3
 mul-a-3 c = search needs
 
--- src/nodes.rt:39:5
 element-write-a-3 : tie.Need-element-write-a-3
 element-write-a-3 c = search needs
 
--- src/nodes.rt:40:16
 array-read-a-4 : tie.Need-array-read-a-4
 array-read-a-4 c = search needs
 
--- src/nodes.rt:40:7
 add-a-3 : tie.Need-add-a-3
 add-a-3 c = search needs
 
--- src/nodes.rt:40:5
 mul-a-4 : tie.Need-mul-a-4
 mul-a-4 c = search needs
 
--- src/nodes.rt:40:5
 element-write-a-4 : tie.Need-element-write-a-4
 element-write-a-4 c = search needs
 
--- src/nodes.rt:41:7
 add-a-4 : tie.Need-add-a-4
 add-a-4 c = search needs
 
--- src/nodes.rt:41:5
 mul-a-5 : tie.Need-mul-a-5
 mul-a-5 c = search needs
 
--- src/nodes.rt:41:5
 element-write-a-5 : tie.Need-element-write-a-5
 element-write-a-5 c = search needs
 
--- src/nodes.rt:33:1
 returns : tie.Need-returns
 returns c = item-sets (c .args .t3) (c .args .a .now) (c .args .n) 1 (search needs)
 

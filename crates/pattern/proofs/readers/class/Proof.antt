@@ -1,15 +1,10 @@
+-- `readers::class` meets its contract: a refused class is the walk's refusal, and any other is an item that a quantifier may follow. Each return is a law of
+-- `Returns`.
 use borrow.Author.Needs.{needs}
-use mathlib.Core.Path.{refl, sym}
 use native.Mathlib.Omega.{arith}
 use Rattle.pattern.proofs.Returns as returned
 use Rattle.pattern.proofs.readers.class.Statement.{statement}
 use Rattle.pattern.proofs.readers.class.Tie as tie
-use Rattle.pattern.proofs.readers.class.Reads as reads
-use Rattle.pattern.proofs.readers.class.Lts as lts
-use Rattle.pattern.proofs.nodes.put_item.Reads as put-item-reads
-use Rattle.pattern.proofs.readers.quantified.Reads as quantified-reads
-use Rattle.pattern.proofs.readers.refuse.Reads as refuse-reads
-use Rattle.tokens.proofs.class_at.Reads as class-at-reads
 
 class-at-requires : tie.Need-class-at-requires
 class-at-requires c κs = search needs

@@ -4,8 +4,6 @@ use Rattle.pattern.specs.Invariants.{faultOf}
 use Rattle.pattern.proofs.Keys.{other-fault}
 use Rattle.pattern.proofs.readers.fault_of.Statement.{statement}
 use Rattle.pattern.proofs.readers.fault_of.Tie as tie
-use Rattle.pattern.proofs.readers.fault_of.Reads as reads
-use Rattle.pattern.proofs.readers.fault_of.Lts as lts
 
 enum-told : tie.Need-enum-told
 enum-told c = search needs

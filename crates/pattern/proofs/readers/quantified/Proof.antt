@@ -1,3 +1,4 @@
+-- `readers::quantified` meets its contract: the token at the place is a quantifier with a fault, one without, or something else. Each return is a law of `Returns`.
 use borrow.Author.Needs.{needs}
 use mathlib.Core.Path.{refl, sym}
 use native.Mathlib.Omega.{arith}
@@ -5,11 +6,6 @@ use Rattle.pattern.proofs.Keys.{other-token}
 use Rattle.pattern.proofs.Returns as returned
 use Rattle.pattern.proofs.readers.quantified.Statement.{statement}
 use Rattle.pattern.proofs.readers.quantified.Tie as tie
-use Rattle.pattern.proofs.readers.quantified.Reads as reads
-use Rattle.pattern.proofs.readers.quantified.Lts as lts
-use Rattle.pattern.proofs.nodes.put.Reads as put-reads
-use Rattle.pattern.proofs.readers.refuse.Reads as refuse-reads
-use Rattle.tokens.proofs.token_at.Reads as token-at-reads
 
 token-at-requires : tie.Need-token-at-requires
 token-at-requires c κs = search needs

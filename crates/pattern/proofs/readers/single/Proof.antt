@@ -1,16 +1,10 @@
+-- `readers::single` meets its contract, by what the atom is: one of the two assertions, or an item that a quantifier may follow. Each return is a law of `Returns`.
 use borrow.Author.Needs.{needs}
-use mathlib.Core.Path.{refl, sym}
 use native.Mathlib.Omega.{arith}
 use Rattle.pattern.proofs.Keys.{takes-byte}
 use Rattle.pattern.proofs.Returns as returned
 use Rattle.pattern.proofs.readers.single.Statement.{statement}
 use Rattle.pattern.proofs.readers.single.Tie as tie
-use Rattle.pattern.proofs.readers.single.Reads as reads
-use Rattle.pattern.proofs.readers.single.Lts as lts
-use Rattle.pattern.proofs.nodes.put_item.Reads as put-item-reads
-use Rattle.pattern.proofs.readers.leaf.Reads as leaf-reads
-use Rattle.pattern.proofs.readers.quantified.Reads as quantified-reads
-use Rattle.tokens.proofs.item_set.Reads as item-set-reads
 
 enum-told : tie.Need-enum-told
 enum-told c = search needs
