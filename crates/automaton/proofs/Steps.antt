@@ -124,12 +124,14 @@ module _ {b : ℕ} {r t : List ℕ} {w : Written} {z : Fragment} where
 
 -- ---- two parts
 
+-- their sizes fit where their positions do, wherever each is numbered from
+pub two-fit : {f g : Written} {b c : ℕ} {r r1 r2 t t1 t2 : List ℕ} {x y : Fragment} → Built f b r r1 t t1 x → Built g c r1 r2 t1 t2 y
+    → b + (positions f + positions g) ≤ 256 → x .size + y .size ≤ 256
+two-fit h i m = omega (arith, size-of h, size-of i)
+
 module _ {f g : Written} {b : ℕ} {r r1 r2 t t1 t2 : List ℕ} {x y : Fragment} (h : Built f b r r1 t t1 x) (i : Built g (b + x .size) r1 r2 t1 t2 y) where
   after : Built g (b + positions f) r1 r2 t1 t2 y
   after = rw (size-of h) at i
-
-  pub two-fit : b + (positions f + positions g) ≤ 256 → x .size + y .size ≤ 256
-  two-fit m = omega (arith, size-of h, size-of i)
 
   pub built-seq : {w : Written} {z : Fragment} {r3 : List ℕ} → w ≡ seq f g → z ≡ inTurn x y → Joined (x .last) (y .first) 256 r2 r3 → Built w b r r3 t t2 z
   unfolding follow items
