@@ -6,6 +6,8 @@ mod clock;
 #[cfg(feature = "hyperscan")]
 mod hyperscan;
 mod logs;
+#[cfg(feature = "add")]
+mod longest;
 mod ordinary;
 mod rules;
 
@@ -164,6 +166,17 @@ fn additions() {
         }
     });
     println!("ns for one addition: {:.0} (the mean over the rules)", all / RULES.len() as f64);
+    println!("ns for adding a pattern of 256 bytes to an empty table, the emptying included:");
+    for (name, flags, pattern, number) in longest::patterns() {
+        assert_eq!(pattern.len(), 256);
+        let mut answer = (0, 0);
+        let time = each(100, || {
+            raw::empty(&mut words);
+            answer = raw::add(&mut words, 1, flags, black_box(pattern.as_bytes()));
+        });
+        assert_eq!(answer.0, number, "{name}");
+        println!("  {time:8.0}  {name}");
+    }
 }
 
 #[cfg(not(feature = "add"))]
