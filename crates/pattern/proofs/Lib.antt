@@ -1,6 +1,6 @@
--- The laws of the reader. Base (shared small laws), Trees (trees in words), Lexemes and Sets (what a token can be, what an item takes), Steps (the walk, token by
--- token), Keys and Returns (what a match arm knows, what each return owes), Counts (the two figures), Whole (the whole reading). For readers: Cases (the
--- worked cases), Answers (what every reading gives), Rows and Accepted (accepted exactly if no reason to refuse holds).
+-- The laws of the reader: Base (small laws that the others share), Trees (trees in words), Lexemes and Sets (what a token can be, what an item takes), Steps (the
+-- walk, token by token), Keys and Returns (what a match arm knows, what each return owes), Counts (the two figures), Whole (the whole reading). And the
+-- theorems: Cases (the worked cases), Answers (what every reading gives), Rows and Accepted (accepted exactly if no reason to refuse holds).
 pub mod Cases
 pub mod Base
 pub mod Trees

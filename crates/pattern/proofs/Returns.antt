@@ -25,7 +25,7 @@ use Rattle.regex.specs.Rule.{at-start, at-end}
 use Rattle.pattern.specs.Nodes.{Syntax, word, treeAt, width, lay, extraOf}
 use Rattle.pattern.specs.Walk.{nothing, single, Frame, Read, refused, chained, chosen, one, closing}
 use Rattle.pattern.specs.Invariants.{Tidy, lent, Room, state, from, groupEnds, classEnds, refusal, got, onward, Read-up, Said, SaysBranches, SaysSequence, SaysItem, SaysOne, SaysClass, SaysQuantified, SaidBranches, SaidSequence, SaidItem, SaidOne, SaidClass, SaidQuantified, faultOf}
-use Rattle.pattern.specs.declared.readers.Got.{Got}
+use Rattle.pattern.specs.declared.items.Got.{Got}
 use Rattle.pattern.proofs.Trees.{laid-tree, both-laid, one-laid, number-extra, extra-number}
 use Rattle.pattern.proofs.Sets.{words-item, Closed, class-closed}
 use Rattle.pattern.proofs.Steps.{lex, At, last, at-token, Ends, Other, from-one, from-set, from-open, from-deep, from-class, from-fault, from-repeat, from-repeat-fault, free-other, branch-bar, branch-last, group-closes, group-open, past, from-end}

@@ -13,7 +13,7 @@ use Rattle.pattern.specs.Nodes.{Syntax, treeAt, width, lay}
 use Rattle.pattern.specs.Walk.{tree, refused, closing, chosen, walk, begin}
 use Rattle.pattern.specs.Read.{longest, judged, readOf, room, answerOf}
 use Rattle.pattern.specs.Invariants.{Tidy, SaidBranches}
-use Rattle.pattern.specs.declared.readers.Got.{Got}
+use Rattle.pattern.specs.declared.items.Got.{Got}
 use Rattle.pattern.proofs.Trees.{lay-length}
 use Rattle.pattern.proofs.Steps.{group-closes, group-open}
 use Rattle.pattern.proofs.Returns.{on-ok, on-no}

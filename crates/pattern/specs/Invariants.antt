@@ -18,7 +18,7 @@ use Rattle.tokens.specs.Token.{lexemeOf}
 use Rattle.regex.specs.Tree.{empty, item, assertion, then, or, repeat}
 use Rattle.pattern.specs.Nodes.{Syntax, treeAt, width, lay, extraOf, numberOf}
 use Rattle.pattern.specs.Walk.{Target, nothing, single, Frame, State, Read, tree, refused, Next, stop, go, chained, chosen, with-item, one, closing, walk}
-use Rattle.pattern.specs.declared.readers.Got.{Got}
+use Rattle.pattern.specs.declared.items.Got.{Got}
 
 -- ---- the words
 

@@ -1,4 +1,4 @@
--- The answer of the one reading call. Assumes nothing: these are definitions.
+-- The answer of a reading. Assumes nothing: these are definitions.
 use mathlib.Core.Bool.{cond}
 use mathlib.Core.List.{List, _++_}
 use Prim.Native.Nat.{ℕ, _-_, _/_, _%_}

@@ -1,11 +1,11 @@
--- `readers::quantified` meets its contract: the token at the place is a quantifier with a fault, one without, or something else. Each return is a law of `Returns`.
+-- `items::quantified` meets its contract: the token at the place is a quantifier with a fault, one without, or something else. Each return is a law of `Returns`.
 use borrow.Author.Needs.{needs}
 use mathlib.Core.Path.{refl, sym}
 use native.Mathlib.Omega.{arith}
 use Rattle.pattern.proofs.Keys.{other-token}
 use Rattle.pattern.proofs.Returns as returned
-use Rattle.pattern.proofs.readers.quantified.Statement.{statement}
-use Rattle.pattern.proofs.readers.quantified.Tie as tie
+use Rattle.pattern.proofs.items.quantified.Statement.{statement}
+use Rattle.pattern.proofs.items.quantified.Tie as tie
 
 token-at-requires : tie.Need-token-at-requires
 token-at-requires c κs = search needs

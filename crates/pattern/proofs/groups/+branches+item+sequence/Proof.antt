@@ -10,25 +10,25 @@ use borrow.Fn.PlainCycle.{Measures, is, falls, and}
 use Rattle.pattern.specs.Invariants.{refusal}
 use Rattle.pattern.proofs.Keys.{ends, beginning, not-last, only-class}
 use Rattle.pattern.proofs.Returns as returned
-use Rattle.pattern.proofs.readers.branches.Reads as branches
-use Rattle.pattern.proofs.readers.branches.Kinds as branches-kinds
-use Rattle.pattern.proofs.readers.+branches+item+sequence.Lts-branches as branches-lts
-use Rattle.pattern.proofs.readers.item.Reads as item
-use Rattle.pattern.proofs.readers.item.Kinds as item-kinds
-use Rattle.pattern.proofs.readers.+branches+item+sequence.Lts-item as item-lts
-use Rattle.pattern.proofs.readers.sequence.Reads as sequence
-use Rattle.pattern.proofs.readers.sequence.Kinds as sequence-kinds
-use Rattle.pattern.proofs.readers.+branches+item+sequence.Lts-sequence as sequence-lts
-use Rattle.pattern.proofs.readers.class.Reads as class-reads
-use Rattle.pattern.proofs.readers.fault_of.Reads as fault-of-reads
-use Rattle.pattern.proofs.readers.join.Reads as join-reads
-use Rattle.pattern.proofs.readers.leaf.Reads as leaf-reads
-use Rattle.pattern.proofs.readers.quantified.Reads as quantified-reads
-use Rattle.pattern.proofs.readers.refuse.Reads as refuse-reads
-use Rattle.pattern.proofs.readers.single.Reads as single-reads
+use Rattle.pattern.proofs.groups.branches.Reads as branches
+use Rattle.pattern.proofs.groups.branches.Kinds as branches-kinds
+use Rattle.pattern.proofs.groups.+branches+item+sequence.Lts-branches as branches-lts
+use Rattle.pattern.proofs.groups.item.Reads as item
+use Rattle.pattern.proofs.groups.item.Kinds as item-kinds
+use Rattle.pattern.proofs.groups.+branches+item+sequence.Lts-item as item-lts
+use Rattle.pattern.proofs.groups.sequence.Reads as sequence
+use Rattle.pattern.proofs.groups.sequence.Kinds as sequence-kinds
+use Rattle.pattern.proofs.groups.+branches+item+sequence.Lts-sequence as sequence-lts
+use Rattle.pattern.proofs.items.class.Reads as class-reads
+use Rattle.pattern.proofs.items.fault_of.Reads as fault-of-reads
+use Rattle.pattern.proofs.items.join.Reads as join-reads
+use Rattle.pattern.proofs.items.leaf.Reads as leaf-reads
+use Rattle.pattern.proofs.items.quantified.Reads as quantified-reads
+use Rattle.pattern.proofs.items.refuse.Reads as refuse-reads
+use Rattle.pattern.proofs.items.single.Reads as single-reads
 use Rattle.tokens.proofs.token_at.Reads as token-at-reads
-use Rattle.pattern.proofs.readers.+branches+item+sequence.{statement}
-use Rattle.pattern.proofs.readers.+branches+item+sequence.Tie.{close}
+use Rattle.pattern.proofs.groups.+branches+item+sequence.{statement}
+use Rattle.pattern.proofs.groups.+branches+item+sequence.Tie.{close}
 
 abbrev μ-branches : Measures 2 branches-kinds.ps ℕ
 μ-branches κs a = 3 * (length (a .0 .now) - a .1 .0) + 2

@@ -1,10 +1,10 @@
--- `readers::class` meets its contract: a refused class is the walk's refusal, and any other is an item that a quantifier may follow. Each return is a law of
+-- `items::class` meets its contract: a refused class is the walk's refusal, and any other is an item that a quantifier may follow. Each return is a law of
 -- `Returns`.
 use borrow.Author.Needs.{needs}
 use native.Mathlib.Omega.{arith}
 use Rattle.pattern.proofs.Returns as returned
-use Rattle.pattern.proofs.readers.class.Statement.{statement}
-use Rattle.pattern.proofs.readers.class.Tie as tie
+use Rattle.pattern.proofs.items.class.Statement.{statement}
+use Rattle.pattern.proofs.items.class.Tie as tie
 
 class-at-requires : tie.Need-class-at-requires
 class-at-requires c κs = search needs

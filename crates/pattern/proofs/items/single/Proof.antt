@@ -1,10 +1,10 @@
--- `readers::single` meets its contract, by what the atom is: one of the two assertions, or an item that a quantifier may follow. Each return is a law of `Returns`.
+-- `items::single` meets its contract, by what the atom is: one of the two assertions, or an item that a quantifier may follow. Each return is a law of `Returns`.
 use borrow.Author.Needs.{needs}
 use native.Mathlib.Omega.{arith}
 use Rattle.pattern.proofs.Keys.{takes-byte}
 use Rattle.pattern.proofs.Returns as returned
-use Rattle.pattern.proofs.readers.single.Statement.{statement}
-use Rattle.pattern.proofs.readers.single.Tie as tie
+use Rattle.pattern.proofs.items.single.Statement.{statement}
+use Rattle.pattern.proofs.items.single.Tie as tie
 
 enum-told : tie.Need-enum-told
 enum-told c = search needs

@@ -2,8 +2,8 @@
 use borrow.Author.Needs.{needs}
 use Rattle.pattern.specs.Invariants.{faultOf}
 use Rattle.pattern.proofs.Keys.{other-fault}
-use Rattle.pattern.proofs.readers.fault_of.Statement.{statement}
-use Rattle.pattern.proofs.readers.fault_of.Tie as tie
+use Rattle.pattern.proofs.items.fault_of.Statement.{statement}
+use Rattle.pattern.proofs.items.fault_of.Tie as tie
 
 enum-told : tie.Need-enum-told
 enum-told c = search needs
