@@ -56,7 +56,8 @@ fn step(live: [u64; 4], taken: u64, words: &[u64], positions: usize, byte: u8) -
     let mut p: usize = 0;
     while p < MAX_POSITIONS as usize {
         if sets::contains(live, p as u8) {
-            let joined = sets::union(next, row(words, FOLLOW_AT + p * SET_WORDS));
+            let after = row(words, FOLLOW_AT + p * SET_WORDS);
+            let joined = sets::union(next, after);
             next = joined;
         }
         p += 1;
