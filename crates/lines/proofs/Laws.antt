@@ -8,9 +8,10 @@ use native.Mathlib.Omega.{arith}
 use lib.Dec.{eqb}
 use lib.ListN.{length, getD, take, drop, length-drop}
 use lib.Seq.{take-append-seam}
+use Rattle.stream.specs.Valid.{streamLimit}
 use Rattle.lines.specs.Lines.{lineLength, lineEnd, valueFrom, isField, fieldSize, ruleLineOf}
 use Rattle.lines.specs.declared.RuleLine.{RuleLine}
-use Rattle.lines.specs.Numbers.{decimalOf, written, streamLimit, askable}
+use Rattle.lines.specs.Numbers.{decimalOf, written, askable}
 use Rattle.lines.proofs.Fields.{good-field, field-within}
 use Rattle.lines.proofs.Decimals.{within-some, within-most, within-bytes, within-leading, within-value}
 

@@ -4,6 +4,7 @@ use mathlib.Core.List.{List, [], _∷_, _++_}
 use Prim.Native.Nat.{ℕ, zero, suc, _+_, _-_, _/_, _%_, min}
 use lib.Dec.{ltb}
 use lib.ListN.{length, replicate}
+use Rattle.stream.specs.Valid.{streamLimit}
 use Rattle.lines.specs.declared.Decimal.{Decimal}
 
 -- the digits of n, of which there are at most `most`, first the highest
@@ -18,10 +19,6 @@ decimalOf n = decimalWithin 20 n
 -- the digits at the front of 20 bytes, and how many they are
 unfoldable pub written : ℕ → Decimal
 written n = record { digits = decimalOf n ++ replicate (20 - length (decimalOf n)) 0; size = length (decimalOf n) }
-
--- "Stream: 1,099,511,627,775 bytes"
-abbrev pub streamLimit : ℕ
-streamLimit = 1099511627775
 
 -- "Input past the stream limit isn't read": with so many bytes taken and so much room, how many may be asked for
 unfoldable pub askable : (taken room : ℕ) → ℕ

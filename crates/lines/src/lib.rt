@@ -1,6 +1,7 @@
 // The program's text: cutting the rules file into lines, reading a rule line, writing a number, and how many bytes may still be asked for. All are plain
 // functions over bytes, so that the program itself stays thin. Nothing is required of a caller: specs/Lines.antt and specs/Numbers.antt say what each
 // function gives.
+use stream::STREAM_LIMIT;
 ghost use mathlib.Core.Path.{_≡_};
 ghost use mathlib.Core.Bool.{cond, _&&_};
 ghost use Prim.Native.Nat.{_+_, _^_, _<_, min};
@@ -27,9 +28,6 @@ const LARGEST: u64 = 4_294_967_295;
 
 // Where a number that is read stops growing, so that digits without end wrap nothing.
 const CAP: u64 = 4_294_967_296;
-
-// The bytes that a stream may have.
-const STREAM_LIMIT: u64 = 1_099_511_627_775;
 
 // A rule line: its id, its flags, and where its pattern begins; or malformed, and zeros.
 pub struct RuleLine {

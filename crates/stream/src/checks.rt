@@ -1,4 +1,5 @@
 // Whether a call is accepted: the tests of a state against a table, and the number of the first reason that refuses it.
+use super::STREAM_LIMIT;
 use super::Stream;
 use super::rows::singles;
 use table::layout::POSITIONS_AT;
@@ -13,9 +14,6 @@ ghost use Rattle.table.specs.Layout.{tableWords, maxRules, maxPositions, rulesO
 ghost use Rattle.table.specs.Automaton.{automaton, single};
 ghost use Rattle.stream.specs.Valid.{valid};
 ghost use Rattle.stream.specs.Calls.{scanNumber};
-
-// How many bytes a stream may have.
-const STREAM_LIMIT: u64 = 1_099_511_627_775;
 
 // The smaller of two numbers.
 pub(super) fn least(a: usize, b: usize) -> usize

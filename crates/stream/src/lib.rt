@@ -18,6 +18,9 @@ use table::layout::RULES_AT;
 ghost use mathlib.Core.Path.{_≡_};
 ghost use Rattle.stream.specs.Calls.{fresh, opened, scanned, scannedIds, scannedOffsets, closed, closedIds, closedOffsets, busyOf};
 
+// How many bytes a stream may have.
+pub const STREAM_LIMIT: u64 = 1_099_511_627_775;
+
 // A stream's state: the live positions, a mark for each single-match rule that has reported, the bytes taken, the counts of its table, and whether it is
 // closed.
 pub struct Stream {
