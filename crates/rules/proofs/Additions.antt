@@ -26,6 +26,7 @@ use Rattle.pattern.specs.Walk.{Read, tree, refused}
 use Rattle.pattern.specs.Read.{optionsOf}
 use Rattle.automaton.specs.Parts.{partsOf, formParts}
 use Rattle.automaton.specs.declared.Parts.{Parts}
+use Rattle.automaton.proofs.Padded.{parts-whole}
 use Rattle.rules.specs.Words.{placeOf, added}
 use Rattle.rules.specs.Add.{answer, unknownFlag, hasId, placed, addAnswer, withRule, addWords}
 use Rattle.rules.specs.Additions.{Addition, Accepted, size, used, taken, readingOf, nextAnswer, withNew, afterNext, acceptedAfter, addAll, encode}
@@ -33,7 +34,7 @@ use Rattle.rules.specs.declared.Added.{Added}
 use Rattle.rules.proofs.Place.{count-to}
 use Rattle.rules.proofs.Kept.{passes-added, has-id-added}
 use Rattle.rules.proofs.Views.{extended}
-use Rattle.rules.proofs.Parts.{parts-are, parts-positions}
+use Rattle.rules.proofs.Parts.{parts-positions}
 use Rattle.rules.proofs.Sorted.{Placed, at, insert, laid, into, byId, byId-more, place, place-within, smaller-before, larger-there}
 use Rattle.rules.proofs.Encodes.{Encodes, encodes-none, encodes-more}
 use Rattle.rules.proofs.Regions.{added-rules, added-positions}
@@ -106,10 +107,10 @@ module _ (t : List ℕ) (rs : List Accepted) (b : Built t rs) (a : Addition) (x 
   sized = within-limit x (read .fits)
 
   are : parts ≡ formParts (write x) n
-  are = parts-are x n (omega (arith, b .positions))
+  are = sym (parts-whole x n (omega (arith, b .positions)))
 
   more : parts .positions ≡ positions (write x)
-  more = ap (λ (p : Parts). p .positions) are ∙ parts-positions (write x) n (omega (arith, sized))
+  more = ap (λ (p : Parts). p .positions) are ∙ parts-positions (write x) n
 
   -- the table has none with this id
   fresh : (c : ℕ) → c < rulesOf t → recordWord t c 0 ≡ a .id → ⊥

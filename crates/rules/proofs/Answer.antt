@@ -24,11 +24,12 @@ use Rattle.pattern.specs.declared.Reading.{Reading}
 use Rattle.pattern.proofs.Answers.{accepted-tree}
 use Rattle.automaton.specs.Parts.{partsOf, formParts, noParts}
 use Rattle.automaton.specs.declared.Parts.{Parts}
+use Rattle.automaton.proofs.Padded.{parts-whole}
 use Rattle.rules.specs.Words.{added}
 use Rattle.rules.specs.Add.{answer, unknownFlag, hasId, placed, addAnswer, withRule, addWords}
 use Rattle.rules.specs.Invariants.{firstFault}
 use Rattle.rules.specs.declared.Added.{Added}
-use Rattle.rules.proofs.Parts.{parts-are, parts-positions}
+use Rattle.rules.proofs.Parts.{parts-positions}
 
 -- ---- an id among the records
 
@@ -185,7 +186,7 @@ module _ (t : List ℕ) (id flags : ℕ) (s : List ℕ) where
 
         pub fits-room : positionsOf t + parts .positions ≤ maxPositions
         fits-room =
-            omega (arith, room, few, within-limit x few, ap (λ (p : Parts). p .positions) (are ∙ parts-are x (positionsOf t) room), parts-positions (write x) (positionsOf t) (omega (arith, few, within-limit x few)))
+            omega (arith, room, few, within-limit x few, ap (λ (p : Parts). p .positions) (are ∙ sym (parts-whole x (positionsOf t) room)), parts-positions (write x) (positionsOf t))
 
         pub accepted : (u : List ℕ) → u ≡ added t id flags parts → Answers (answer 0 0) u
         unfolding addWords withRule

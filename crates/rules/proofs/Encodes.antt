@@ -10,13 +10,13 @@ use native.Mathlib.Nat.{not-suc-le-zero}
 use native.Mathlib.Decide.{decLt}
 use native.Mathlib.Omega.{arith}
 use lib.Dec.{ltb}
-use lib.ListN.{length, getD, take as take-words, drop, replicate, length-replicate}
+use lib.ListN.{length, getD, replicate, length-replicate}
 use lib.Seq.{getD-append-add}
 use borrow.Author.Tests.{lt-ltb, le-ltb, eq-eqb, ne-eqb}
 use Rattle.sets.specs.Set.{has}
-use Rattle.table.specs.Layout.{maxPositions, bytes}
+use Rattle.table.specs.Layout.{maxPositions, bytes, rowHas, from-to}
 use Rattle.table.specs.Automaton.{Automaton}
-use Rattle.table.proofs.Over.{within-in, within-below}
+use Rattle.table.proofs.Over.{from-to-in, from-to-below}
 use Rattle.table.proofs.Emptying.{noRules}
 use Rattle.regex.specs.Form.{Form, eps, take, check, seq, alt, plus, opt, write, positions}
 use Rattle.regex.specs.Count.{nullable}
@@ -27,7 +27,6 @@ use Rattle.regex.proofs.Computed.{first-T, last-T, follow-T, items-agree}
 use Rattle.regex.proofs.Range.{first-inside, last-inside, follow-inside, follow-inside-to}
 use Rattle.automaton.specs.Parts.{inside, atStart, atEnd, formParts}
 use Rattle.automaton.specs.declared.Parts.{Parts}
-use Rattle.rules.specs.Words.{from-to}
 use Rattle.rules.specs.Additions.{Accepted, size, ruleOf}
 use Rattle.rules.proofs.Views.{putIn, Extended}
 use Rattle.rules.proofs.Parts.{parts-positions, parts-first, parts-start, parts-last, parts-end, parts-follow, parts-takes}
@@ -120,29 +119,29 @@ module _ (w v : Automaton) (k : ℕ) (r : Accepted) (parts : Parts) (x : Extende
   new = record { rule = r; from = w .positions }
 
   more : parts .positions ≡ positions f
-  more = ap (λ (p : Parts). p .positions) is ∙ parts-positions f n (omega arith)
+  more = ap (λ (p : Parts). p .positions) is ∙ parts-positions f n
 
   grown : v .positions ≡ n + positions f
   grown = x .positions ∙ ap (λ (m : ℕ). n + m) more
 
   -- the new rule's sets, below 256
   new-first : (q : ℕ) → q < maxPositions → has (parts .first) q ≡ first inside f n q
-  new-first q h = ap (λ (p : Parts). has (p .first) q) is ∙ parts-first f n (omega arith) q h
+  new-first q h = ap (λ (p : Parts). has (p .first) q) is ∙ parts-first f n q h
 
   new-start : (q : ℕ) → q < maxPositions → has (parts .start) q ≡ first atStart f n q
-  new-start q h = ap (λ (p : Parts). has (p .start) q) is ∙ parts-start f n (omega arith) q h
+  new-start q h = ap (λ (p : Parts). has (p .start) q) is ∙ parts-start f n q h
 
   new-last : (q : ℕ) → q < maxPositions → has (parts .last) q ≡ last inside f n q
-  new-last q h = ap (λ (p : Parts). has (p .last) q) is ∙ parts-last f n (omega arith) q h
+  new-last q h = ap (λ (p : Parts). has (p .last) q) is ∙ parts-last f n q h
 
   new-end : (q : ℕ) → q < maxPositions → has (parts .«end») q ≡ last atEnd f n q
-  new-end q h = ap (λ (p : Parts). has (p .«end») q) is ∙ parts-end f n (omega arith) q h
+  new-end q h = ap (λ (p : Parts). has (p .«end») q) is ∙ parts-end f n q h
 
   new-follow : (o q : ℕ) → n ≤ o → o < n + positions f → q < maxPositions → v .follow o q ≡ follow inside f n o q
   new-follow o q h l m =
       let e : n + (o - n) ≡ o = omega arith in
       ap (λ (j : ℕ). v .follow j q) (sym e) ∙ x .follow-new (o - n) q (omega (arith, more)) m
-      ∙ ap (λ (p : Parts). has (take-words 4 (drop ((o - n) * 4) (p .follow))) q) is ∙ parts-follow f n (omega arith) (o - n) q (omega arith) m
+      ∙ ap (λ (p : Parts). rowHas (p .follow) ((o - n) * 4) q) is ∙ parts-follow (r .tree) n room (o - n) q (omega arith) m
       ∙ ap (λ (j : ℕ). follow inside f n j q) e
 
   -- nothing of the new rule comes before its positions, or after them
@@ -198,8 +197,8 @@ module _ (w v : Automaton) (k : ℕ) (r : Accepted) (parts : Parts) (x : Extende
           takes-is = λ y q l h.
               let below : q < n = old q h in
               x .takes y q l (omega arith)
-              ∙ joined q below (w .takes y q) (from-to n (n + parts .positions) q && has (take-words 4 (drop ((q - n) * 4) (parts .takes))) y)
-              (ap (λ (b : Bool). b && has (take-words 4 (drop ((q - n) * 4) (parts .takes))) y) (within-below n (n + parts .positions) q below))
+              ∙ joined q below (w .takes y q) (from-to n (n + parts .positions) q && rowHas (parts .takes) ((q - n) * 4) y)
+              (ap (λ (b : Bool). b && rowHas (parts .takes) ((q - n) * 4) y) (from-to-below n (n + parts .positions) q below))
               ∙ s .takes-is y q l h;
           first-is = λ q h.
               let below : q < n = old q h in
@@ -244,9 +243,9 @@ module _ (w v : Automaton) (k : ℕ) (r : Accepted) (parts : Parts) (x : Extende
           within = omega (arith, grown);
           takes-is = λ y q l h.
               x .takes y q l (omega arith)
-              ∙ masked q (h .0) (w .takes y q) (from-to n (n + parts .positions) q && has (take-words 4 (drop ((q - n) * 4) (parts .takes))) y)
-              ∙ ap (λ (b : Bool). b && has (take-words 4 (drop ((q - n) * 4) (parts .takes))) y) (within-in n (n + parts .positions) q (h .0) (omega (arith, more, h .1)))
-              ∙ ap (λ (p : Parts). has (take-words 4 (drop ((q - n) * 4) (p .takes))) y) is ∙ parts-takes f n (omega arith) (q - n) y (omega arith) l;
+              ∙ masked q (h .0) (w .takes y q) (from-to n (n + parts .positions) q && rowHas (parts .takes) ((q - n) * 4) y)
+              ∙ ap (λ (b : Bool). b && rowHas (parts .takes) ((q - n) * 4) y) (from-to-in n (n + parts .positions) q (h .0) (omega (arith, more, h .1)))
+              ∙ ap (λ (p : Parts). rowHas (p .takes) ((q - n) * 4) y) is ∙ parts-takes (r .tree) n room (q - n) y (omega arith) l;
           first-is = λ q h. x .first q (omega arith) ∙ masked q (h .0) (w .first q) (has (parts .first) q) ∙ new-first q (omega arith);
           start-is = λ q h. x .firstAtStart q (omega arith) ∙ masked q (h .0) (w .firstAtStart q) (has (parts .start) q) ∙ new-start q (omega arith);
           follow-is = own-follow;

@@ -14,7 +14,7 @@ use Rattle.sets.specs.Set.{any}
 use Rattle.sets.proofs.Laws.{any-at, any-some, any-none}
 use Rattle.table.specs.Layout.{tableWords, maxRules, maxPositions, rulesOf, positionsOf, recordWord}
 use Rattle.table.specs.Table.{knownFlags}
-use Rattle.table.proofs.Over.{within-below}
+use Rattle.table.proofs.Over.{from-to-below}
 use Rattle.table.proofs.Test.{Passes}
 use Rattle.automaton.specs.declared.Parts.{Parts}
 use Rattle.rules.specs.Words.{placeOf, newRecord, oldRecord, recordWords, added}
@@ -44,7 +44,7 @@ module _ (t : List ℕ) (id flags : ℕ) (parts : Parts) (long : tableWords ≤ 
 -- id, flags and range of an old record are as they were
 pub old-field : (t : List ℕ) (id flags : ℕ) (parts : Parts) (a i : ℕ) → i < 4 → oldRecord t id flags parts a i ≡ recordWord t a i
 unfolding oldRecord
-old-field t id flags parts a i h = rw (within-below 4 8 i h, within-below 8 12 i (omega arith))
+old-field t id flags parts a i h = rw (from-to-below 4 8 i h, from-to-below 8 12 i (omega arith))
 
 -- ---- the test
 

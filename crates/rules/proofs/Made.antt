@@ -11,11 +11,11 @@ use lib.ListN.{length, getD}
 use lib.Seq.{ext-getD}
 use borrow.Author.Tests.{lt-ltb, le-ltb, le-leb, lt-leb, eq-eqb, ne-eqb}
 use Rattle.sets.specs.Set.{setOf, emptySet}
-use Rattle.table.specs.Layout.{tableWords, maxRules, maxPositions, bytes, rulesOf, positionsOf, firstAt, firstAtStartAt, recordAt, followAt, takersAt, rowHas}
-use Rattle.table.proofs.Over.{within-in, within-below, within-above, length-over, over-in, over-below, over-above}
+use Rattle.table.specs.Layout.{tableWords, maxRules, maxPositions, bytes, rulesOf, positionsOf, firstAt, firstAtStartAt, recordAt, followAt, takersAt, rowHas, from-to}
+use Rattle.table.proofs.Over.{from-to-in, from-to-below, from-to-above, length-over, over-in, over-below, over-above}
 use Rattle.table.proofs.Writes.{copied, movedUp}
 use Rattle.automaton.specs.declared.Parts.{Parts}
-use Rattle.rules.specs.Words.{wordsOf, from-to, oldRow, joinedRow, placeOf, newRecord, oldRecord, recordWords, followWords, newTaker, takersWords, addedWord, added}
+use Rattle.rules.specs.Words.{wordsOf, oldRow, joinedRow, placeOf, newRecord, oldRecord, recordWords, followWords, newTaker, takersWords, addedWord, added}
 use Rattle.rules.specs.Invariants.{mergedRow, merged, rowsWord, mergedRows, maskedRows, maskedWord, recordsWord, maskedRecords, recordOf, recordAtPlace, recordPut, startsPut, followPut, newTakers, takersPut, countsPut}
 use Rattle.rules.proofs.Rows.{merged-same, merged-none, merged-new}
 use Rattle.rules.proofs.Place.{place-le}
@@ -208,11 +208,11 @@ module _ (t : List ℕ) (id flags : ℕ) (parts : Parts) where
           ap₂ (λ (j r : ℕ). getD (row j) r 0) e rest ∙ ap (λ (l : List ℕ). getD l (i - k) 0) (merged-none t (recordAt a + k) (positionsOf t))
 
       go : Dec (i < 4) → Dec (i < 8) → Dec (i < 12) → maskedWord t (positionsOf t) a i ≡ oldRecord t id flags parts a i
-      go (yes p) q r = rw (within-below 4 12 i p, within-below 4 8 i p, within-below 8 12 i (omega arith))
-      go (no p) (yes q) r = rw (within-in 4 12 i (omega arith) (omega arith), within-in 4 8 i (omega arith) q) (one 4 (omega arith) q (omega arith))
+      go (yes p) q r = rw (from-to-below 4 12 i p, from-to-below 4 8 i p, from-to-below 8 12 i (omega arith))
+      go (no p) (yes q) r = rw (from-to-in 4 12 i (omega arith) (omega arith), from-to-in 4 8 i (omega arith) q) (one 4 (omega arith) q (omega arith))
       go (no p) (no q) (yes r) =
-          rw (within-in 4 12 i (omega arith) r, within-above 4 8 i (omega arith), within-in 8 12 i (omega arith) r) (one 8 (omega arith) (omega arith) (omega arith))
-      go (no p) (no q) (no r) = rw (within-above 4 12 i (omega arith), within-above 4 8 i (omega arith), within-above 8 12 i (omega arith))
+          rw (from-to-in 4 12 i (omega arith) r, from-to-above 4 8 i (omega arith), from-to-in 8 12 i (omega arith) r) (one 8 (omega arith) (omega arith) (omega arith))
+      go (no p) (no q) (no r) = rw (from-to-above 4 12 i (omega arith), from-to-above 4 8 i (omega arith), from-to-above 8 12 i (omega arith))
 
   abbrev theRecord : List ℕ
   theRecord = recordOf id flags (positionsOf t) (positionsOf t + parts .positions) (parts .last) (parts .«end»)
@@ -458,24 +458,24 @@ module _ (t : List ℕ) (id flags : ℕ) (parts : Parts) (long : tableWords ≤ 
       go (yes a) _ _ _ _ _ _ _ _ = header-word w a
       go (no a) (yes b) _ _ _ _ _ _ _ =
           under-2 w (omega arith) (omega arith) ∙ starts-low n (parts .first) (parts .start) s1 w b ∙ put-before t id flags parts long few w (omega arith)
-          ∙ plain w (omega arith) (within-below 4 8 w b) (within-below 8 12 w (omega arith)) (within-below 64 576 w (omega arith)) (within-below 1024 2048 w (omega arith)) (within-below 2048 3072 w (omega arith))
+          ∙ plain w (omega arith) (from-to-below 4 8 w b) (from-to-below 8 12 w (omega arith)) (from-to-below 64 576 w (omega arith)) (from-to-below 1024 2048 w (omega arith)) (from-to-below 2048 3072 w (omega arith))
       go (no a) (no b) (yes c) _ _ _ _ _ _ = first-word w (omega arith) c
       go (no a) (no b) (no c) (yes d) _ _ _ _ _ = start-word w (omega arith) d
       go (no a) (no b) (no c) (no d) (yes e) _ _ _ _ =
           under-2 w (omega arith) (omega arith) ∙ starts-high n (parts .first) (parts .start) s1 w (omega arith) ∙ put-before t id flags parts long few w e
-          ∙ plain w (omega arith) (within-above 4 8 w (omega arith)) (within-above 8 12 w (omega arith)) (within-below 64 576 w e) (within-below 1024 2048 w (omega arith)) (within-below 2048 3072 w (omega arith))
+          ∙ plain w (omega arith) (from-to-above 4 8 w (omega arith)) (from-to-above 8 12 w (omega arith)) (from-to-below 64 576 w e) (from-to-below 1024 2048 w (omega arith)) (from-to-below 2048 3072 w (omega arith))
       go (no a) (no b) (no c) (no d) (no e) (yes f) _ _ _ =
           under-2 w (omega arith) (omega arith) ∙ starts-high n (parts .first) (parts .start) s1 w (omega arith) ∙ put-word w (omega arith) f
       go (no a) (no b) (no c) (no d) (no e) (no f) (yes g) _ _ =
           under-2 w (omega arith) g ∙ above-2 w (omega arith)
-          ∙ plain w (omega arith) (within-above 4 8 w (omega arith)) (within-above 8 12 w (omega arith)) (within-above 64 576 w (omega arith)) (within-below 1024 2048 w g) (within-below 2048 3072 w (omega arith))
+          ∙ plain w (omega arith) (from-to-above 4 8 w (omega arith)) (from-to-above 8 12 w (omega arith)) (from-to-above 64 576 w (omega arith)) (from-to-below 1024 2048 w g) (from-to-below 2048 3072 w (omega arith))
       go (no a) (no b) (no c) (no d) (no e) (no f) (no g) (yes h) _ =
           counts-high (rulesOf t + 1) (n + more) s4 w (omega arith) ∙ takers-low n (parts .takes) more s3 w h ∙ follow-word w (omega arith) h
       go (no a) (no b) (no c) (no d) (no e) (no f) (no g) (no h) (yes i) =
           counts-high (rulesOf t + 1) (n + more) s4 w (omega arith) ∙ takers-word w (omega arith) i
       go (no a) (no b) (no c) (no d) (no e) (no f) (no g) (no h) (no i) =
           counts-high (rulesOf t + 1) (n + more) s4 w (omega arith) ∙ takers-high n (parts .takes) more s3 w (omega arith) ∙ above-3 w (omega arith)
-          ∙ plain w (omega arith) (within-above 4 8 w (omega arith)) (within-above 8 12 w (omega arith)) (within-above 64 576 w (omega arith)) (within-above 1024 2048 w (omega arith)) (within-above 2048 3072 w (omega arith))
+          ∙ plain w (omega arith) (from-to-above 4 8 w (omega arith)) (from-to-above 8 12 w (omega arith)) (from-to-above 64 576 w (omega arith)) (from-to-above 1024 2048 w (omega arith)) (from-to-above 2048 3072 w (omega arith))
 
   made : s5 ≡ added t id flags parts
   made =
@@ -485,7 +485,7 @@ module _ (t : List ℕ) (id flags : ℕ) (parts : Parts) (long : tableWords ≤ 
       go w (yes h) = word-is w ∙ sym (added-word t id flags parts long w h)
       go w (no h) =
           word-is w
-          ∙ sym (plain w (omega arith) (within-above 4 8 w (omega arith)) (within-above 8 12 w (omega arith)) (within-above 64 576 w (omega arith)) (within-above 1024 2048 w (omega arith)) (within-above 2048 3072 w (omega arith)))
+          ∙ sym (plain w (omega arith) (from-to-above 4 8 w (omega arith)) (from-to-above 8 12 w (omega arith)) (from-to-above 64 576 w (omega arith)) (from-to-above 1024 2048 w (omega arith)) (from-to-above 2048 3072 w (omega arith)))
           ∙ sym (added-beyond t id flags parts long w (omega arith))
 
   -- what `add_rule` leaves, call by call

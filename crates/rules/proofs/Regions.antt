@@ -12,10 +12,10 @@ use lib.Dec.{eqb}
 use lib.ListN.{length, getD, drop, length-append, length-drop, List·getD-append}
 use lib.Seq.{getD-append-add, getD-drop, getD-at}
 use borrow.Author.Tests.{ne-eqb}
-use Rattle.table.specs.Layout.{tableWords, maxRules, maxPositions, bytes, rulesOf, positionsOf, firstAt, firstAtStartAt, recordAt, followAt, takersAt}
-use Rattle.table.proofs.Over.{within-in, within-above}
+use Rattle.table.specs.Layout.{tableWords, maxRules, maxPositions, bytes, rulesOf, positionsOf, firstAt, firstAtStartAt, recordAt, followAt, takersAt, from-to}
+use Rattle.table.proofs.Over.{from-to-in, from-to-above}
 use Rattle.automaton.specs.declared.Parts.{Parts}
-use Rattle.rules.specs.Words.{wordsOf, from-to, joinedRow, recordWords, followWords, takersWords, addedWord, added}
+use Rattle.rules.specs.Words.{wordsOf, joinedRow, recordWords, followWords, takersWords, addedWord, added}
 
 -- ---- words by their index
 
@@ -47,30 +47,30 @@ module _ (t : List ℕ) (id flags : ℕ) (parts : Parts) where
 
   pub word-first : (w : ℕ) → firstAt ≤ w → w < firstAt + 4 → addedWord t id flags parts w ≡ getD (joinedRow t firstAt (parts .first)) (w - firstAt) 0
   unfolding addedWord
-  word-first w h l = rw (ne-eqb w 1 (λ z. omega arith), ne-eqb w 2 (λ z. omega arith), within-in 4 8 w h l)
+  word-first w h l = rw (ne-eqb w 1 (λ z. omega arith), ne-eqb w 2 (λ z. omega arith), from-to-in 4 8 w h l)
 
   pub word-start : (w : ℕ) → firstAtStartAt ≤ w → w < firstAtStartAt + 4
       → addedWord t id flags parts w ≡ getD (joinedRow t firstAtStartAt (parts .start)) (w - firstAtStartAt) 0
   unfolding addedWord
-  word-start w h l = rw (ne-eqb w 1 (λ z. omega arith), ne-eqb w 2 (λ z. omega arith), within-above 4 8 w h, within-in 8 12 w h l)
+  word-start w h l = rw (ne-eqb w 1 (λ z. omega arith), ne-eqb w 2 (λ z. omega arith), from-to-above 4 8 w h, from-to-in 8 12 w h l)
 
   pub word-record : (w : ℕ) → recordAt 0 ≤ w → w < recordAt maxRules
       → addedWord t id flags parts w ≡ recordWords t id flags parts ((w - recordAt 0) / 16) ((w - recordAt 0) % 16)
   unfolding addedWord
   word-record w h l =
-      rw (ne-eqb w 1 (λ z. omega arith), ne-eqb w 2 (λ z. omega arith), within-above 4 8 w (omega arith), within-above 8 12 w (omega arith), within-in 64 576 w h l)
+      rw (ne-eqb w 1 (λ z. omega arith), ne-eqb w 2 (λ z. omega arith), from-to-above 4 8 w (omega arith), from-to-above 8 12 w (omega arith), from-to-in 64 576 w h l)
 
   pub word-follow : (w : ℕ) → followAt 0 ≤ w → w < followAt maxPositions
       → addedWord t id flags parts w ≡ followWords t id flags parts ((w - followAt 0) / 4) ((w - followAt 0) % 4)
   unfolding addedWord
   word-follow w h l =
-      rw (ne-eqb w 1 (λ z. omega arith), ne-eqb w 2 (λ z. omega arith), within-above 4 8 w (omega arith), within-above 8 12 w (omega arith), within-above 64 576 w (omega arith), within-in 1024 2048 w h l)
+      rw (ne-eqb w 1 (λ z. omega arith), ne-eqb w 2 (λ z. omega arith), from-to-above 4 8 w (omega arith), from-to-above 8 12 w (omega arith), from-to-above 64 576 w (omega arith), from-to-in 1024 2048 w h l)
 
   pub word-takers : (w : ℕ) → takersAt 0 ≤ w → w < takersAt bytes
       → addedWord t id flags parts w ≡ takersWords t id flags parts ((w - takersAt 0) / 4) ((w - takersAt 0) % 4)
   unfolding addedWord
   word-takers w h l =
-      rw (ne-eqb w 1 (λ z. omega arith), ne-eqb w 2 (λ z. omega arith), within-above 4 8 w (omega arith), within-above 8 12 w (omega arith), within-above 64 576 w (omega arith), within-above 1024 2048 w h, within-in 2048 3072 w h l)
+      rw (ne-eqb w 1 (λ z. omega arith), ne-eqb w 2 (λ z. omega arith), from-to-above 4 8 w (omega arith), from-to-above 8 12 w (omega arith), from-to-above 64 576 w (omega arith), from-to-above 1024 2048 w h, from-to-in 2048 3072 w h l)
 
   module _ (long : tableWords ≤ length t) where
     -- ---- the list of words

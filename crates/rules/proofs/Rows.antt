@@ -1,4 +1,4 @@
--- The sets of positions that stand in four words each. A row's words are read once as a set (`has-row`); what is merged is then a matter of members.
+-- The sets of positions that stand in four words each. A row is read as the set of its members, so what is merged is a matter of members.
 use mathlib.Core.Path.{_≡_, refl, sym, ap, _∙_}
 use mathlib.Core.Bool.{Bool, _&&_, _||_, and-comm, or-false}
 use mathlib.Core.List.{List, [], _∷_}
@@ -14,33 +14,7 @@ use Rattle.table.specs.Layout.{rowHas}
 use Rattle.table.proofs.Rows.{row-member, row-same}
 use Rattle.rules.specs.Invariants.{mergedRow}
 
--- ---- four words of a list
-
-pub length-row : (t : List ℕ) (at : ℕ) → at + 4 ≤ length t → length (take 4 (drop at t)) ≡ 4
-length-row t at h = length-take 4 (drop at t) ∙ ap (min 4) (length-drop at t) ∙ least
-  where
-    least : min 4 (length t - at) ≡ 4
-    least = omega arith
-
-pub getD-row : (t : List ℕ) (at i : ℕ) → i < 4 → getD (take 4 (drop at t)) i 0 ≡ getD t (at + i) 0
-getD-row t at i h = getD-take 4 (drop at t) i 0 h ∙ getD-drop at t i 0
-
-pub row-is : (t : List ℕ) (at : ℕ) → at + 4 ≤ length t
-    → (getD t at 0 ∷ getD t (at + 1) 0 ∷ getD t (at + 2) 0 ∷ getD t (at + 3) 0 ∷ []) ≡ take 4 (drop at t)
-row-is t at h =
-    ext-getD 0 l (take 4 (drop at t)) (sym (length-row t at h)) (λ i k. same i k ∙ sym (getD-row t at i k))
-  where
-    l : List ℕ
-    l = getD t at 0 ∷ getD t (at + 1) 0 ∷ getD t (at + 2) 0 ∷ getD t (at + 3) 0 ∷ []
-
-    same : (i : ℕ) → i < 4 → getD l i 0 ≡ getD t (at + i) 0
-    same = below-four (λ (i : ℕ). getD l i 0 ≡ getD t (at + i) 0) (ap (λ (k : ℕ). getD t k 0) (sym (add-zero at))) refl refl refl
-
 -- ---- a row as a set
-
-pub has-row : (t : List ℕ) (at q : ℕ) → q < 256 → has (take 4 (drop at t)) q ≡ rowHas t at q
-unfolding has
-has-row t at q h = ap (λ (x : ℕ). on x (q % 64)) (getD-row t at (q / 64) (omega arith)) ∙ sym (row-member t at q h)
 
 -- a row that has a set's words is that set
 pub row-set : (t : List ℕ) (at : ℕ) (f : ℕ → Bool) → ((i : ℕ) → i < 4 → getD t (at + i) 0 ≡ getD (setOf f) i 0) → (q : ℕ) → q < 256 → rowHas t at q ≡ f q
@@ -50,12 +24,12 @@ row-set t at f e q h = row-member t at q h ∙ ap (λ (x : ℕ). on x (q % 64)) 
 -- ---- merged rows
 
 -- what `merge_row` makes of the words that it reads
-pub merged-words : (t : List ℕ) (at n : ℕ) (new : List ℕ) → unionOf (keptBelow (take 4 (drop at t)) n) new ≡ mergedRow t at n new
+pub merged-words : (t : List ℕ) (at n : ℕ) (new : List ℕ) → unionOf (keptBelow (setOf (rowHas t at)) n) new ≡ mergedRow t at n new
 unfolding unionOf mergedRow
 merged-words t at n new =
-    setOf-ext (λ q. has (keptBelow (take 4 (drop at t)) n) q || has new q) (λ q. (ltb q n && rowHas t at q) || has new q)
+    setOf-ext (λ q. has (keptBelow (setOf (rowHas t at)) n) q || has new q) (λ q. (ltb q n && rowHas t at q) || has new q)
     (λ q h. ap (λ (b : Bool). b || has new q)
-    (has-below (take 4 (drop at t)) n q h ∙ ap (λ (b : Bool). b && ltb q n) (has-row t at q h) ∙ and-comm (rowHas t at q) (ltb q n)))
+    (has-below (setOf (rowHas t at)) n q h ∙ ap (λ (b : Bool). b && ltb q n) (has-setOf (rowHas t at) q h) ∙ and-comm (rowHas t at q) (ltb q n)))
 
 -- only the row's own four words count
 pub merged-same : (s t : List ℕ) (at n : ℕ) (new : List ℕ) → ((i : ℕ) → i < 4 → getD s (at + i) 0 ≡ getD t (at + i) 0) → mergedRow s at n new ≡ mergedRow t at n new

@@ -8,20 +8,19 @@ use native.Mathlib.Numerals.{add-one}
 use native.Mathlib.Decide.{decLt}
 use native.Mathlib.Omega.{arith}
 use lib.Dec.{eqb}
-use lib.ListN.{length, getD, take, drop}
+use lib.ListN.{length, getD}
 use borrow.Author.Tests.{lt-ltb, le-ltb, eq-eqb, ne-eqb}
-use Rattle.sets.specs.Set.{has, emptySet, inserted, unionOf, keptBelow, count, asOne}
+use Rattle.sets.specs.Set.{setOf, emptySet, inserted, unionOf, keptBelow, count, asOne}
 use Rattle.sets.proofs.Laws.{setOf-ext, inserted-setOf}
-use Rattle.table.specs.Layout.{recordAt, recordWord}
-use Rattle.table.proofs.Over.{within-in, within-below, within-above, over, length-over, over-in, over-below, over-above, over-is, Written, written-none, written-above, written-block, written-all}
+use Rattle.table.specs.Layout.{recordAt, recordWord, rowHas, from-to}
+use Rattle.table.proofs.Over.{from-to-in, from-to-below, from-to-above, over, length-over, over-in, over-below, over-above, over-is, Written, written-none, written-above, written-block, written-all}
 use Rattle.table.proofs.Writes.{copied, movedUp}
-use Rattle.rules.specs.Words.{from-to}
 use Rattle.rules.specs.Invariants.{merged, mergedRow, rowsWord, mergedRows, maskedRows, maskedWord, recordsWord, maskedRecords, smaller, newTakers, recordAtPlace, recordPut}
 use Rattle.rules.proofs.Rows.{merged-words, merged-same}
 
 -- ---- one row
 
-pub merge-is : (t s old kept all new : List ℕ) (at n : ℕ) → old ≡ take 4 (drop at t) → kept ≡ keptBelow old n → all ≡ unionOf kept new → s ≡ copied at 4 all t
+pub merge-is : (t s old kept all new : List ℕ) (at n : ℕ) → old ≡ setOf (rowHas t at) → kept ≡ keptBelow old n → all ≡ unionOf kept new → s ≡ copied at 4 all t
     → s ≡ merged at n new t
 unfolding merged
 merge-is t s old kept all new at n a b c d =
@@ -110,18 +109,18 @@ records-turn a n t s s' few long r e =
         go : Dec (w < at) → Dec (w < at + 8) → getD s' w 0 ≡ recordsWord n t w
         go (yes p) q =
             low w p ∙ old w x ∙ sym back
-            ∙ sym (ap (λ (b : Bool). cond b (getD (mergedRow t (recordAt a + (w - recordAt a) / 4 * 4) n emptySet) ((w - recordAt a) % 4) 0) (recordWord t a (w - recordAt a))) (within-below 4 12 (w - recordAt a) (omega arith)))
+            ∙ sym (ap (λ (b : Bool). cond b (getD (mergedRow t (recordAt a + (w - recordAt a) / 4 * 4) n emptySet) ((w - recordAt a) % 4) 0) (recordWord t a (w - recordAt a))) (from-to-below 4 12 (w - recordAt a) (omega arith)))
             ∙ word
         go (no p) (yes q) =
             let z : at + (w - at) / 4 * 4 ≡ recordAt a + (w - recordAt a) / 4 * 4 = omega arith in
             let m : (w - at) % 4 ≡ (w - recordAt a) % 4 = omega arith in
             mid w (omega arith) q
             ∙ ap₂ (λ (l : List ℕ) (i : ℕ). getD l i 0) (merged-same s t (at + (w - at) / 4 * 4) n emptySet (λ i h. old (at + (w - at) / 4 * 4 + i) (omega arith)) ∙ ap (λ (i : ℕ). mergedRow t i n emptySet) z) m
-            ∙ sym (ap (λ (b : Bool). cond b (getD (mergedRow t (recordAt a + (w - recordAt a) / 4 * 4) n emptySet) ((w - recordAt a) % 4) 0) (recordWord t a (w - recordAt a))) (within-in 4 12 (w - recordAt a) (omega arith) (omega arith)))
+            ∙ sym (ap (λ (b : Bool). cond b (getD (mergedRow t (recordAt a + (w - recordAt a) / 4 * 4) n emptySet) ((w - recordAt a) % 4) 0) (recordWord t a (w - recordAt a))) (from-to-in 4 12 (w - recordAt a) (omega arith) (omega arith)))
             ∙ word
         go (no p) (no q) =
             high w (omega arith) ∙ old w x ∙ sym back
-            ∙ sym (ap (λ (b : Bool). cond b (getD (mergedRow t (recordAt a + (w - recordAt a) / 4 * 4) n emptySet) ((w - recordAt a) % 4) 0) (recordWord t a (w - recordAt a))) (within-above 4 12 (w - recordAt a) (omega arith)))
+            ∙ sym (ap (λ (b : Bool). cond b (getD (mergedRow t (recordAt a + (w - recordAt a) / 4 * 4) n emptySet) ((w - recordAt a) % 4) 0) (recordWord t a (w - recordAt a))) (from-to-above 4 12 (w - recordAt a) (omega arith)))
             ∙ word
 
 pub records-whole : (a rules n : ℕ) (t s : List ℕ) → MaskedTo a n t s → a ≡ rules → s ≡ maskedRecords rules n t
@@ -149,44 +148,44 @@ module _ (t : List ℕ) (id : ℕ) where
 
 module _ (takes : List ℕ) (n x : ℕ) where
   abbrev taker : ℕ → ℕ → Bool
-  taker i q = from-to n (n + i) q && has (take 4 (drop ((q - n) * 4) takes)) x
+  taker i q = from-to n (n + i) q && rowHas takes ((q - n) * 4) x
 
   pub takers-none : emptySet ≡ newTakers takes n 0 x
   unfolding emptySet newTakers
-  takers-none = setOf-ext (λ q. false) (taker 0) (λ q h. sym (ap (λ (b : Bool). b && has (take 4 (drop ((q - n) * 4) takes)) x) (none q (decLt q n))))
+  takers-none = setOf-ext (λ q. false) (taker 0) (λ q h. sym (ap (λ (b : Bool). b && rowHas takes ((q - n) * 4) x) (none q (decLt q n))))
     where
       none : (q : ℕ) → Dec (q < n) → from-to n (n + 0) q ≡ false
-      none q (yes h) = within-below n (n + 0) q h
-      none q (no h) = within-above n (n + 0) q (omega arith)
+      none q (yes h) = from-to-below n (n + 0) q h
+      none q (no h) = from-to-above n (n + 0) q (omega arith)
 
   -- one position more
-  step : (i : ℕ) (b : Bool) → has (take 4 (drop (i * 4) takes)) x ≡ b → (q : ℕ) → (taker i q || (b && eqb q (n + i))) ≡ taker (i + 1) q
+  step : (i : ℕ) (b : Bool) → rowHas takes (i * 4) x ≡ b → (q : ℕ) → (taker i q || (b && eqb q (n + i))) ≡ taker (i + 1) q
   step i b e q = go (decLt q n) (decLt q (n + i)) (decLt q (n + (i + 1)))
     where
       h : Bool
-      h = has (take 4 (drop ((q - n) * 4) takes)) x
+      h = rowHas takes ((q - n) * 4) x
 
       other : (q ≡ n + i → ⊥) → (taker i q || (b && eqb q (n + i))) ≡ taker i q
       other ne = ap (λ (y : Bool). taker i q || (b && y)) (ne-eqb q (n + i) ne) ∙ ap (λ (y : Bool). taker i q || y) (and-false b) ∙ or-false (taker i q)
 
       go : Dec (q < n) → Dec (q < n + i) → Dec (q < n + (i + 1)) → (taker i q || (b && eqb q (n + i))) ≡ taker (i + 1) q
-      go (yes p) r s = other (λ z. omega arith) ∙ ap (λ (y : Bool). y && h) (within-below n (n + i) q p ∙ sym (within-below n (n + (i + 1)) q p))
+      go (yes p) r s = other (λ z. omega arith) ∙ ap (λ (y : Bool). y && h) (from-to-below n (n + i) q p ∙ sym (from-to-below n (n + (i + 1)) q p))
       go (no p) (yes r) s =
-          other (λ z. omega arith) ∙ ap (λ (y : Bool). y && h) (within-in n (n + i) q (omega arith) r ∙ sym (within-in n (n + (i + 1)) q (omega arith) (omega arith)))
+          other (λ z. omega arith) ∙ ap (λ (y : Bool). y && h) (from-to-in n (n + i) q (omega arith) r ∙ sym (from-to-in n (n + (i + 1)) q (omega arith) (omega arith)))
       go (no p) (no r) (yes s) =
           let z : q ≡ n + i = omega arith in
           let z' : q - n ≡ i = omega arith in
-          ap₂ (λ (y w : Bool). (y && h) || (b && w)) (within-above n (n + i) q (omega arith)) (eq-eqb q (n + i) z)
-          ∙ and-true b ∙ sym e ∙ ap (λ (k : ℕ). has (take 4 (drop (k * 4) takes)) x) (sym z')
-          ∙ ap (λ (y : Bool). y && h) (sym (within-in n (n + (i + 1)) q (omega arith) s))
+          ap₂ (λ (y w : Bool). (y && h) || (b && w)) (from-to-above n (n + i) q (omega arith)) (eq-eqb q (n + i) z)
+          ∙ and-true b ∙ sym e ∙ ap (λ (k : ℕ). rowHas takes (k * 4) x) (sym z')
+          ∙ ap (λ (y : Bool). y && h) (sym (from-to-in n (n + (i + 1)) q (omega arith) s))
       go (no p) (no r) (no s) =
-          other (λ z. omega arith) ∙ ap (λ (y : Bool). y && h) (within-above n (n + i) q (omega arith) ∙ sym (within-above n (n + (i + 1)) q (omega arith)))
+          other (λ z. omega arith) ∙ ap (λ (y : Bool). y && h) (from-to-above n (n + i) q (omega arith) ∙ sym (from-to-above n (n + (i + 1)) q (omega arith)))
 
-  pub takers-hit : (i : ℕ) → has (take 4 (drop (i * 4) takes)) x ≡ true → inserted (newTakers takes n i x) (n + i) ≡ newTakers takes n (i + 1) x
+  pub takers-hit : (i : ℕ) → rowHas takes (i * 4) x ≡ true → inserted (newTakers takes n i x) (n + i) ≡ newTakers takes n (i + 1) x
   unfolding newTakers
   takers-hit i e = inserted-setOf (taker i) (n + i) ∙ setOf-ext (λ q. taker i q || eqb q (n + i)) (taker (i + 1)) (λ q h. step i true e q)
 
-  pub takers-miss : (i : ℕ) → has (take 4 (drop (i * 4) takes)) x ≡ false → newTakers takes n i x ≡ newTakers takes n (i + 1) x
+  pub takers-miss : (i : ℕ) → rowHas takes (i * 4) x ≡ false → newTakers takes n i x ≡ newTakers takes n (i + 1) x
   unfolding newTakers
   takers-miss i e = setOf-ext (taker i) (taker (i + 1)) (λ q h. sym (or-false (taker i q)) ∙ step i false e q)
 

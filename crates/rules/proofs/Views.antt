@@ -7,16 +7,16 @@ use Prim.Native.Nat.{ℕ, _+_, _-_, _*_, _/_, _%_, _≤_, _<_}
 use native.Mathlib.Decide.{decLt}
 use native.Mathlib.Omega.{arith}
 use lib.Dec.{eqb, ltb}
-use lib.ListN.{length, getD, take, drop}
+use lib.ListN.{length, getD}
 use borrow.Author.Tests.{lt-ltb, le-ltb, eq-eqb, ne-eqb}
 use Rattle.sets.specs.Set.{on, has, setOf}
-use Rattle.table.specs.Layout.{tableWords, maxRules, maxPositions, bytes, rulesOf, positionsOf, firstAt, firstAtStartAt, recordAt, lastAt, lastAtEndAt, followAt, takersAt, recordWord, rowHas}
+use Rattle.table.specs.Layout.{tableWords, maxRules, maxPositions, bytes, rulesOf, positionsOf, firstAt, firstAtStartAt, recordAt, lastAt, lastAtEndAt, followAt, takersAt, recordWord, rowHas, from-to}
 use Rattle.table.specs.Automaton.{Automaton, automaton}
-use Rattle.table.proofs.Over.{within-in, within-above}
+use Rattle.table.proofs.Over.{from-to-in, from-to-above}
 use Rattle.table.proofs.Rows.{row-member, row-same, under}
 use Rattle.automaton.specs.declared.Parts.{Parts}
-use Rattle.rules.specs.Words.{from-to, oldRow, joinedRow, placeOf, newRecord, oldRecord, followWords, newTaker, takersWords, added}
-use Rattle.rules.proofs.Rows.{has-row, row-set}
+use Rattle.rules.specs.Words.{oldRow, joinedRow, placeOf, newRecord, oldRecord, followWords, newTaker, takersWords, added}
+use Rattle.rules.proofs.Rows.{row-set}
 use Rattle.rules.proofs.Place.{place-le}
 use Rattle.rules.proofs.Regions.{added-rules, added-positions, added-first, added-start, added-follow, added-takers}
 use Rattle.rules.proofs.Kept.{record-before, record-new, record-after, old-field}
@@ -34,11 +34,11 @@ pub record Extended (w v : Automaton) (k id flags : ℕ) (parts : Parts) : Type 
   pub first : (q : ℕ) → q < maxPositions → v .first q ≡ ((ltb q (w .positions) && w .first q) || has (parts .first) q)
   pub firstAtStart : (q : ℕ) → q < maxPositions → v .firstAtStart q ≡ ((ltb q (w .positions) && w .firstAtStart q) || has (parts .start) q)
   pub follow-old : (p q : ℕ) → p < w .positions → q < maxPositions → v .follow p q ≡ (ltb q (w .positions) && w .follow p q)
-  pub follow-new : (i q : ℕ) → i < parts .positions → q < maxPositions → v .follow (w .positions + i) q ≡ has (take 4 (drop (i * 4) (parts .follow))) q
+  pub follow-new : (i q : ℕ) → i < parts .positions → q < maxPositions → v .follow (w .positions + i) q ≡ rowHas (parts .follow) (i * 4) q
   pub follow-rest : (p q : ℕ) → w .positions + parts .positions ≤ p → v .follow p q ≡ w .follow p q
   pub takes : (x q : ℕ) → x < bytes → q < maxPositions → v .takes x q
       ≡ ((ltb q (w .positions) && w .takes x q)
-      || (from-to (w .positions) (w .positions + parts .positions) q && has (take 4 (drop ((q - w .positions) * 4) (parts .takes))) x))
+      || (from-to (w .positions) (w .positions + parts .positions) q && rowHas (parts .takes) ((q - w .positions) * 4) x))
   pub last : (a q : ℕ) → a ≤ w .rules → q < maxPositions → v .last a q ≡ putIn k (has (parts .last) q) (λ b. ltb q (w .positions) && w .last b q) a
   pub lastAtEnd : (a q : ℕ) → a ≤ w .rules → q < maxPositions
       → v .lastAtEnd a q ≡ putIn k (has (parts .«end») q) (λ b. ltb q (w .positions) && w .lastAtEnd b q) a
@@ -113,7 +113,7 @@ module _ (t : List ℕ) (id flags : ℕ) (parts : Parts) (long : tableWords ≤ 
 
   -- word d + j of a record, where one of its sets stands from d on
   within : (d j : ℕ) → j < 4 → from-to d (d + 4) (d + j) ≡ true
-  within d j h = within-in d (d + 4) (d + j) (omega arith) (omega arith)
+  within d j h = from-to-in d (d + 4) (d + j) (omega arith) (omega arith)
 
   last-new : (j : ℕ) → j < 4 → newRecord t id flags parts (4 + j) ≡ getD (parts .last) j 0
   unfolding newRecord
@@ -126,7 +126,7 @@ module _ (t : List ℕ) (id flags : ℕ) (parts : Parts) (long : tableWords ≤ 
   unfolding newRecord
   end-new j h =
       let e : 8 + j - 8 ≡ j = omega arith in
-      rw (ne-eqb (8 + j) 0 (λ z. omega arith), ne-eqb (8 + j) 1 (λ z. omega arith), ne-eqb (8 + j) 2 (λ z. omega arith), ne-eqb (8 + j) 3 (λ z. omega arith), within-above 4 8 (8 + j) (omega arith), within 8 j h)
+      rw (ne-eqb (8 + j) 0 (λ z. omega arith), ne-eqb (8 + j) 1 (λ z. omega arith), ne-eqb (8 + j) 2 (λ z. omega arith), ne-eqb (8 + j) 3 (λ z. omega arith), from-to-above 4 8 (8 + j) (omega arith), within 8 j h)
       (ap (λ (i : ℕ). getD (parts .«end») i 0) e)
 
   last-old : (a j : ℕ) → j < 4 → oldRecord t id flags parts a (4 + j) ≡ getD (setOf (oldRow t (lastAt a))) j 0
@@ -137,7 +137,7 @@ module _ (t : List ℕ) (id flags : ℕ) (parts : Parts) (long : tableWords ≤ 
   unfolding oldRecord
   end-old a j h =
       let e : 8 + j - 8 ≡ j = omega arith in
-      rw (within-above 4 8 (8 + j) (omega arith), within 8 j h) (ap (λ (i : ℕ). getD (setOf (oldRow t (lastAtEndAt a))) i 0) e)
+      rw (from-to-above 4 8 (8 + j) (omega arith), within 8 j h) (ap (λ (i : ℕ). getD (setOf (oldRow t (lastAtEndAt a))) i 0) e)
 
   -- ---- the follow sets
 
@@ -152,7 +152,7 @@ module _ (t : List ℕ) (id flags : ℕ) (parts : Parts) (long : tableWords ≤ 
       ∙ row-set u (followAt p) (oldRow t (followAt p)) (λ i m. added-follow t id flags parts long p i (omega arith) m ∙ rw (lt-ltb p n h)) q l
       ∙ ap (λ (b : Bool). ltb q n && (b && rowHas t (followAt p) q)) (sym (lt-ltb p maxPositions (omega arith)))
 
-  new-follow : (i q : ℕ) → i < parts .positions → q < maxPositions → v .follow (n + i) q ≡ has (take 4 (drop (i * 4) (parts .follow))) q
+  new-follow : (i q : ℕ) → i < parts .positions → q < maxPositions → v .follow (n + i) q ≡ rowHas (parts .follow) (i * 4) q
   unfolding followWords
   new-follow i q h l =
       follow-at (n + i) q (omega arith)
@@ -161,7 +161,6 @@ module _ (t : List ℕ) (id flags : ℕ) (parts : Parts) (long : tableWords ≤ 
       let e : (n + i - n) * 4 + j ≡ i * 4 + j = omega arith in
       added-follow t id flags parts long (n + i) j (omega arith) m
       ∙ rw (le-ltb (n + i) n (omega arith), lt-ltb (n + i) (n + parts .positions) (omega arith)) (ap (λ (x : ℕ). getD (parts .follow) x 0) e)) q
-      ∙ sym (has-row (parts .follow) (i * 4) q l)
 
   rest-follow : (p q : ℕ) → n + parts .positions ≤ p → v .follow p q ≡ w .follow p q
   unfolding automaton followWords
@@ -174,7 +173,7 @@ module _ (t : List ℕ) (id flags : ℕ) (parts : Parts) (long : tableWords ≤ 
   -- ---- the takers
 
   takes-in : (x q : ℕ) → x < bytes → q < maxPositions → v .takes x q
-      ≡ ((ltb q n && w .takes x q) || (from-to n (n + parts .positions) q && has (take 4 (drop ((q - n) * 4) (parts .takes))) x))
+      ≡ ((ltb q n && w .takes x q) || (from-to n (n + parts .positions) q && rowHas (parts .takes) ((q - n) * 4) x))
   unfolding automaton takersWords newTaker oldRow
   takes-in x q h l =
       ap (λ (b : Bool). b && rowHas u (takersAt x) q) (lt-ltb x bytes h)

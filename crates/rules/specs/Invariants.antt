@@ -3,13 +3,12 @@ use mathlib.Core.Bool.{Bool, cond, _&&_, _||_}
 use mathlib.Core.List.{List, [], _∷_}
 use Prim.Native.Nat.{ℕ, _+_, _-_, _*_, _/_, _%_}
 use lib.Dec.{leb, ltb}
-use lib.ListN.{getD, take, drop}
+use lib.ListN.{getD}
 use Rattle.sets.specs.Set.{has, setOf, emptySet, count}
-use Rattle.table.specs.Layout.{maxRules, bytes, rulesOf, firstAt, firstAtStartAt, recordAt, followAt, takersAt, recordWord, rowHas}
+use Rattle.table.specs.Layout.{maxRules, bytes, rulesOf, firstAt, firstAtStartAt, recordAt, followAt, takersAt, recordWord, rowHas, from-to}
 use Rattle.table.specs.Table.{isTable}
 use Rattle.table.proofs.Over.{over}
 use Rattle.table.proofs.Writes.{copied, movedUp}
-use Rattle.rules.specs.Words.{from-to}
 use Rattle.rules.specs.Add.{unknownFlag, hasId}
 
 -- ---- the checks before the pattern is read
@@ -75,7 +74,7 @@ followPut n follow more t = copied (followAt n) (more * 4) follow (maskedRows (f
 
 -- the new positions, from n on, that take byte x
 unfoldable pub newTakers : List ℕ → (n more x : ℕ) → List ℕ
-newTakers takes n more x = setOf (λ q. from-to n (n + more) q && has (take 4 (drop ((q - n) * 4) takes)) x)
+newTakers takes n more x = setOf (λ q. from-to n (n + more) q && rowHas takes ((q - n) * 4) x)
 
 unfoldable pub takersPut : ℕ → List ℕ → ℕ → List ℕ → List ℕ
 takersPut n takes more t = mergedRows (takersAt 0) bytes n (newTakers takes n more) t

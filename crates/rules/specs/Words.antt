@@ -5,19 +5,15 @@ use mathlib.Core.Bool.{Bool, cond, _&&_, _||_}
 use mathlib.Core.List.{List, [], _∷_, _++_}
 use Prim.Native.Nat.{ℕ, zero, suc, _+_, _-_, _*_, _/_, _%_}
 use lib.Dec.{eqb, leb, ltb}
-use lib.ListN.{getD, take, drop}
+use lib.ListN.{getD, drop}
 use Rattle.sets.specs.Set.{has, setOf, count}
-use Rattle.table.specs.Layout.{tableWords, maxRules, maxPositions, bytes, rulesOf, positionsOf, firstAt, firstAtStartAt, recordAt, lastAt, lastAtEndAt, followAt, takersAt, recordWord, rowHas}
+use Rattle.table.specs.Layout.{tableWords, maxRules, maxPositions, bytes, rulesOf, positionsOf, firstAt, firstAtStartAt, recordAt, lastAt, lastAtEndAt, followAt, takersAt, recordWord, rowHas, from-to}
 use Rattle.automaton.specs.declared.Parts.{Parts}
 
 -- the words f 0, f 1, .. up to n of them
 unfoldable pub wordsOf : ℕ → (ℕ → ℕ) → List ℕ
 wordsOf zero f = []
 wordsOf (suc n) f = wordsOf n f ++ (f n ∷ [])
-
--- lo up to but not including hi
-abbrev pub from-to : ℕ → ℕ → ℕ → Bool
-from-to lo hi w = leb lo w && ltb w hi
 
 -- the set in the row at `at`, kept to the positions that the table has
 unfoldable pub oldRow : List ℕ → ℕ → ℕ → Bool
@@ -69,7 +65,7 @@ module _ (t : List ℕ) (id flags : ℕ) (parts : Parts) where
   unfoldable pub newTaker : ℕ → ℕ → Bool
   newTaker x q =
       from-to (positionsOf t) (positionsOf t + parts .positions) q
-      && has (take 4 (drop ((q - positionsOf t) * 4) (parts .takes))) x
+      && rowHas (parts .takes) ((q - positionsOf t) * 4) x
 
   unfoldable pub takersWords : ℕ → ℕ → ℕ
   takersWords x i = getD (setOf (λ q. oldRow t (takersAt x) q || newTaker x q)) i 0

@@ -15,7 +15,7 @@ use table::layout::TAKERS_AT;
 ghost use mathlib.Core.Path.{_≡_};
 ghost use mathlib.Core.List.{[], _∷_};
 ghost use Prim.Native.Nat.{_+_, _*_, _≤_, _<_};
-ghost use lib.ListN.{length, take, drop, getD};
+ghost use lib.ListN.{length, getD};
 ghost use Rattle.sets.specs.Set.{count};
 ghost use Rattle.table.specs.Layout.{tableWords, maxRules, maxPositions, bytes, rulesOf, positionsOf, recordAt, followAt};
 ghost use Rattle.rules.specs.Words.{added};
@@ -46,20 +46,12 @@ fn move_up(words: &mut [u64], at: usize, n: usize)
     }
 }
 
-// The set in the four words at `at`.
-fn row(words: &[u64], at: usize) -> [u64; 4]
-    requires { ⌜ at + 4 ≤ length (now words) ⌝ }
-    ensures { λ r. ⌜ r ≡ take 4 (drop at (now (words .entry))) ⌝ }
-{
-    [words[at], words[at + 1], words[at + 2], words[at + 3]]
-}
-
 // Keeps the set at `at` to the positions below n, and joins new ones.
 fn merge_row(words: &mut [u64], at: usize, n: usize, new: [u64; 4])
     requires { ⌜ at + 4 ≤ length (now words) ⌝ }
     ensures { λ r. ⌜ now (words .exit) ≡ merged at n new (now (words .entry)) ⌝ }
 {
-    let old = row(words, at);
+    let old = table::row(words, at);
     let kept = sets::below(old, n);
     let all = sets::union(kept, new);
     put_words(words, at, &all, SET_WORDS);
@@ -168,7 +160,7 @@ fn takers_of(takes: &[u64; 1024], n: usize, more: usize, x: u8) -> [u64; 4]
     let mut s = sets::empty();
     let mut i: usize = 0;
     while i < more {
-        let t = row(takes, i * SET_WORDS);
+        let t = table::row(takes, i * SET_WORDS);
         if sets::contains(t, x) {
             let r = sets::insert(s, (n + i) as u8);
             s = r;

@@ -1,4 +1,4 @@
--- The sets in a table's words: four words are the set of their members, the rules' last sets are joined one a turn, and the rules that a set meets are a
+-- The sets in a table's words: the rules' last sets are joined one a turn, and the rules that a set meets are a
 -- word that gets one digit a turn.
 use mathlib.Core.Path.{_≡_, refl, sym, ap, _∙_}
 use mathlib.Core.Bool.{Bool, cond, not, _&&_, Bool·not-not}
@@ -15,15 +15,7 @@ use Rattle.sets.specs.Set.{has, setOf, any, unionOf, intersectionOf, isEmpty, e
 use Rattle.sets.proofs.Laws.{words-fourOf, by-members, has-setOf, has-intersection, union-setOf}
 use Rattle.table.specs.Layout.{maxRules, maxPositions, recordAt, lastAt, recordWord, rowHas}
 use Rattle.table.specs.Automaton.{automaton, single}
-use Rattle.table.proofs.Rows.{row, has-row}
 use Rattle.stream.proofs.Members.{any-ext}
-
--- four words in a row are the set that the table has there
-pub row-words : (t : List ℕ) (at : ℕ) → ((i : ℕ) → Fits w64 (getD t i 0))
-    → (getD t at 0 ∷ getD t (at + 1) 0 ∷ getD t (at + 2) 0 ∷ getD t (at + 3) 0 ∷ []) ≡ setOf (rowHas t at)
-row-words t at small =
-    ap (λ (i : ℕ). getD t i 0 ∷ getD t (at + 1) 0 ∷ getD t (at + 2) 0 ∷ getD t (at + 3) 0 ∷ []) (sym (add-zero at))
-    ∙ by-members (row t at) (words-fourOf (λ i. getD t (at + i) 0) (λ i h. small (at + i) .fits)) (rowHas t at) (has-row t at)
 
 -- two sets meet where their intersection has a member
 pub meets-test : (s t : List ℕ) → not (isEmpty (intersectionOf s t)) ≡ any maxPositions (λ q. has s q && has t q)

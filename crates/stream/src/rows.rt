@@ -1,4 +1,4 @@
-// Reads of a table's words: a set of positions, the union of the rules' last sets, and rules as a word with a digit for each place.
+// Reads of a table's words: the union of the rules' last sets, and rules as a word with a digit for each place.
 use table::layout::FLAGS;
 use table::layout::LAST;
 use table::layout::RECORD_WORDS;
@@ -11,14 +11,6 @@ ghost use lib.ListN.{length};
 ghost use Rattle.sets.specs.Set.{has, setOf, wordOf, any};
 ghost use Rattle.table.specs.Layout.{tableWords, maxRules, maxPositions, recordAt, lastAt, rowHas};
 ghost use Rattle.table.specs.Automaton.{automaton, single};
-
-// The set whose four words stand at `at`.
-pub(super) fn row(words: &[u64], at: usize) -> [u64; 4]
-    requires { ⌜ at + 4 ≤ length (now words) ⌝ }
-    ensures { λ r. ⌜ r ≡ setOf (rowHas (now (words .entry)) at) ⌝ }
-{
-    [words[at], words[at + 1], words[at + 2], words[at + 3]]
-}
 
 // Whether two sets have a member in common.
 pub(super) fn meets(s: [u64; 4], t: [u64; 4]) -> bool
@@ -35,7 +27,7 @@ pub(super) fn lasts(words: &[u64], rules: usize) -> [u64; 4]
     let mut s = sets::empty();
     let mut a: usize = 0;
     while a < rules {
-        let t = sets::union(s, row(words, RECORDS_AT + a * RECORD_WORDS + LAST));
+        let t = sets::union(s, table::row(words, RECORDS_AT + a * RECORD_WORDS + LAST));
         s = t;
         a += 1;
     }
@@ -50,7 +42,10 @@ pub(super) fn ending(live: [u64; 4], words: &[u64], rules: usize, field: usize) 
     let mut found: u64 = 0;
     let mut a: usize = 0;
     while a < rules {
-        if meets(live, row(words, RECORDS_AT + a * RECORD_WORDS + field)) {
+        if meets(
+            live,
+            table::row(words, RECORDS_AT + a * RECORD_WORDS + field),
+        ) {
             found = found | 1 << a;
         }
         a += 1;

@@ -5,7 +5,6 @@ use super::reports::write_run;
 use super::rows::ending;
 use super::rows::lasts;
 use super::rows::meets;
-use super::rows::row;
 use super::rows::singles;
 use table::layout::FIRST_AT;
 use table::layout::FIRST_AT_START_AT;
@@ -33,9 +32,9 @@ fn firsts(words: &[u64], taken: u64) -> [u64; 4]
     ensures { λ r. ⌜ r ≡ setOf (starts (automaton (now (words .entry))) (stateOf emptySet 0 taken)) ⌝ }
 {
     if taken == 0 {
-        row(words, FIRST_AT_START_AT)
+        table::row(words, FIRST_AT_START_AT)
     } else {
-        row(words, FIRST_AT)
+        table::row(words, FIRST_AT)
     }
 }
 
@@ -44,7 +43,7 @@ fn takers(words: &[u64], byte: u8) -> [u64; 4]
     requires { ⌜ tableWords ≤ length (now words) ⌝ }
     ensures { λ r. ⌜ r ≡ setOf (rowHas (now (words .entry)) (takersAt byte)) ⌝ }
 {
-    row(words, TAKERS_AT + byte as usize * SET_WORDS)
+    table::row(words, TAKERS_AT + byte as usize * SET_WORDS)
 }
 
 // The live set after one more byte, `taken` bytes into the stream. It asks every position.
@@ -56,7 +55,7 @@ fn step(live: [u64; 4], taken: u64, words: &[u64], positions: usize, byte: u8) -
     let mut p: usize = 0;
     while p < MAX_POSITIONS as usize {
         if sets::contains(live, p as u8) {
-            let after = row(words, FOLLOW_AT + p * SET_WORDS);
+            let after = table::row(words, FOLLOW_AT + p * SET_WORDS);
             let joined = sets::union(next, after);
             next = joined;
         }
@@ -83,7 +82,7 @@ fn ahead(
     if taken + from as u64 == 0 {
         return from;
     }
-    let first = sets::below(row(words, FIRST_AT), positions);
+    let first = sets::below(table::row(words, FIRST_AT), positions);
     let mut at = from;
     while at < block.len() {
         if meets(first, takers(words, block[at])) {

@@ -11,24 +11,23 @@ use lib.Dec.{leb, ltb}
 use lib.ListN.{length, getD, set, take, drop, length-set, length-take, length-drop, List·getD-eq-default}
 use lib.Seq.{getD-set-same, getD-set-other, getD-take, getD-drop, ext-getD}
 use borrow.Author.Tests.{lt-ltb, le-ltb, le-leb, lt-leb}
+use Rattle.table.specs.Layout.{from-to}
 
--- w is from lo on and below hi
-abbrev pub within : (lo hi w : ℕ) → Bool
-within lo hi w = leb lo w && ltb w hi
+-- ---- the places from lo on and below hi
 
-pub within-in : (lo hi w : ℕ) → lo ≤ w → w < hi → within lo hi w ≡ true
-within-in lo hi w a b = ap₂ (λ (x y : Bool). x && y) (le-leb lo w a) (lt-ltb w hi b)
+pub from-to-in : (lo hi w : ℕ) → lo ≤ w → w < hi → from-to lo hi w ≡ true
+from-to-in lo hi w a b = ap₂ (λ (x y : Bool). x && y) (le-leb lo w a) (lt-ltb w hi b)
 
-pub within-below : (lo hi w : ℕ) → w < lo → within lo hi w ≡ false
-within-below lo hi w a = ap (λ (x : Bool). x && ltb w hi) (lt-leb lo w a)
+pub from-to-below : (lo hi w : ℕ) → w < lo → from-to lo hi w ≡ false
+from-to-below lo hi w a = ap (λ (x : Bool). x && ltb w hi) (lt-leb lo w a)
 
-pub within-above : (lo hi w : ℕ) → hi ≤ w → within lo hi w ≡ false
-within-above lo hi w a = ap (λ (x : Bool). leb lo w && x) (le-ltb w hi a) ∙ and-false (leb lo w)
+pub from-to-above : (lo hi w : ℕ) → hi ≤ w → from-to lo hi w ≡ false
+from-to-above lo hi w a = ap (λ (x : Bool). leb lo w && x) (le-ltb w hi a) ∙ and-false (leb lo w)
 
 -- the same for the part of a list that begins at place i
 unfoldable pub overFrom : (i lo hi : ℕ) → (ℕ → ℕ) → List ℕ → List ℕ
 overFrom i lo hi g [] = []
-overFrom i lo hi g (x ∷ t) = cond (within lo hi i) (g i) x ∷ overFrom (suc i) lo hi g t
+overFrom i lo hi g (x ∷ t) = cond (from-to lo hi i) (g i) x ∷ overFrom (suc i) lo hi g t
 
 unfoldable pub over : (lo hi : ℕ) → (ℕ → ℕ) → List ℕ → List ℕ
 over lo hi g t = overFrom 0 lo hi g t
@@ -41,36 +40,36 @@ length-overFrom i lo hi g [] = refl
 length-overFrom i lo hi g (x ∷ t) = ap suc (length-overFrom (suc i) lo hi g t)
 
 getD-overFrom : (i lo hi : ℕ) (g : ℕ → ℕ) (t : List ℕ) (w : ℕ) → w < length t
-    → getD (overFrom i lo hi g t) w 0 ≡ cond (within lo hi (i + w)) (g (i + w)) (getD t w 0)
+    → getD (overFrom i lo hi g t) w 0 ≡ cond (from-to lo hi (i + w)) (g (i + w)) (getD t w 0)
 unfolding overFrom
 getD-overFrom i lo hi g [] w h = absurd (not-suc-le-zero h)
-getD-overFrom i lo hi g (x ∷ t) zero h = ap (λ (k : ℕ). cond (within lo hi k) (g k) x) (sym (add-zero i))
+getD-overFrom i lo hi g (x ∷ t) zero h = ap (λ (k : ℕ). cond (from-to lo hi k) (g k) x) (sym (add-zero i))
 getD-overFrom i lo hi g (x ∷ t) (suc w) h =
     let next : suc i + w ≡ i + suc w = omega arith in
-    getD-overFrom (suc i) lo hi g t w (le-of-suc-le-suc h) ∙ ap (λ (k : ℕ). cond (within lo hi k) (g k) (getD t w 0)) next
+    getD-overFrom (suc i) lo hi g t w (le-of-suc-le-suc h) ∙ ap (λ (k : ℕ). cond (from-to lo hi k) (g k) (getD t w 0)) next
 
 pub length-over : (lo hi : ℕ) (g : ℕ → ℕ) (t : List ℕ) → length (over lo hi g t) ≡ length t
 unfolding over
 length-over lo hi g t = length-overFrom 0 lo hi g t
 
 module _ (lo hi : ℕ) (g : ℕ → ℕ) (t : List ℕ) where
-  pub getD-over : (w : ℕ) → w < length t → getD (over lo hi g t) w 0 ≡ cond (within lo hi w) (g w) (getD t w 0)
+  pub getD-over : (w : ℕ) → w < length t → getD (over lo hi g t) w 0 ≡ cond (from-to lo hi w) (g w) (getD t w 0)
   unfolding over
-  getD-over w h = getD-overFrom 0 lo hi g t w h ∙ ap (λ (k : ℕ). cond (within lo hi k) (g k) (getD t w 0)) (zero-add w)
+  getD-over w h = getD-overFrom 0 lo hi g t w h ∙ ap (λ (k : ℕ). cond (from-to lo hi k) (g k) (getD t w 0)) (zero-add w)
 
   pub over-in : (w : ℕ) → lo ≤ w → w < hi → w < length t → getD (over lo hi g t) w 0 ≡ g w
-  over-in w a b h = getD-over w h ∙ ap (λ (x : Bool). cond x (g w) (getD t w 0)) (within-in lo hi w a b)
+  over-in w a b h = getD-over w h ∙ ap (λ (x : Bool). cond x (g w) (getD t w 0)) (from-to-in lo hi w a b)
 
-  outside : (w : ℕ) → within lo hi w ≡ false → Dec (w < length t) → getD (over lo hi g t) w 0 ≡ getD t w 0
+  outside : (w : ℕ) → from-to lo hi w ≡ false → Dec (w < length t) → getD (over lo hi g t) w 0 ≡ getD t w 0
   outside w e (yes h) = getD-over w h ∙ ap (λ (x : Bool). cond x (g w) (getD t w 0)) e
   outside w e (no h) =
       List·getD-eq-default (over lo hi g t) 0 (omega (arith, length-over lo hi g t)) ∙ sym (List·getD-eq-default t 0 (omega arith))
 
   pub over-below : (w : ℕ) → w < lo → getD (over lo hi g t) w 0 ≡ getD t w 0
-  over-below w a = outside w (within-below lo hi w a) (decLt w (length t))
+  over-below w a = outside w (from-to-below lo hi w a) (decLt w (length t))
 
   pub over-above : (w : ℕ) → hi ≤ w → getD (over lo hi g t) w 0 ≡ getD t w 0
-  over-above w a = outside w (within-above lo hi w a) (decLt w (length t))
+  over-above w a = outside w (from-to-above lo hi w a) (decLt w (length t))
 
 -- a list of t's length is an `over` of t where each of its words is
 pub over-is : (lo hi : ℕ) (g : ℕ → ℕ) (t s : List ℕ) → length s ≡ length t
@@ -143,7 +142,7 @@ over-swap lo hi lo' hi' g h t a =
     same : (w : ℕ) → getD (over lo hi g t) w 0 ≡ getD t w 0 → Dec (w < length t) → getD (over lo' hi' h (over lo hi g t)) w 0 ≡ getD (over lo' hi' h t) w 0
     same w e (yes l) =
         getD-over lo' hi' h (over lo hi g t) w (omega (arith, length-over lo hi g t))
-        ∙ ap (λ (x : ℕ). cond (within lo' hi' w) (h w) x) e ∙ sym (getD-over lo' hi' h t w l)
+        ∙ ap (λ (x : ℕ). cond (from-to lo' hi' w) (h w) x) e ∙ sym (getD-over lo' hi' h t w l)
     same w e (no l) =
         List·getD-eq-default (over lo' hi' h (over lo hi g t)) 0 (omega (arith, length-over lo' hi' h (over lo hi g t), length-over lo hi g t))
         ∙ sym (List·getD-eq-default (over lo' hi' h t) 0 (omega (arith, length-over lo' hi' h t)))

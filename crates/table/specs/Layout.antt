@@ -2,9 +2,9 @@
 use mathlib.Core.Bool.{Bool, cond, _&&_}
 use mathlib.Core.List.{List}
 use Prim.Native.Nat.{ℕ, _+_, _*_, _/_, _%_}
-use lib.Dec.{ltb}
-use lib.ListN.{getD}
-use Rattle.sets.specs.Set.{on}
+use lib.Dec.{leb, ltb}
+use lib.ListN.{length, getD}
+use Rattle.sets.specs.Set.{on, setOf, emptySet}
 
 -- "Table: 4,096 64-bit words; words beyond are never touched." "Rules in a table: 32." "Positions in a table: 256."
 abbrev pub tableWords : ℕ
@@ -62,3 +62,11 @@ recordWord t a i = getD t (recordAt a + i) 0
 -- q is in the set whose four words stand at `at`
 unfoldable pub rowHas : List ℕ → ℕ → ℕ → Bool
 rowHas t at q = ltb q maxPositions && on (getD t (at + q / 64) 0) (q % 64)
+
+-- the set at `at`; where the list has not four words from there on, the empty one
+unfoldable pub rowAt : List ℕ → ℕ → List ℕ
+rowAt t at = cond (leb (at + 4) (length t)) (setOf (rowHas t at)) emptySet
+
+-- w is one of lo, lo + 1, .. below hi
+abbrev pub from-to : (lo hi w : ℕ) → Bool
+from-to lo hi w = leb lo w && ltb w hi

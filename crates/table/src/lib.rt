@@ -1,5 +1,6 @@
-// The rule table: 4,096 words that the caller lends. This crate has its layout, the yes-or-no test for any words, and emptying. Nothing is required of a
-// caller. docs/TABLE.md lists the words; specs/Layout.antt names them, specs/Table.antt is the test, specs/Automaton.antt says what passing words describe.
+// The rule table: 4,096 words that the caller lends. This crate has its layout, the yes-or-no test for any words, emptying, and the reading of a set.
+// Nothing is required of a caller. docs/TABLE.md lists the words; specs/Layout.antt names them, specs/Table.antt is the test, specs/Automaton.antt says what
+// passing words describe.
 pub mod layout;
 
 use layout::ACCEPTED;
@@ -17,13 +18,27 @@ use layout::POSITIONS_AT;
 use layout::RECORD_WORDS;
 use layout::RECORDS_AT;
 use layout::RULES_AT;
+use layout::SET_WORDS;
 use layout::TABLE_WORDS;
 use layout::TO;
 ghost use mathlib.Core.Path.{_≡_};
 ghost use Prim.Native.Nat.{_<_, _≤_};
 ghost use lib.ListN.{length};
-ghost use Rattle.table.specs.Layout.{tableWords, maxRules, positionsOf};
+ghost use Rattle.table.specs.Layout.{tableWords, maxRules, positionsOf, rowAt};
 ghost use Rattle.table.specs.Table.{leastId, recordOk, all, isTable, emptyNumber, emptied};
+
+// The set whose four words stand at `at`; the empty set where there are not four words from there on.
+pub fn row(words: &[u64], at: usize) -> [u64; 4]
+    ensures { λ r. ⌜ r ≡ rowAt (now (words .entry)) at ⌝ }
+{
+    if words.len() < SET_WORDS {
+        return sets::empty();
+    }
+    if words.len() - SET_WORDS < at {
+        return sets::empty();
+    }
+    [words[at], words[at + 1], words[at + 2], words[at + 3]]
+}
 
 // Whether record a is in order: an id of 32 bits from `least` on, known flags, positions within the count.
 fn record_ok(words: &[u64], a: usize, least: u64, positions: u64) -> bool

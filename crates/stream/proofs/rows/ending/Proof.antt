@@ -10,6 +10,7 @@ use lib.Bits.{bitOr}
 use Rattle.sets.specs.Set.{has, any}
 use Rattle.sets.proofs.Digits.{shl-one}
 use Rattle.table.specs.Layout.{maxPositions, recordAt}
+use Rattle.table.proofs.Rows.{row-there}
 use Rattle.stream.proofs.Members.{placesBelow, places-none, places-hit, places-miss}
 use Rattle.stream.proofs.TableSets.{meeting, meets-row}
 use Rattle.stream.proofs.rows.ending.Statement.{statement}
@@ -36,7 +37,7 @@ add-row-2 : tie.Need-add-row-2 Inv-loop μ-loop
 add-row-2 c = omega arith
 
 row-requires : tie.Need-row-requires Inv-loop μ-loop
-row-requires c κs = omega arith
+row-requires c κs = tt
 
 meets-requires : tie.Need-meets-requires Inv-loop μ-loop
 meets-requires c κs = tt
@@ -58,9 +59,10 @@ loop-again c =
     let c-row = c .before .before .row in
     let c-if1 = c .if1 in
     let t = now (c-start .args .words) in
+    let at = recordAt (c-loop .a) + c-start .args .field in
     let test = meeting t (c-start .args .live) (c-start .args .field) in
     let tested : c-meets .result ≡ test (c-loop .a) =
-    c-meets .ensures ∙ ap (λ (s : List ℕ). any maxPositions (λ p. has (c-start .args .live) p && has s p)) (c-row .ensures) ∙ meets-row (c-start .args .live) t (recordAt (c-loop .a) + c-start .args .field) in
+    c-meets .ensures ∙ ap (λ (s : List ℕ). any maxPositions (λ p. has (c-start .args .live) p && has s p)) (c-row .ensures ∙ row-there t at (omega arith)) ∙ meets-row (c-start .args .live) t at in
     ⊎-elim
     (λ w. (
       omega arith,

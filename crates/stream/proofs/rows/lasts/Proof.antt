@@ -4,6 +4,8 @@ use Prim.Native.Nat.{_≤_, _-_}
 use native.Mathlib.Omega.{arith}
 use denote.Ref.{now}
 use Rattle.sets.specs.Set.{unionOf}
+use Rattle.table.specs.Layout.{lastAt}
+use Rattle.table.proofs.Rows.{row-there}
 use Rattle.stream.proofs.TableSets.{lastsBelow, lasts-none, lasts-more}
 use Rattle.stream.proofs.rows.lasts.Statement.{statement}
 use Rattle.stream.proofs.rows.lasts.Tie as tie
@@ -33,7 +35,7 @@ add-row-2 : tie.Need-add-row-2 Inv-loop μ-loop
 add-row-2 c = omega arith
 
 row-requires : tie.Need-row-requires Inv-loop μ-loop
-row-requires c κs = omega arith
+row-requires c κs = tt
 
 union-requires : tie.Need-union-requires Inv-loop μ-loop
 union-requires c κs = tt
@@ -51,7 +53,7 @@ loop-again c =
     let c-loop = c .before .before .before .loop in
     let c-row = c .before .row in
     let t = now (c-start .args .words) in
-    (omega arith, c-union .ensures ∙ ap₂ unionOf (c-loop .inv .1) (c-row .ensures) ∙ lasts-more t (c-loop .a))
+    (omega arith, c-union .ensures ∙ ap₂ unionOf (c-loop .inv .1) (c-row .ensures ∙ row-there t (lastAt (c-loop .a)) (omega arith)) ∙ lasts-more t (c-loop .a))
 
 returns : tie.Need-returns Inv-loop μ-loop
 returns c =

@@ -13,6 +13,7 @@ use Rattle.sets.specs.Set.{has, any, setOf, keptBelow, emptySet}
 use Rattle.sets.proofs.Laws.{words-owned, empty-is}
 use Rattle.table.specs.Layout.{maxPositions, firstAt, positionsOf, rowHas}
 use Rattle.table.specs.Automaton.{automaton}
+use Rattle.table.proofs.Rows.{row-there}
 use Rattle.stream.specs.Invariants.{Skipped}
 use Rattle.stream.proofs.Steps.{next-quiet}
 use Rattle.stream.proofs.Turns.{skipped-none, skipped-more, skipped-live}
@@ -44,7 +45,7 @@ returns-2 c =
     skipped-none (automaton (now (a .words))) (now (a .block)) (a .taken) (a .from) (a .live) (omega arith)
 
 row-requires : tie.Need-row-requires Inv-loop μ-loop
-row-requires c κs = omega arith
+row-requires c κs = tt
 
 below-requires : tie.Need-below-requires Inv-loop μ-loop
 below-requires c κs = tt
@@ -56,7 +57,7 @@ loop-holds c =
     let c-row = c .before .row in
     let a = c-start .args in (
       omega arith,
-      c-below .ensures ∙ ap₂ keptBelow (c-row .ensures) (c-start .pre .1),
+      c-below .ensures ∙ ap₂ keptBelow (c-row .ensures ∙ row-there (now (a .words)) firstAt (omega arith)) (c-start .pre .1),
       skipped-none (automaton (now (a .words))) (now (a .block)) (a .taken) (a .from) emptySet (omega arith),
     )
 

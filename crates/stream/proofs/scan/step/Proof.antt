@@ -5,7 +5,8 @@ use Prim.Native.Nat.{_≤_, _-_}
 use native.Mathlib.Omega.{arith}
 use denote.Ref.{now}
 use Rattle.sets.specs.Set.{unionOf, intersectionOf, keptBelow}
-use Rattle.table.specs.Layout.{maxPositions}
+use Rattle.table.specs.Layout.{maxPositions, followAt}
+use Rattle.table.proofs.Rows.{row-there}
 use Rattle.stream.proofs.Steps.{reached, reached-none, reached-hit, reached-miss, next-words}
 use Rattle.stream.proofs.scan.step.Statement.{statement}
 use Rattle.stream.proofs.scan.step.Tie as tie
@@ -38,7 +39,7 @@ add-row : tie.Need-add-row Inv-loop μ-loop
 add-row c = omega arith
 
 row-requires : tie.Need-row-requires Inv-loop μ-loop
-row-requires c κs = omega arith
+row-requires c κs = tt
 
 union-requires : tie.Need-union-requires Inv-loop μ-loop
 union-requires c κs = tt
@@ -61,7 +62,7 @@ loop-again c =
     ⊎-elim
     (λ w. (
       omega arith,
-      w .3 ∙ w .2 .ensures ∙ ap₂ unionOf (c-loop .inv .1) (w .1 .ensures) ∙ reached-hit t live taken (c-loop .p) (sym (c-contains .ensures) ∙ w .0 .taken),
+      w .3 ∙ w .2 .ensures ∙ ap₂ unionOf (c-loop .inv .1) (w .1 .ensures ∙ row-there t (followAt (c-loop .p)) (omega arith)) ∙ reached-hit t live taken (c-loop .p) (sym (c-contains .ensures) ∙ w .0 .taken),
     ))
     (λ w. (omega arith, w .1 ∙ c-loop .inv .1 ∙ reached-miss t live taken (c-loop .p) (sym (c-contains .ensures) ∙ w .0 .left)))
     (c-if1 .came)
