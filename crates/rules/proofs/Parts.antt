@@ -7,7 +7,7 @@ use native.Mathlib.Omega.{arith}
 use lib.ListN.{getD, drop}
 use lib.Seq.{getD-drop}
 use Rattle.sets.specs.Set.{on, has}
-use Rattle.sets.proofs.Laws.{has-setOf, getD-fourOf}
+use Rattle.sets.proofs.Laws.{has-setOf}
 use Rattle.table.specs.Layout.{rowHas}
 use Rattle.table.proofs.Rows.{row-member}
 use Rattle.regex.specs.Form.{Form, write, positions}
@@ -18,6 +18,7 @@ use Rattle.regex.proofs.Counted.{saturated}
 use Rattle.pattern.specs.Nodes.{Syntax}
 use Rattle.automaton.specs.Parts.{fourWords, inside, atStart, atEnd, formParts, partsOf}
 use Rattle.automaton.specs.declared.Parts.{Parts}
+use Rattle.automaton.proofs.Words.{has-four}
 use Rattle.automaton.proofs.Padded.{parts-whole, follow-row, takes-row}
 
 -- ---- the sets and the count
@@ -44,10 +45,6 @@ module _ (f : Form ByteSet Assertion) (b : ℕ) where
   parts-end = has-setOf (last atEnd f b)
 
 -- ---- the rows
-
-has-four : (s : List ℕ) (q : ℕ) → q < 256 → has (fourWords s) q ≡ has s q
-unfolding has
-has-four s q h = ap (λ (x : ℕ). on x (q % 64)) (getD-fourOf (λ k. getD s k 0) (q / 64) (omega arith))
 
 row-four : (l : List ℕ) (at q : ℕ) → q < 256 → rowHas l at q ≡ has (fourWords (drop at l)) q
 unfolding has

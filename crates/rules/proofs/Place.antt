@@ -10,18 +10,10 @@ use native.Mathlib.Omega.{arith}
 use lib.Dec.{ltb}
 use borrow.Author.Tests.{lt-ltb, le-ltb, ltb-true, ltb-false}
 use Rattle.sets.specs.Set.{count, asOne}
+use Rattle.sets.proofs.Laws.{count-le}
 use Rattle.table.specs.Layout.{rulesOf, recordWord}
 use Rattle.table.proofs.Test.{Passes}
 use Rattle.rules.specs.Words.{placeOf}
-
-pub count-le : (n : ℕ) (f : ℕ → Bool) → count n f ≤ n
-unfolding count
-count-le zero f = omega arith
-count-le (suc n) f = go (count-le n f) (f n)
-  where
-    go : count n f ≤ n → (b : Bool) → count n f + asOne b ≤ suc n
-    go h true = omega arith
-    go h false = omega arith
 
 -- the count of a test that holds below k and not from there on
 pub count-to : (n k : ℕ) (f : ℕ → Bool) → k ≤ n → ((a : ℕ) → a < k → f a ≡ true) → ((a : ℕ) → k ≤ a → a < n → f a ≡ false) → count n f ≡ k

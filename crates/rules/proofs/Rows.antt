@@ -1,15 +1,13 @@
 -- The sets of positions that stand in four words each. A row is read as the set of its members, so what is merged is a matter of members.
-use mathlib.Core.Path.{_≡_, refl, sym, ap, _∙_}
+use mathlib.Core.Path.{_≡_, ap, _∙_}
 use mathlib.Core.Bool.{Bool, _&&_, _||_, and-comm, or-false}
-use mathlib.Core.List.{List, [], _∷_}
-use Prim.Native.Nat.{ℕ, _+_, _-_, _/_, _%_, _≤_, _<_, min}
-use native.Mathlib.Nat.{add-zero}
+use mathlib.Core.List.{List}
+use Prim.Native.Nat.{ℕ, _+_, _/_, _%_, _<_}
 use native.Mathlib.Omega.{arith}
 use lib.Dec.{ltb}
-use lib.ListN.{length, getD, take, drop, length-take, length-drop}
-use lib.Seq.{ext-getD, getD-take, getD-drop}
+use lib.ListN.{getD}
 use Rattle.sets.specs.Set.{on, has, setOf, emptySet, unionOf, keptBelow}
-use Rattle.sets.proofs.Laws.{has-setOf, setOf-ext, has-empty, has-below, below-four}
+use Rattle.sets.proofs.Laws.{has-setOf, setOf-ext, has-empty, has-below}
 use Rattle.table.specs.Layout.{rowHas}
 use Rattle.table.proofs.Rows.{row-member, row-same}
 use Rattle.rules.specs.Invariants.{mergedRow}

@@ -2,7 +2,7 @@
 -- Each law goes by the lowest digit and the half above it (`on-suc`), or through the library's laws of shifts.
 use mathlib.Core.Path.{_≡_, refl, sym, ap, ap₂, _∙_, subst}
 use mathlib.Core.Bool.{Bool, true, false, true≢false, not, _||_, _&&_}
-use Prim.Native.Nat.{ℕ, zero, suc, _+_, _-_, _*_, _/_, _%_, _^_, _<_, suc-le-suc, zero-le, min, max}
+use Prim.Native.Nat.{ℕ, zero, suc, _+_, _-_, _*_, _/_, _%_, _^_, _≤_, _<_, suc-le-suc, zero-le, min, max}
 use native.Mathlib.Nat.{one-mul, mod-lt, zero-lt-suc, max-le, le-of-suc-le-suc, lt-of-le-of-lt, min-le-left, zero-div, div-eq-of-lt, pow-suc, not-suc-le-zero, add-zero, add-suc, add-assoc, add-comm, lt-of-lt-of-le, mul-assoc, zero-min, min-zero}
 use native.Mathlib.Numerals.{add-one, one-add}
 use native.Mathlib.Omega.{arith}
@@ -211,6 +211,21 @@ count-add m zero f = ap (λ (k : ℕ). count k f) (add-zero m) ∙ sym (add-zero
 count-add m (suc n) f =
     ap (λ (k : ℕ). count k f) (add-suc m n) ∙ ap (λ (x : ℕ). x + asOne (f (m + n))) (count-add m n f)
     ∙ add-assoc (count m f) (count n (λ k. f (m + k))) (asOne (f (m + n)))
+
+-- what never holds is not counted, and no more is counted than there are numbers
+pub count-never : (n : ℕ) (f : ℕ → Bool) → ((k : ℕ) → k < n → f k ≡ false) → count n f ≡ 0
+unfolding count
+count-never zero f e = refl
+count-never (suc n) f e = rw (e n (omega arith)) (omega (arith, count-never n f (λ k h. e k (omega arith))))
+
+pub count-le : (n : ℕ) (f : ℕ → Bool) → count n f ≤ n
+unfolding count
+count-le zero f = zero-le
+count-le (suc n) f = go (f n) (count-le n f)
+  where
+    go : (b : Bool) → count n f ≤ n → count n f + asOne b ≤ suc n
+    go true h = omega arith
+    go false h = omega arith
 
 count-first : (n : ℕ) (f : ℕ → Bool) → count (suc n) f ≡ asOne (f zero) + count n (λ k. f (suc k))
 unfolding count

@@ -20,7 +20,7 @@ use mir.Val.{Fits}
 use borrow.Author.Tests.{eq-eqb, ne-eqb, lt-ltb, le-ltb, lt-leb, le-leb, not-true, not-false}
 use Rattle.sets.specs.Set.{on, has, wordOf, setOf, any, count, emptySet, fullSet, inserted, insertedRange, unionOf, intersectionOf, complementOf, keptBelow, isEmpty, sizeOf}
 use Rattle.sets.proofs.Digits.{on-wordOf, wordOf-ext, wordOf-on, wordOf-lt}
-pub use Rattle.sets.proofs.Digits.{on-or, on-and, on-not, on-zero, on-ones, on-pow, count-ext, count-add, ones-count}
+pub use Rattle.sets.proofs.Digits.{on-or, on-and, on-not, on-zero, on-ones, on-pow, count-ext, count-add, count-never, count-le, ones-count}
 
 -- ---- four words of 64 bits
 
@@ -283,6 +283,18 @@ any-some (suc n) f e = go (any-some n f) (any n f) refl e
     go : (any n f ≡ true → (k : ℕ) × (k < n) × (f k ≡ true)) → (b : Bool) → any n f ≡ b → (b || f n) ≡ true → (k : ℕ) × (k < suc n) × (f k ≡ true)
     go ih true p q = let r = ih p in (r .0, omega (arith, r .1), r .2)
     go ih false p q = (n, omega arith, q)
+
+-- two tests that agree below n find the same
+pub any-ext : (n : ℕ) (f g : ℕ → Bool) → ((k : ℕ) → k < n → f k ≡ g k) → any n f ≡ any n g
+unfolding any
+any-ext zero f g e = refl
+any-ext (suc n) f g e = ap₂ (λ (x y : Bool). x || y) (any-ext n f g (λ k h. e k (omega arith))) (e n (omega arith))
+
+-- nothing is found where nothing holds
+pub any-never : (n : ℕ) (f : ℕ → Bool) → ((k : ℕ) → k < n → f k ≡ false) → any n f ≡ false
+unfolding any
+any-never zero f e = refl
+any-never (suc n) f e = ap₂ (λ (x y : Bool). x || y) (any-never n f (λ k h. e k (omega arith))) (e n (omega arith))
 
 pub empty-none : (s : List ℕ) → isEmpty s ≡ true → (q : ℕ) → q < 256 → has s q ≡ false
 unfolding isEmpty

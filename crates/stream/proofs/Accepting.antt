@@ -1,7 +1,7 @@
 -- When a call is accepted. Each test of a state is read off words, the number of a call is settled by the first test that fails, and number 0 says that all
 -- of them hold (`Accepted`).
 use mathlib.Core.Path.{_≡_, refl, sym, ap, ap₂, _∙_}
-use mathlib.Core.Bool.{Bool, true, false, true≢false, cond, not, _&&_}
+use mathlib.Core.Bool.{Bool, true, false, true≢false, cond, not, _&&_, and-eq-true-iff}
 use mathlib.Core.List.{List}
 use Prim.Native.Nat.{ℕ, _-_, _^_, _<_, _≤_}
 use native.Mathlib.Nat.{lt-of-le-of-lt}
@@ -11,14 +11,14 @@ use lib.Dec.{eqb, leb, ltb}
 use borrow.Author.Tests.{eq-eqb, ne-eqb, lt-ltb, le-ltb, ltb-false, le-leb, leb-true, eqb-true}
 use Rattle.sets.specs.Set.{on, has, wordOf, any, fullSet, intersectionOf, complementOf, keptBelow, isEmpty}
 use Rattle.sets.proofs.Digits.{on-zero, on-wordOf, wordOf-lt, off-zero}
-use Rattle.sets.proofs.Laws.{has-full, has-intersection, has-complement, has-below, any-none, any-some}
+use Rattle.sets.proofs.Laws.{has-full, has-intersection, has-complement, has-below, any-none, any-some, any-ext}
 use Rattle.table.specs.Layout.{maxPositions, rulesOf}
 use Rattle.table.specs.Table.{isTable}
 use Rattle.table.specs.Automaton.{Automaton, automaton}
 use Rattle.stream.specs.declared.Stream.{Stream}
 use Rattle.stream.specs.Valid.{streamLimit, sameCounts, liveInside, marksSingle, underLimit, valid}
 use Rattle.stream.specs.Calls.{spaceNumber, scanNumber, closeNumber}
-use Rattle.stream.proofs.Members.{any-ext, not-below, on-without}
+use Rattle.stream.proofs.Members.{not-below, on-without}
 
 -- ---- the tests in words
 
@@ -54,10 +54,6 @@ marks-test marks singles f h e = go (any 64 (λ a. on marks a && not (f a))) ref
 
 -- ---- what a valid state gives
 
-both : (x y : Bool) → (x && y) ≡ true → (x ≡ true) × (y ≡ true)
-both true y e = (refl, e)
-both false y e = absurd (true≢false (sym e))
-
 pub record Fitting (w : Automaton) (s : Stream) : Type 0 where
   pub rules-same : s .rules ≡ w .rules
   pub positions-same : s .positions ≡ w .positions
@@ -68,10 +64,10 @@ pub record Fitting (w : Automaton) (s : Stream) : Type 0 where
 pub fitting : (w : Automaton) (s : Stream) → valid w s ≡ true → Fitting w s
 unfolding valid sameCounts underLimit
 fitting w s e =
-    let p = both (sameCounts w s) _ e in
-    let q = both (liveInside w s) _ (p .1) in
-    let r = both (marksSingle w s) _ (q .1) in
-    let c = both (eqb (s .rules) (w .rules)) _ (p .0) in
+    let p = and-eq-true-iff (sameCounts w s) _ .0 e in
+    let q = and-eq-true-iff (liveInside w s) _ .0 (p .1) in
+    let r = and-eq-true-iff (marksSingle w s) _ .0 (q .1) in
+    let c = and-eq-true-iff (eqb (s .rules) (w .rules)) _ .0 (p .0) in
     record {
       rules-same = eqb-true (s .rules) (w .rules) (c .0);
       positions-same = eqb-true (s .positions) (w .positions) (c .1);

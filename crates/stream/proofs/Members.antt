@@ -1,8 +1,7 @@
--- Tests over the numbers below n, and words given by their digits: what the laws of sets leave out. Two tests that agree below n find the same, and a word
--- that gets one digit a turn is the word of the test below the turn.
-use mathlib.Core.Path.{_≡_, refl, sym, ap, ap₂, _∙_}
+-- Words given by their digits: what the laws of sets leave out. A word that gets one digit a turn is the word of the test below the turn.
+use mathlib.Core.Path.{_≡_, sym, ap, ap₂, _∙_}
 use mathlib.Core.Bool.{Bool, true, false, not, _||_, _&&_, or-false}
-use Prim.Native.Nat.{ℕ, zero, suc, _+_, _-_, _^_, _<_, _≤_, zero-le}
+use Prim.Native.Nat.{ℕ, _+_, _-_, _^_, _<_, _≤_}
 use native.Mathlib.Nat.{add-zero}
 use native.Mathlib.Omega.{arith}
 use native.Mathlib.Decide.{decLt, ℕ-discrete}
@@ -10,34 +9,10 @@ use lib.Bits.{bitAnd, bitOr, or-lt}
 use lib.Dec.{eqb, leb, ltb}
 use lib.Pow.{pow-lt}
 use borrow.Author.Tests.{eq-eqb, ne-eqb, lt-ltb, le-ltb, lt-leb, le-leb}
-use Rattle.sets.specs.Set.{on, asOne, wordOf, any, count}
-use Rattle.sets.proofs.Digits.{on-or, on-and, on-not, on-zero, on-pow, on-wordOf, wordOf-ext, wordOf-on, wordOf-lt, count-add}
+use Rattle.sets.specs.Set.{on, wordOf, count}
+use Rattle.sets.proofs.Digits.{on-or, on-and, on-not, on-zero, on-pow, on-wordOf, wordOf-ext, wordOf-on, wordOf-lt, count-add, count-never}
 
--- ---- some number, or none
-
-pub any-ext : (n : ℕ) (f g : ℕ → Bool) → ((k : ℕ) → k < n → f k ≡ g k) → any n f ≡ any n g
-unfolding any
-any-ext zero f g e = refl
-any-ext (suc n) f g e = ap₂ (λ (x y : Bool). x || y) (any-ext n f g (λ k h. e k (omega arith))) (e n (omega arith))
-
-pub any-never : (n : ℕ) (f : ℕ → Bool) → ((k : ℕ) → k < n → f k ≡ false) → any n f ≡ false
-unfolding any
-any-never zero f e = refl
-any-never (suc n) f e = ap₂ (λ (x y : Bool). x || y) (any-never n f (λ k h. e k (omega arith))) (e n (omega arith))
-
-pub count-never : (n : ℕ) (f : ℕ → Bool) → ((k : ℕ) → k < n → f k ≡ false) → count n f ≡ 0
-unfolding count
-count-never zero f e = refl
-count-never (suc n) f e = rw (e n (omega arith)) (omega (arith, count-never n f (λ k h. e k (omega arith))))
-
-pub count-le : (n : ℕ) (f : ℕ → Bool) → count n f ≤ n
-unfolding count
-count-le zero f = zero-le
-count-le (suc n) f = go (f n) (count-le n f)
-  where
-    go : (b : Bool) → count n f ≤ n → count n f + asOne b ≤ suc n
-    go true h = omega arith
-    go false h = omega arith
+-- ---- numbers below n
 
 -- what does not hold from m on is counted below m
 pub count-below : (m n : ℕ) (f : ℕ → Bool) → m ≤ n → ((k : ℕ) → m ≤ k → k < n → f k ≡ false) → count n f ≡ count m f

@@ -10,7 +10,7 @@ use lib.ListN.{length, getD}
 use borrow.Author.Tests.{eq-eqb, eqb-true, not-true}
 use Rattle.sets.specs.Set.{on, has, setOf, wordOf, any, emptySet, sizeOf}
 use Rattle.sets.proofs.Digits.{on-zero, on-wordOf}
-use Rattle.sets.proofs.Laws.{has-setOf, has-empty, any-none}
+use Rattle.sets.proofs.Laws.{has-setOf, has-empty, any-none, any-never, count-never}
 use Rattle.table.specs.Layout.{maxPositions, rulesOf, positionsOf}
 use Rattle.table.specs.Table.{isTable}
 use Rattle.table.specs.Automaton.{Automaton, automaton, single}
@@ -20,7 +20,7 @@ use Rattle.stream.specs.declared.Closed.{Closed}
 use Rattle.stream.specs.Byte.{starts, nextLive, ends, runMarks, byteState, stateAfter}
 use Rattle.stream.specs.Valid.{streamLimit, sameCounts, liveInside, marksSingle, underLimit, valid}
 use Rattle.stream.specs.Calls.{fresh, opened, space, scanNumber, closeNumber, takenBy, scanned, shut, closed, busyOf}
-use Rattle.stream.proofs.Members.{any-never, count-never, not-below}
+use Rattle.stream.proofs.Members.{not-below}
 use Rattle.stream.proofs.Blocks.{fits-le, one-fits, taken-after, rules-after, positions-after}
 use Rattle.stream.proofs.Accepting.{Fitting, fitted, Accepted, accepted, close-number}
 

@@ -16,12 +16,12 @@ use lib.Seq.{drop-cons, set-at}
 use borrow.Author.Fill.{fill-more}
 use borrow.Author.Tests.{eq-eqb, ne-eqb}
 use Rattle.sets.specs.Set.{on, asOne, count}
-use Rattle.sets.proofs.Digits.{on-or, on-and, on-wordOf, wordOf-ext, wordOf-lt, ones-count, count-ext}
+use Rattle.sets.proofs.Digits.{on-or, on-and, on-wordOf, wordOf-ext, wordOf-lt, ones-count, count-ext, count-le}
 use Rattle.table.specs.Automaton.{Automaton, single}
 use Rattle.table.proofs.Rows.{under}
 use Rattle.stream.specs.Byte.{due, runIds, runMarks}
 use Rattle.stream.specs.Invariants.{Wrote}
-use Rattle.stream.proofs.Members.{placesBelow, word-is, on-places-past, on-without, count-le, count-below}
+use Rattle.stream.proofs.Members.{placesBelow, word-is, on-places-past, on-without, count-below}
 
 -- ---- the ids
 

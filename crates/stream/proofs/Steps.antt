@@ -9,13 +9,12 @@ use native.Mathlib.Omega.{arith}
 use lib.Dec.{eqb, ltb}
 use borrow.Author.Tests.{lt-ltb, eq-eqb, ne-eqb}
 use Rattle.sets.specs.Set.{has, setOf, any, unionOf, intersectionOf, keptBelow, emptySet}
-use Rattle.sets.proofs.Laws.{has-setOf, has-empty, has-below, setOf-ext, union-setOf, intersection-setOf, below-setOf, any-none}
+use Rattle.sets.proofs.Laws.{has-setOf, has-empty, has-below, setOf-ext, union-setOf, intersection-setOf, below-setOf, any-none, any-ext, any-never}
 use Rattle.table.specs.Layout.{maxPositions, bytes, positionsOf, firstAt, firstAtStartAt, followAt, takersAt, rowHas}
 use Rattle.table.specs.Automaton.{Automaton, automaton}
 use Rattle.stream.specs.declared.Stream.{Stream}
 use Rattle.stream.specs.Byte.{starts, nextLive}
 use Rattle.stream.specs.Invariants.{stateOf}
-use Rattle.stream.proofs.Members.{any-ext, any-never}
 
 -- ---- the first positions
 

@@ -1,21 +1,15 @@
--- The sets in a table's words: the rules' last sets are joined one a turn, and the rules that a set meets are a
--- word that gets one digit a turn.
+-- The sets in a table's words: the rules' last sets are joined one a turn, and the rules that a set meets are a word that gets one digit a turn.
 use mathlib.Core.Path.{_≡_, refl, sym, ap, _∙_}
 use mathlib.Core.Bool.{Bool, cond, not, _&&_, Bool·not-not}
-use mathlib.Core.List.{List, [], _∷_}
+use mathlib.Core.List.{List}
 use Prim.Native.Nat.{ℕ, _+_, _/_, _%_, _<_}
-use native.Mathlib.Nat.{add-zero}
 use native.Mathlib.Numerals.{add-one}
 use lib.Dec.{eqb}
-use lib.ListN.{getD}
 use borrow.Author.Tests.{lt-ltb}
-use mir.Syntax.{w64}
-use mir.Val.{Fits}
 use Rattle.sets.specs.Set.{has, setOf, any, unionOf, intersectionOf, isEmpty, emptySet}
-use Rattle.sets.proofs.Laws.{words-fourOf, by-members, has-setOf, has-intersection, union-setOf}
+use Rattle.sets.proofs.Laws.{has-setOf, has-intersection, union-setOf, any-ext}
 use Rattle.table.specs.Layout.{maxRules, maxPositions, recordAt, lastAt, recordWord, rowHas}
 use Rattle.table.specs.Automaton.{automaton, single}
-use Rattle.stream.proofs.Members.{any-ext}
 
 -- two sets meet where their intersection has a member
 pub meets-test : (s t : List ℕ) → not (isEmpty (intersectionOf s t)) ≡ any maxPositions (λ q. has s q && has t q)

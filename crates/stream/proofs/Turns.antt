@@ -13,7 +13,7 @@ use borrow.Rule.Slice.PartMut.{putMid}
 use borrow.Author.Count.{below-more}
 use borrow.Author.Tests.{lt-ltb}
 use Rattle.sets.specs.Set.{on, has, any, count, emptySet}
-use Rattle.sets.proofs.Laws.{has-setOf, has-empty, any-none}
+use Rattle.sets.proofs.Laws.{has-setOf, has-empty, any-none, any-ext, any-never}
 use Rattle.table.specs.Layout.{maxRules, maxPositions, rulesOf, lastAt, lastAtEndAt, rowHas}
 use Rattle.table.specs.Automaton.{Automaton, automaton, single}
 use Rattle.table.proofs.Test.{Passes}
@@ -21,7 +21,7 @@ use Rattle.stream.specs.declared.Stream.{Stream}
 use Rattle.stream.specs.Byte.{nextLive, ends, endsAtEnd, runIds, runMarks, byteIds, byteState, stateAfter, idsOf, endsOf}
 use Rattle.stream.specs.Calls.{space, written}
 use Rattle.stream.specs.Invariants.{stateOf, Wrote, Skipped, Ran}
-use Rattle.stream.proofs.Members.{any-ext, any-never, placesBelow, on-places}
+use Rattle.stream.proofs.Members.{placesBelow, on-places}
 use Rattle.stream.proofs.TableSets.{meeting, lastsBelow}
 use Rattle.stream.proofs.Runs.{run-ext, marks-ext, run-none, marks-none, marks-small, due-count}
 use Rattle.stream.proofs.Steps.{next-parts}

@@ -1,7 +1,7 @@
 -- What passing the test gives, and the other way round. `isTable` is a chain of tests, so words pass exactly where each link holds (`Passes`): a call that
 -- refuses shows that one link fails (`refused`), and a proof about accepted words takes the facts from `passes`.
 use mathlib.Core.Path.{_≡_, refl, sym, ap, ap₂, _∙_, subst}
-use mathlib.Core.Bool.{Bool, true, false, true≢false, _&&_}
+use mathlib.Core.Bool.{Bool, true, false, true≢false, _&&_, and-eq-true-iff}
 use mathlib.Core.List.{List}
 use mathlib.Core.Logic.{_⊎_, inl, inr, ⊎-elim}
 use Prim.Native.Nat.{ℕ, zero, suc, _+_, _^_, _≤_, _<_, zero-le}
@@ -19,10 +19,6 @@ use Rattle.table.specs.Table.{knownFlags, leastId, recordOk, all, isTabl
 
 -- ---- a test of every number below n
 
-both : (x y : Bool) → (x && y) ≡ true → (x ≡ true) × (y ≡ true)
-both true y e = (refl, e)
-both false y e = absurd (true≢false (sym e))
-
 pub all-none : (f : ℕ → Bool) → all 0 f ≡ true
 unfolding all
 all-none f = refl
@@ -35,7 +31,7 @@ pub all-at : (f : ℕ → Bool) (n : ℕ) → all n f ≡ true → (k : ℕ) →
 unfolding all
 all-at f zero e k h = absurd (not-suc-le-zero h)
 all-at f (suc n) e k h =
-    let each = both (all n f) (f n) e in
+    let each = and-eq-true-iff (all n f) (f n) .0 e in
     ⊎-elim (λ l. ap f l ∙ each .1) (λ l. all-at f n (each .0) k l) (eq-or-lt-of-le (le-of-suc-le-suc h))
 
 pub at-all : (f : ℕ → Bool) (n : ℕ) → ((k : ℕ) → k < n → f k ≡ true) → all n f ≡ true
@@ -62,10 +58,10 @@ pub record Fine (t : List ℕ) (a : ℕ) : Type 0 where
 pub fine : (t : List ℕ) (a : ℕ) → recordOk t a ≡ true → Fine t a
 unfolding recordOk
 fine t a e =
-    let p = both (leb (leastId t a) (recordWord t a 0)) _ e in
-    let q = both (ltb (recordWord t a 0) (2 ^ 32)) _ (p .1) in
-    let r = both (eqb (bitAnd (recordWord t a 1) knownFlags) (recordWord t a 1)) _ (q .1) in
-    let s = both (leb (recordWord t a 2) (recordWord t a 3)) _ (r .1) in
+    let p = and-eq-true-iff (leb (leastId t a) (recordWord t a 0)) _ .0 e in
+    let q = and-eq-true-iff (ltb (recordWord t a 0) (2 ^ 32)) _ .0 (p .1) in
+    let r = and-eq-true-iff (eqb (bitAnd (recordWord t a 1) knownFlags) (recordWord t a 1)) _ .0 (q .1) in
+    let s = and-eq-true-iff (leb (recordWord t a 2) (recordWord t a 3)) _ .0 (r .1) in
     record {
       least = leb-true (leastId t a) (recordWord t a 0) (p .0);
       small = ltb-true (recordWord t a 0) (2 ^ 32) (q .0);
@@ -108,10 +104,10 @@ rise t n f a (suc b) h l =
 pub passes : (t : List ℕ) → isTable t ≡ true → Passes t
 unfolding isTable
 passes t e =
-    let p = both (leb tableWords (length t)) _ e in
-    let q = both (eqb (getD t 0 0) format) _ (p .1) in
-    let r = both (leb (rulesOf t) maxRules) _ (q .1) in
-    let s = both (leb (positionsOf t) maxPositions) _ (r .1) in
+    let p = and-eq-true-iff (leb tableWords (length t)) _ .0 e in
+    let q = and-eq-true-iff (eqb (getD t 0 0) format) _ .0 (p .1) in
+    let r = and-eq-true-iff (leb (rulesOf t) maxRules) _ .0 (q .1) in
+    let s = and-eq-true-iff (leb (positionsOf t) maxPositions) _ .0 (r .1) in
     let each : ((a : ℕ) → a < rulesOf t → Fine t a) = λ a h. fine t a (all-at (recordOk t) (rulesOf t) (s .1) a h) in
     record {
       long = leb-true tableWords (length t) (p .0);
@@ -159,7 +155,7 @@ refused t h = go (isTable t) refl
 -- 1, 2 and 8 are digits 0, 1 and 3: known flags have no other
 pub flag-known : (f k : ℕ) → bitAnd f knownFlags ≡ f → on f k ≡ true → (k ≡ 0) ⊎ (k ≡ 1) ⊎ (k ≡ 3)
 unfolding on
-flag-known f k e o = digit k (both (on f k) (on knownFlags k) (sym (on-and f knownFlags k) ∙ ap (λ (x : ℕ). on x k) e ∙ o) .1)
+flag-known f k e o = digit k (and-eq-true-iff (on f k) (on knownFlags k) .0 (sym (on-and f knownFlags k) ∙ ap (λ (x : ℕ). on x k) e ∙ o) .1)
   where
     none : on knownFlags 2 ≡ false
     none = refl

@@ -5,7 +5,6 @@ use mathlib.Core.List.{List}
 use Prim.Native.Nat.{ℕ}
 use lib.Dec.{eqb}
 use Rattle.table.specs.Table.{isTable}
-use Rattle.stream.specs.declared.Opened.{Opened}
 use Rattle.stream.specs.declared.Scanned.{Scanned}
 use Rattle.stream.specs.declared.Closed.{Closed}
 use Rattle.stream.specs.Calls.{opened, scanned, scannedIds, scannedOffsets, closed, closedIds, closedOffsets, busyOf}

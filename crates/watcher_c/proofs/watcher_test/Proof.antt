@@ -1,5 +1,5 @@
 -- `watcher_c::watcher_test` meets its contract: the number follows the test.
-use mathlib.Core.Path.{_≡_, sym, ap, _∙_}
+use mathlib.Core.Path.{sym, ap, _∙_}
 use mathlib.Core.Bool.{Bool, cond}
 use Rattle.watcher_c.specs.Interface.{testNumber}
 use borrow.Author.Needs.{needs}

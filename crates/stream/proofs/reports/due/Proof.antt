@@ -1,8 +1,8 @@
 -- `stream::reports::due` meets its contract: it counts the set digits, 64 at most.
 use native.Mathlib.Omega.{arith}
 use Rattle.sets.specs.Set.{on}
+use Rattle.sets.proofs.Laws.{count-le}
 use mathlib.Core.Bool.{not, _&&_}
-use Rattle.stream.proofs.Members.{count-le}
 use Rattle.stream.proofs.Runs.{due-ones}
 use Rattle.stream.proofs.reports.due.Statement.{statement}
 use Rattle.stream.proofs.reports.due.Tie as tie
