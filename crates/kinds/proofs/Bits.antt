@@ -11,7 +11,7 @@ use lib.Dec.{eqb}
 use lib.Bits.{bitAnd, and-zero-l, and-step, and-mask}
 use Rattle.sets.specs.Set.{asOne}
 use Rattle.kinds.specs.Kind.{isKind, kinds, bitsOf, kindsOf}
-use Rattle.kinds.specs.Table.{bitOf}
+use Rattle.kinds.specs.Invariants.{bitOf}
 use Rattle.kinds.specs.declared.Kind.{Kind}
 use Rattle.kinds.specs.declared.Kind.the-variants.{Digit, Word, Space, Horizontal, Vertical}
 

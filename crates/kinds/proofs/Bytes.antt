@@ -9,7 +9,7 @@ use lib.ListN.{getD}
 use Rattle.sets.specs.Set.{any}
 use Rattle.sets.proofs.Laws.{any-none}
 use Rattle.kinds.specs.Kind.{kindsOf}
-use Rattle.kinds.specs.Table.{Ruled}
+use Rattle.kinds.specs.Invariants.{Ruled}
 
 -- no byte fails the test
 pub every-byte : (f : ℕ → Bool) → any 256 (λ b. not (f b)) ≡ false → (b : ℕ) → b < 256 → f b ≡ true

@@ -1,4 +1,4 @@
--- What the contracts cite.
+-- What the contracts cite: Kind (the kinds of a byte), Case (the two cases of a letter). Invariants is for the private functions.
 pub mod Kind
 pub mod Case
-pub mod Table
+pub mod Invariants

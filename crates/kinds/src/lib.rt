@@ -7,7 +7,7 @@ ghost use mathlib.Core.Path.{_≡_};
 ghost use Rattle.sets.specs.Set.{setOf};
 ghost use Rattle.kinds.specs.Kind.{isKind, isNotKind, kindsOf};
 ghost use Rattle.kinds.specs.Case.{otherCase, caseClosed};
-ghost use Rattle.kinds.specs.Table.{Ruled, bitOf};
+ghost use Rattle.kinds.specs.Invariants.{Ruled, bitOf};
 
 // The bit of each kind in an entry of the table, in the order of specs/Kind.antt's list of kinds.
 pub const DIGIT: u32 = 1;

@@ -15,6 +15,7 @@ use Rattle.automaton.specs.Parts.{partsOf}
 use Rattle.rules.specs.Words.{added}
 use Rattle.rules.specs.declared.Added.{Added}
 
+-- "A refused addition returns its number and a place"
 abbrev pub answer : (number place : ℕ) → Added
 answer number place = record { number = number; place = place }
 
@@ -25,12 +26,12 @@ unknownFlag flags = not (eqb (bitAnd flags knownFlags) flags)
 unfoldable pub hasId : List ℕ → ℕ → Bool
 hasId t id = any (rulesOf t) (λ a. eqb (recordWord t a 0) id)
 
--- 17: "over 256 positions with those in the table", at the pattern's length
+-- What the reader refuses is refused, 5 for the pattern's length first. Then 17: "over 256 positions with those in the table", at the pattern's length.
 unfoldable pub placed : (used len : ℕ) → Read → Added
 placed used len (refused number place) = answer number place
 placed used len (tree x) = cond (ltb limit (used + saturating x)) (answer 17 len) (answer 0 0)
 
--- "Additions check 1 to 5 in order, then read the pattern left to right"; "An accepted one has place 0."
+-- "Additions check 1 to 5 in order, then read the pattern left to right"; "1 to 5 have place 0"; "An accepted one has place 0."
 unfoldable pub addAnswer : List ℕ → (id flags : ℕ) → List ℕ → Added
 addAnswer t id flags pattern =
     cond (isTable t)
@@ -40,12 +41,12 @@ addAnswer t id flags pattern =
     (placed (positionsOf t) (length pattern) (readOf pattern (optionsOf flags))))))
     (answer 1 0)
 
--- the words of an accepted rule
+-- the words with an accepted rule
 unfoldable pub withRule : List ℕ → (id flags : ℕ) → Read → List ℕ
 withRule t id flags (refused number place) = t
 withRule t id flags (tree x) = added t id flags (partsOf x (positionsOf t))
 
--- "A refused addition .. leaves the table as it was."
+-- "A refused addition .. leaves the table as it was." An accepted one puts in what its pattern reads as.
 unfoldable pub addWords : List ℕ → (id flags : ℕ) → List ℕ → List ℕ
 addWords t id flags pattern =
     cond (eqb (addAnswer t id flags pattern .number) 0) (withRule t id flags (readOf pattern (optionsOf flags))) t

@@ -1,2 +1,2 @@
--- What the contracts cite.
+-- What the contracts cite: Set (membership, and what each operation makes).
 pub mod Set

@@ -1,5 +1,5 @@
--- What one byte does to a stream, and what some bytes do; what closing reports. Over the automaton, not over words. Assumes nothing: these are
--- definitions.
+-- What one byte does to a stream, and what some bytes do; what closing reports. Over the automaton that the words describe, not over words. Assumes nothing:
+-- these are definitions.
 use mathlib.Core.Bool.{Bool, cond, not, _&&_, _||_}
 use mathlib.Core.List.{List, [], _∷_, _++_}
 use Prim.Native.Nat.{ℕ, zero, suc, _+_}
@@ -11,11 +11,11 @@ use Rattle.table.specs.Automaton.{Automaton, single}
 use Rattle.stream.specs.declared.Stream.{Stream}
 
 module _ (w : Automaton) where
-  -- the positions at which a match can start with the next byte
+  -- the positions at which a match can start with the next byte; `^` and `\A` "hold at offset 0 only"
   unfoldable pub starts : Stream → ℕ → Bool
   starts s q = cond (eqb (s .taken) 0) (w .firstAtStart q) (w .first q)
 
-  -- The next live set: positions of the table that take byte x, and are first or follow a live one.
+  -- The next live set: the positions below the table's count that take byte x, and are first or follow a live one. A match may start at every byte.
   unfoldable pub nextLive : Stream → ℕ → List ℕ
   nextLive s x =
       setOf (λ q. ltb q (w .positions) && (w .takes x q && (starts s q || any maxPositions (λ p. has (s .live) p && w .follow p q))))
@@ -27,7 +27,8 @@ module _ (w : Automaton) where
   unfoldable pub endsAtEnd : List ℕ → ℕ → Bool
   endsAtEnd live a = any maxPositions (λ p. has live p && w .lastAtEnd a p)
 
-  -- A run of reports has one end offset and some rules, by rising id: those of the first n places that pass the test and are not marked.
+  -- A run of reports has one end offset and some rules, "by rising id": places are by rising id, and of the first n those report that pass the test and have
+  -- no mark "already reported".
   abbrev pub due : (ℕ → Bool) → (marks : ℕ) → ℕ → Bool
   due test marks a = test a && not (on marks a)
 
@@ -35,7 +36,7 @@ module _ (w : Automaton) where
   runIds test marks zero = []
   runIds test marks (suc n) = runIds test marks n ++ cond (due test marks n) (w .id n ∷ []) []
 
-  -- a single-match rule that reports is marked with its report
+  -- the marks after a run: the rules that pass the test gain theirs if they are single-match
   unfoldable pub runMarks : (ℕ → Bool) → (marks : ℕ) → ℕ
   runMarks test marks = wordOf 64 (λ a. on marks a || (ltb a (w .rules) && (single w a && test a)))
 
@@ -53,7 +54,7 @@ module _ (w : Automaton) where
     closed = s .closed;
   }
 
-  -- the first k bytes of a block: the state after them, the ids and the end offsets that they report
+  -- "A scan takes bytes one at a time": the first k bytes of a block, the state after them, the ids and the end offsets that they report
   unfoldable pub stateAfter : Stream → List ℕ → ℕ → Stream
   stateAfter s block zero = s
   stateAfter s block (suc k) = byteState (stateAfter s block k) (getD block k 0)
@@ -67,8 +68,8 @@ module _ (w : Automaton) where
   endsOf s block (suc k) =
       endsOf s block k ++ replicate (length (byteIds (stateAfter s block k) (getD block k 0))) (s .taken + suc k)
 
-  -- "A scan takes bytes one at a time and stops before the first byte whose reports would not all fit in the free space": of the first k bytes of the
-  -- block, as many as have reports that fit in `room`.
+  -- It "stops before the first byte whose reports would not all fit in the free space": of the first k bytes of the block, as many as have reports that fit in
+  -- `room`. More bytes never have fewer reports, so the next byte is the first that does not fit.
   unfoldable pub fits : Stream → List ℕ → (room k : ℕ) → ℕ
   fits s block room zero = 0
   fits s block room (suc k) = cond (leb (length (idsOf s block (suc k))) room) (suc k) (fits s block room k)

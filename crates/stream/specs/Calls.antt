@@ -15,11 +15,11 @@ use Rattle.stream.specs.declared.Closed.{Closed}
 use Rattle.stream.specs.Byte.{stateAfter, idsOf, endsOf, fits, closeIds}
 use Rattle.stream.specs.Valid.{valid, streamLimit}
 
--- a state with nothing taken
+-- a state with nothing live, marked or taken
 abbrev pub fresh : (rules positions : ℕ) → Bool → Stream
 fresh rules positions closed = record { live = emptySet; reported = 0; taken = 0; rules = rules; positions = positions; closed = closed }
 
--- Opening checks 1. "A refused opening hands back a closed state, all else in it zero."
+-- "opening only 1"; "A refused opening hands back a closed state, all else in it zero."
 unfoldable pub opened : List ℕ → Opened
 opened t =
     cond (isTable t) (record { number = 0; stream = fresh (rulesOf t) (positionsOf t) false }) (record { number = 1; stream = fresh 0 0 true })
@@ -47,7 +47,7 @@ scanNumber t s len room =
 unfoldable pub closeNumber : List ℕ → Stream → (room : ℕ) → ℕ
 closeNumber t s room = cond (isTable t) (cond (valid (automaton t) s) (cond (s .closed) 19 (spaceNumber t room)) 18) 1
 
--- how many bytes an accepted scan takes
+-- how many bytes of its block an accepted scan takes
 unfoldable pub takenBy : List ℕ → Stream → List ℕ → (room : ℕ) → ℕ
 takenBy t s block room = fits (automaton t) s block room (length block)
 
@@ -55,6 +55,8 @@ takenBy t s block room = fits (automaton t) s block room (length block)
 abbrev pub written : List ℕ → List ℕ → List ℕ
 written new old = new ++ drop (length new) old
 
+-- A scan on any words, state, block and lists: the answer, and the two lists afterwards. "Other refusals return the number, no bytes taken, no reports, the
+-- state unchanged."; "Reports fill two lent lists, ids and offsets, from the front".
 module _ (t : List ℕ) (s : Stream) (block ids offsets : List ℕ) where
   unfoldable pub scanned : Scanned
   scanned =
@@ -78,6 +80,7 @@ module _ (t : List ℕ) (s : Stream) (block ids offsets : List ℕ) where
 abbrev pub shut : Stream → Stream
 shut s = record { live = s .live; reported = s .reported; taken = s .taken; rules = s .rules; positions = s .positions; closed = true }
 
+-- A closing likewise; all its reports have the offset of the stream's end.
 module _ (t : List ℕ) (s : Stream) (ids offsets : List ℕ) where
   unfoldable pub closed : Closed
   closed =
@@ -93,6 +96,6 @@ module _ (t : List ℕ) (s : Stream) (ids offsets : List ℕ) where
   closedOffsets =
       cond (eqb (closeNumber t s (space ids offsets)) 0) (written (replicate (length (closeIds (automaton t) s)) (s .taken)) offsets) offsets
 
--- "The state also shows its busy figure: the number of live positions."
+-- "The state also shows its busy figure: the number of live positions"; "It equals the ones in the live set."
 abbrev pub busyOf : Stream → ℕ
 busyOf s = sizeOf (s .live)

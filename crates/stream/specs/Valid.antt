@@ -1,4 +1,4 @@
--- When a state fits a table. 18 is exactly the four reasons of the rules, one named test each. Assumes nothing: these are definitions.
+-- When a state fits a table: number 18 has exactly the four reasons of the rules, one named test each. Assumes nothing: these are definitions.
 use mathlib.Core.Bool.{Bool, not, _&&_}
 use Prim.Native.Nat.{ℕ}
 use lib.Dec.{eqb, leb, ltb}

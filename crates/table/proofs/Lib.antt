@@ -1,4 +1,5 @@
--- The laws that every caller may cite.
+-- The laws that every caller may cite: Over (words given by their index), Rows (sets and records in words), Writes (what a change writes), Test (what passing
+-- the test gives), Emptying, Local (only the first 4,096 words count).
 pub mod Over
 pub mod Rows
 pub mod Writes

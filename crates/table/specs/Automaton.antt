@@ -38,6 +38,6 @@ automaton t = record {
   lastAtEnd = λ a p. ltb a maxRules && rowHas t (lastAtEndAt a) p;
 }
 
--- flag 8
+-- flag 8, "single match"
 abbrev pub single : Automaton → ℕ → Bool
 single w a = eqb (w .flags a / 8 % 2) 1

@@ -1,4 +1,4 @@
--- The words of a rule table, by name. Assumes nothing: these are definitions.
+-- The words of a rule table, by name; docs/TABLE.md lists them. Assumes nothing: these are definitions.
 use mathlib.Core.Bool.{Bool, cond, _&&_}
 use mathlib.Core.List.{List}
 use Prim.Native.Nat.{ℕ, _+_, _*_, _/_, _%_}
@@ -16,6 +16,7 @@ maxRules = 32
 abbrev pub maxPositions : ℕ
 maxPositions = 256
 
+-- "Subjects and patterns are bytes."
 abbrev pub bytes : ℕ
 bytes = 256
 

@@ -1,22 +1,22 @@
 -- Which words are a table, and the one empty table. Assumes nothing: these are definitions.
-use mathlib.Core.Bool.{Bool, true, false, cond, _&&_}
+use mathlib.Core.Bool.{Bool, true, cond, _&&_}
 use mathlib.Core.List.{List, _∷_, _++_}
-use Prim.Native.Nat.{ℕ, zero, suc, pred, _+_, _-_, _^_}
+use Prim.Native.Nat.{ℕ, zero, suc, pred, _^_}
 use lib.Bits.{bitAnd}
 use lib.Dec.{eqb, leb, ltb}
-use lib.ListN.{length, drop, replicate}
+use lib.ListN.{length, getD, drop, replicate}
 use Rattle.table.specs.Layout.{tableWords, maxRules, maxPositions, format, rulesOf, positionsOf, recordWord}
 
--- "Flags: 1 caseless, 2 dot matches all, 8 single match"
+-- "Flags, values from Hyperscan's API reference: 1 caseless, 2 dot matches all, 8 single match."
 abbrev pub knownFlags : ℕ
 knownFlags = 11
 
--- the least id that record a may have: ids rise strictly
+-- the least id that record a may have: "Ids: any 32-bit number, each once", and the records stand by rising id
 abbrev pub leastId : List ℕ → ℕ → ℕ
 leastId t zero = 0
 leastId t (suc a) = suc (recordWord t a 0)
 
--- a rule record: a 32-bit id above the one before, known flags, positions within the count
+-- a rule record in order: a 32-bit id above the one before, known flags, positions within the count
 unfoldable pub recordOk : List ℕ → ℕ → Bool
 recordOk t a =
     leb (leastId t a) (recordWord t a 0)
@@ -29,11 +29,12 @@ unfoldable pub all : ℕ → (ℕ → Bool) → Bool
 all zero f = true
 all (suc n) f = all n f && f n
 
--- the yes-or-no test: enough words, the format, counts within the limits, each record in order
+-- "The table's layout is the team's, written in docs/, with a yes-or-no test for any words": enough words, the format, counts within the limits, each record
+-- in order
 unfoldable pub isTable : List ℕ → Bool
 isTable t =
     leb tableWords (length t)
-    && (eqb (lib.ListN.getD t 0 0) format
+    && (eqb (getD t 0 0) format
     && (leb (rulesOf t) maxRules
     && (leb (positionsOf t) maxPositions
     && all (rulesOf t) (recordOk t))))

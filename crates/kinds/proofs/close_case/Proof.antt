@@ -7,7 +7,7 @@ use Prim.Native.Nat.{ℕ, _-_}
 use native.Mathlib.Omega.{arith}
 use Rattle.sets.specs.Set.{has}
 use Rattle.kinds.specs.Case.{otherCase, caseClosed}
-use Rattle.kinds.specs.Table.{Ruled}
+use Rattle.kinds.specs.Invariants.{Ruled}
 use Rattle.kinds.proofs.Collect.{membersBelow, begun, grown, kept, collected}
 use Rattle.kinds.proofs.close_case.Statement.{statement}
 use Rattle.kinds.proofs.close_case.Tie as tie

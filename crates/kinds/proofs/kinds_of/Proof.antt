@@ -1,6 +1,6 @@
 -- `kinds::kinds_of` meets its contract: the table's rule at the byte.
 use native.Mathlib.Omega.{arith}
-use Rattle.kinds.specs.Table.{Ruled}
+use Rattle.kinds.specs.Invariants.{Ruled}
 use Rattle.kinds.proofs.kinds_of.Statement.{statement}
 use Rattle.kinds.proofs.kinds_of.Tie as tie
 

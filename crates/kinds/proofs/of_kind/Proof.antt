@@ -8,7 +8,7 @@ use native.Mathlib.Omega.{arith}
 use lib.ListN.{getD}
 use Rattle.sets.proofs.Laws.{setOf-ext}
 use Rattle.kinds.specs.Kind.{isKind}
-use Rattle.kinds.specs.Table.{Ruled}
+use Rattle.kinds.specs.Invariants.{Ruled}
 use Rattle.kinds.proofs.Bits.{meets, meets-true, meets-false, meets-kind}
 use Rattle.kinds.proofs.Collect.{membersBelow, begun, grown, kept, collected}
 use Rattle.kinds.proofs.of_kind.Statement.{statement}

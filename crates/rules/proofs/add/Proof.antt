@@ -1,4 +1,4 @@
--- `add` meets its contract: one law for each return, by the checks before it.
+-- `rules::add` meets its contract: one law for each return, by the checks before it.
 use mathlib.Core.Path.{sym, _∙_}
 use native.Mathlib.Omega.{arith}
 use denote.Ref.{now}

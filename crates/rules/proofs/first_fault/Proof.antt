@@ -1,4 +1,4 @@
--- `first_fault` meets its contract: each return has passed the tests before it.
+-- `rules::first_fault` meets its contract: each return has passed the tests before it.
 use mathlib.Core.Path.{sym, _∙_}
 use native.Mathlib.Omega.{arith}
 use denote.Ref.{now}

@@ -1,4 +1,4 @@
--- `has_id` meets its contract: none of the records before `a` has the id.
+-- `rules::has_id` meets its contract. The loop's invariant: none of the records before `a` has the id.
 use Prim.Native.Nat.{_-_, _≤_}
 use native.Mathlib.Omega.{arith}
 use denote.Ref.{now}

@@ -1,4 +1,4 @@
--- `mask_records` meets its contract: the records before `a` are masked.
+-- `rules::write::mask_records` meets its contract. The loop's invariant: the sets of the records before `a` are masked.
 use Prim.Native.Nat.{_-_, _≤_}
 use native.Mathlib.Omega.{arith}
 use denote.Ref.{now}

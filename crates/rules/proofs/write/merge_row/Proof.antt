@@ -1,4 +1,4 @@
--- `merge_row` meets its contract: what it reads, masks and joins is put back in one piece.
+-- `rules::write::merge_row` meets its contract: what it reads, masks and joins is put back in one piece.
 use mathlib.Core.Path.{_∙_}
 use native.Mathlib.Omega.{arith}
 use denote.Ref.{now}

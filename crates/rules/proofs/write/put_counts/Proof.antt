@@ -1,4 +1,4 @@
--- `put_counts` meets its contract: it is one `put_words`.
+-- `rules::write::put_counts` meets its contract: it is one `put_words` of the two counts.
 use native.Mathlib.Omega.{arith}
 use Rattle.rules.specs.Invariants.{countsPut}
 use Rattle.rules.proofs.write.put_counts.Statement.{statement}

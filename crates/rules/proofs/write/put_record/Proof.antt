@@ -1,4 +1,4 @@
--- `put_record` meets its contract: masked, moved up, written.
+-- `rules::write::put_record` meets its contract: the old records are masked, those from the new one's place on go one up, and the new one is written there.
 use native.Mathlib.Omega.{arith}
 use denote.Ref.{now}
 use Rattle.rules.proofs.Steps.{record-is}

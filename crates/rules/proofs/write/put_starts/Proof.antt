@@ -1,4 +1,4 @@
--- `put_starts` meets its contract: one row after the other.
+-- `rules::write::put_starts` meets its contract: the two rows are merged one after the other.
 use mathlib.Core.Path.{ap, _∙_}
 use native.Mathlib.Omega.{arith}
 use Rattle.rules.specs.Invariants.{startsPut, merged}
