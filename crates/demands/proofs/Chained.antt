@@ -18,8 +18,8 @@ use Rattle.stream.specs.declared.Stream.{Stream}
 use Rattle.stream.specs.declared.Scanned.{Scanned}
 use Rattle.stream.specs.declared.Closed.{Closed}
 use Rattle.stream.specs.Byte.{byteIds, stateAfter, idsOf, endsOf, fits, closeIds}
-use Rattle.stream.specs.Valid.{valid, streamLimit}
-use Rattle.stream.specs.Calls.{space, spaceNumber, scanNumber, closeNumber, takenBy, written, scanned, scannedIds, scannedOffsets, shut, closed, closedIds, closedOffsets}
+use Rattle.stream.specs.Valid.{valid}
+use Rattle.stream.specs.Calls.{space, spaceNumber, scanNumber, closeNumber, takenBy, written, scanned, scannedIds, scannedOffsets, shut, closed, closedIds, closedOffsets, overLimit}
 use Rattle.pattern.specs.Read.{readOf, optionsOf}
 use Rattle.rules.specs.Add.{addAnswer, withRule, addWords}
 use Rattle.regex.specs.Ordered.{Pair}
@@ -132,7 +132,7 @@ pub shut-scan : (t : List ℕ) (s : Stream) (len room : ℕ) → s .closed ≡ t
 unfolding scanNumber
 shut-scan t s len room e h =
     go (isTable t) (valid (automaton t) s) (subst (λ (b : Bool). cond (isTable t)
-    (cond (valid (automaton t) s) (cond b 19 (cond (ltb (streamLimit - s .taken) len) 21 (spaceNumber t room))) 18) 1 ≡ 0) e h)
+    (cond (valid (automaton t) s) (cond b 19 (cond (overLimit s len) 21 (spaceNumber t room))) 18) 1 ≡ 0) e h)
   where
     go : (a b : Bool) → _≡_ {A = ℕ} (cond a (cond b 19 18) 1) 0 → ⊥
     go true true h = omega arith

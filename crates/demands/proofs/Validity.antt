@@ -19,7 +19,7 @@ use Rattle.stream.specs.declared.Scanned.{Scanned}
 use Rattle.stream.specs.declared.Closed.{Closed}
 use Rattle.stream.specs.Byte.{stateAfter}
 use Rattle.stream.specs.Valid.{streamLimit, valid}
-use Rattle.stream.specs.Calls.{space, spaceNumber, scanNumber, closeNumber, scanned, closed}
+use Rattle.stream.specs.Calls.{space, spaceNumber, scanNumber, closeNumber, scanned, closed, overLimit}
 use Rattle.stream.proofs.Results.{scan-number, taken-within, progress, scanned-valid, close-number-is, closed-valid}
 use Rattle.stream.proofs.Blocks.{taken-after, closed-after}
 use Rattle.demands.specs.Chain.{Item, scan, close, other, tableAfter, bytesOf, OthersRefused, Closes, Fit, AllFit, offering, Roomy, Bytes, Blocks}
@@ -49,7 +49,7 @@ module _ (t : List ℕ) (table : isTable t ≡ true) (s : Stream) (fits : valid 
   scan-fit len room =
       passed (isTable t) (valid (automaton t) s) _ table fits
       (by (s .closed) 19 _ (λ h. absurd (omega (arith, h)), λ h. absurd (omega (arith, h)))
-      (by (ltb (streamLimit - s .taken) len) 21 _ (λ h. absurd (omega (arith, h)), λ h. absurd (omega (arith, h))) (space-fit t room)))
+      (by (overLimit s len) 21 _ (λ h. absurd (omega (arith, h)), λ h. absurd (omega (arith, h))) (space-fit t room)))
 
   close-fit : (room : ℕ) → Fit (closeNumber t s room)
   unfolding closeNumber
@@ -94,10 +94,10 @@ module _ (t : List ℕ) (table : isTable t ≡ true) where
       → scanNumber t s len room ≡ 0
   unfolding scanNumber spaceNumber
   scan-accepted s fits running len room short wide =
-      ap (λ (b : Bool). cond b (cond (valid (automaton t) s) (cond (s .closed) 19 (cond (ltb (streamLimit - s .taken) len) 21 (cond (ltb room (rulesOf t)) 20 0))) 18) 1) table
-      ∙ ap (λ (b : Bool). cond b (cond (s .closed) 19 (cond (ltb (streamLimit - s .taken) len) 21 (cond (ltb room (rulesOf t)) 20 0))) 18) fits
-      ∙ ap (λ (b : Bool). cond b 19 (cond (ltb (streamLimit - s .taken) len) 21 (cond (ltb room (rulesOf t)) 20 0))) running
-      ∙ ap (λ (b : Bool). cond b 21 (cond (ltb room (rulesOf t)) 20 0)) (le-ltb (streamLimit - s .taken) len (omega arith))
+      ap (λ (b : Bool). cond b (cond (valid (automaton t) s) (cond (s .closed) 19 (cond (overLimit s len) 21 (cond (ltb room (rulesOf t)) 20 0))) 18) 1) table
+      ∙ ap (λ (b : Bool). cond b (cond (s .closed) 19 (cond (overLimit s len) 21 (cond (ltb room (rulesOf t)) 20 0))) 18) fits
+      ∙ ap (λ (b : Bool). cond b 19 (cond (overLimit s len) 21 (cond (ltb room (rulesOf t)) 20 0))) running
+      ∙ ap (λ (b : Bool). cond b 21 (cond (ltb room (rulesOf t)) 20 0)) (le-ltb streamLimit (s .taken + len) short)
       ∙ ap (λ (b : Bool). cond b 20 0) (le-ltb room (rulesOf t) wide)
 
   close-accepted : (s : Stream) → valid (automaton t) s ≡ true → s .closed ≡ false → (room : ℕ) → rulesOf t ≤ room → closeNumber t s room ≡ 0

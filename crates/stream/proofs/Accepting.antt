@@ -3,7 +3,7 @@
 use mathlib.Core.Path.{_≡_, refl, sym, ap, ap₂, _∙_}
 use mathlib.Core.Bool.{Bool, true, false, true≢false, cond, not, _&&_, and-eq-true-iff}
 use mathlib.Core.List.{List}
-use Prim.Native.Nat.{ℕ, _-_, _^_, _<_, _≤_}
+use Prim.Native.Nat.{ℕ, _+_, _-_, _^_, _<_, _≤_}
 use native.Mathlib.Nat.{lt-of-le-of-lt}
 use native.Mathlib.Omega.{arith}
 use lib.Bits.{bitAnd, and-le-l}
@@ -101,41 +101,41 @@ module _ (t : List ℕ) (s : Stream) (len room : ℕ) where
       refused-closed e = rw (table, state, e)
 
       module _ (open-still : s .closed ≡ false) where
-        pub refused-long : streamLimit - s .taken < len → 21 ≡ scanNumber t s len room
+        pub refused-long : streamLimit < s .taken + len → 21 ≡ scanNumber t s len room
         unfolding scanNumber
-        refused-long h = rw (table, state, open-still, lt-ltb (streamLimit - s .taken) len h)
+        refused-long h = rw (table, state, open-still, lt-ltb streamLimit (s .taken + len) h)
 
-        module _ (short : len ≤ streamLimit - s .taken) where
+        module _ (short : s .taken + len ≤ streamLimit) where
           pub refused-space : room < rulesOf t → 20 ≡ scanNumber t s len room
           unfolding scanNumber spaceNumber
-          refused-space h = rw (table, state, open-still, le-ltb (streamLimit - s .taken) len short, lt-ltb room (rulesOf t) h)
+          refused-space h = rw (table, state, open-still, le-ltb streamLimit (s .taken + len) short, lt-ltb room (rulesOf t) h)
 
           pub not-refused : rulesOf t ≤ room → 0 ≡ scanNumber t s len room
           unfolding scanNumber spaceNumber
-          not-refused h = rw (table, state, open-still, le-ltb (streamLimit - s .taken) len short, le-ltb room (rulesOf t) h)
+          not-refused h = rw (table, state, open-still, le-ltb streamLimit (s .taken + len) short, le-ltb room (rulesOf t) h)
 
 -- number 0 says that all holds
 pub record Accepted (t : List ℕ) (s : Stream) (len room : ℕ) : Type 0 where
   pub table : isTable t ≡ true
   pub state : Fitting (automaton t) s
   pub still-open : s .closed ≡ false
-  pub short : len ≤ streamLimit - s .taken
+  pub short : s .taken + len ≤ streamLimit
   pub space : rulesOf t ≤ room
 
 pub accepted : (t : List ℕ) (s : Stream) (len room : ℕ) → scanNumber t s len room ≡ 0 → Accepted t s len room
 unfolding scanNumber spaceNumber
 accepted t s len room e =
-    go (isTable t) refl (valid (automaton t) s) refl (s .closed) refl (ltb (streamLimit - s .taken) len) refl (ltb room (rulesOf t)) refl e
+    go (isTable t) refl (valid (automaton t) s) refl (s .closed) refl (ltb streamLimit (s .taken + len)) refl (ltb room (rulesOf t)) refl e
   where
     go : (a : Bool) → isTable t ≡ a → (b : Bool) → valid (automaton t) s ≡ b → (c : Bool) → s .closed ≡ c
-        → (d : Bool) → ltb (streamLimit - s .taken) len ≡ d → (f : Bool) → ltb room (rulesOf t) ≡ f
+        → (d : Bool) → ltb streamLimit (s .taken + len) ≡ d → (f : Bool) → ltb room (rulesOf t) ≡ f
         → _≡_ {A = ℕ} (cond a (cond b (cond c 19 (cond d 21 (cond f 20 0))) 18) 1) 0 → Accepted t s len room
     go true a true b false c false d false f z =
         record {
           table = a;
           state = fitting (automaton t) s b;
           still-open = c;
-          short = ltb-false (streamLimit - s .taken) len d;
+          short = ltb-false streamLimit (s .taken + len) d;
           space = ltb-false room (rulesOf t) f;
         }
     go true a true b false c false d true f z = absurd (omega arith)
@@ -148,5 +148,12 @@ accepted t s len room e =
 pub close-number : (t : List ℕ) (s : Stream) (room : ℕ) → scanNumber t s 0 room ≡ closeNumber t s room
 unfolding scanNumber closeNumber
 close-number t s room =
-    ap (λ (b : Bool). cond (isTable t) (cond (valid (automaton t) s) (cond (s .closed) 19 (cond b 21 (spaceNumber t room))) 18) 1)
-    (le-ltb (streamLimit - s .taken) 0 (omega arith))
+    ap (λ (n : ℕ). cond (isTable t) n 1) (go (valid (automaton t) s) refl)
+  where
+    -- a valid state is within the limit
+    go : (b : Bool) → valid (automaton t) s ≡ b
+        → cond b (cond (s .closed) 19 (cond (ltb streamLimit (s .taken + 0)) 21 (spaceNumber t room))) 18 ≡ cond b (cond (s .closed) 19 (spaceNumber t room)) 18
+    go true e =
+        ap (λ (c : Bool). cond (s .closed) 19 (cond c 21 (spaceNumber t room)))
+        (le-ltb streamLimit (s .taken + 0) (omega (arith, fitting (automaton t) s e .limit)))
+    go false e = refl

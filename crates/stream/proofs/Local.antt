@@ -2,7 +2,7 @@
 use mathlib.Core.Path.{_≡_, ap, ap₂, _∙_}
 use mathlib.Core.Bool.{Bool, true, false, cond}
 use mathlib.Core.List.{List}
-use Prim.Native.Nat.{ℕ, _-_, _≤_}
+use Prim.Native.Nat.{ℕ, _≤_}
 use native.Mathlib.Omega.{arith}
 use lib.Dec.{eqb, ltb}
 use lib.ListN.{length, take, replicate}
@@ -14,8 +14,8 @@ use Rattle.stream.specs.declared.Stream.{Stream}
 use Rattle.stream.specs.declared.Scanned.{Scanned}
 use Rattle.stream.specs.declared.Closed.{Closed}
 use Rattle.stream.specs.Byte.{stateAfter, idsOf, endsOf, fits, closeIds}
-use Rattle.stream.specs.Valid.{streamLimit, valid}
-use Rattle.stream.specs.Calls.{fresh, opened, space, spaceNumber, scanNumber, closeNumber, takenBy, written, scanned, scannedIds, scannedOffsets, shut, closed, closedIds, closedOffsets}
+use Rattle.stream.specs.Valid.{valid}
+use Rattle.stream.specs.Calls.{fresh, opened, space, spaceNumber, scanNumber, closeNumber, takenBy, written, scanned, scannedIds, scannedOffsets, shut, closed, closedIds, closedOffsets, overLimit}
 
 module _ (t u : List ℕ) (same : take tableWords t ≡ take tableWords u) (long-t : tableWords ≤ length t) (long-u : tableWords ≤ length u) where
   table : isTable t ≡ isTable u
@@ -37,8 +37,8 @@ module _ (t u : List ℕ) (same : take tableWords t ≡ take tableWords u) (long
   pub scanNumber-local : (s : Stream) (len room : ℕ) → scanNumber t s len room ≡ scanNumber u s len room
   unfolding scanNumber spaceNumber
   scanNumber-local s len room =
-      ap₂ (λ (b : Bool) (w : Automaton). cond b (cond (valid w s) (cond (s .closed) 19 (cond (ltb (streamLimit - s .taken) len) 21 (spaceNumber t room))) 18) 1) table machine
-      ∙ ap (λ (n : ℕ). cond (isTable u) (cond (valid (automaton u) s) (cond (s .closed) 19 (cond (ltb (streamLimit - s .taken) len) 21 (cond (ltb room n) 20 0))) 18) 1) rules
+      ap₂ (λ (b : Bool) (w : Automaton). cond b (cond (valid w s) (cond (s .closed) 19 (cond (overLimit s len) 21 (spaceNumber t room))) 18) 1) table machine
+      ∙ ap (λ (n : ℕ). cond (isTable u) (cond (valid (automaton u) s) (cond (s .closed) 19 (cond (overLimit s len) 21 (cond (ltb room n) 20 0))) 18) 1) rules
 
   pub closeNumber-local : (s : Stream) (room : ℕ) → closeNumber t s room ≡ closeNumber u s room
   unfolding closeNumber spaceNumber

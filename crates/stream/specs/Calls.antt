@@ -1,7 +1,7 @@
 -- The four calls on a stream: the answer and both lists afterwards, for any words, state, block and lists. Assumes nothing: these are definitions.
 use mathlib.Core.Bool.{Bool, true, false, cond}
 use mathlib.Core.List.{List, _++_}
-use Prim.Native.Nat.{ℕ, _-_, min}
+use Prim.Native.Nat.{ℕ, _+_, min}
 use lib.Dec.{eqb, ltb}
 use lib.ListN.{length, drop, replicate}
 use Rattle.sets.specs.Set.{emptySet, sizeOf}
@@ -32,13 +32,17 @@ space ids offsets = min (length ids) (length offsets)
 unfoldable pub spaceNumber : List ℕ → ℕ → ℕ
 spaceNumber t room = cond (ltb room (rulesOf t)) 20 0
 
--- "Scans check 1, 18, 19, 21, 20": 21 is "bytes taken so far plus this block over the limit"
+-- 21: "bytes taken so far plus this block over the limit"
+abbrev pub overLimit : Stream → (len : ℕ) → Bool
+overLimit s len = ltb streamLimit (s .taken + len)
+
+-- "Scans check 1, 18, 19, 21, 20"
 unfoldable pub scanNumber : List ℕ → Stream → (len room : ℕ) → ℕ
 scanNumber t s len room =
     cond (isTable t)
     (cond (valid (automaton t) s)
     (cond (s .closed) 19
-    (cond (ltb (streamLimit - s .taken) len) 21
+    (cond (overLimit s len) 21
     (spaceNumber t room)))
     18)
     1

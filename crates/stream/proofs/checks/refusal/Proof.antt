@@ -79,7 +79,7 @@ returns-4 c =
     let a = c-start .args in
     let table = sym (c-is-table .ensures) ∙ not-false (c-is-table .result) (c-if1 .left) in
     let state = sym (c-is-valid .ensures) ∙ not-false (c-is-valid .result) (c-if2 .left) in
-    refused-long (now (a .words)) (a .s) (a .len) (a .space) table state (c-if3 .left) (c-if4 .taken)
+    refused-long (now (a .words)) (a .s) (a .len) (a .space) table state (c-if3 .left) (omega (arith, c-if4 .taken))
 
 returns-5 : tie.Need-returns-5
 returns-5 c =
@@ -94,7 +94,7 @@ returns-5 c =
     let a = c-start .args in
     let table = sym (c-is-table .ensures) ∙ not-false (c-is-table .result) (c-if1 .left) in
     let state = sym (c-is-valid .ensures) ∙ not-false (c-is-valid .result) (c-if2 .left) in
-    refused-space (now (a .words)) (a .s) (a .len) (a .space) table state (c-if3 .left) (c-if4 .left) (c-if5 .taken)
+    refused-space (now (a .words)) (a .s) (a .len) (a .space) table state (c-if3 .left) (omega (arith, c-if4 .left, fitting (automaton (now (a .words))) (a .s) state .limit)) (c-if5 .taken)
 
 returns-6 : tie.Need-returns-6
 returns-6 c =
@@ -109,7 +109,7 @@ returns-6 c =
     let a = c-start .args in
     let table = sym (c-is-table .ensures) ∙ not-false (c-is-table .result) (c-if1 .left) in
     let state = sym (c-is-valid .ensures) ∙ not-false (c-is-valid .result) (c-if2 .left) in
-    not-refused (now (a .words)) (a .s) (a .len) (a .space) table state (c-if3 .left) (c-if4 .left) (c-if5 .left)
+    not-refused (now (a .words)) (a .s) (a .len) (a .space) table state (c-if3 .left) (omega (arith, c-if4 .left, fitting (automaton (now (a .words))) (a .s) state .limit)) (c-if5 .left)
 
 pub refusal-spec : {M : Type 1} → statement M
 refusal-spec =
