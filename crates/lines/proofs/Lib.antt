@@ -4,3 +4,4 @@ pub mod Reading
 pub mod Fields
 pub mod Decimals
 pub mod Laws
+pub mod Placing

@@ -1,6 +1,12 @@
-// The program's text: cutting the rules file into lines, reading a rule line, writing a number, and how many bytes may still be asked for. All are plain
-// functions over bytes, so that the program itself stays thin. Nothing is required of a caller: specs/Lines.antt and specs/Numbers.antt say what each
-// function gives.
+// The program's text: cutting the rules file into lines, reading a rule line, writing a number, how many bytes may still be asked for, and the lines of
+// output. All are plain functions over bytes, so that the program itself stays thin. Nothing is required of a caller: specs/Lines.antt, specs/Numbers.antt
+// and specs/Output.antt say what each function gives.
+mod output;
+
+pub use output::put_end;
+pub use output::put_refused;
+pub use output::put_report;
+pub use output::put_reports;
 use stream::STREAM_LIMIT;
 ghost use mathlib.Core.Path.{_≡_};
 ghost use mathlib.Core.Bool.{cond, _&&_};
