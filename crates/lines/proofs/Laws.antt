@@ -47,6 +47,13 @@ pub pattern-within : (v : List ℕ) → ruleLineOf v .pattern ≤ length v
 unfolding ruleLineOf
 pattern-within v = picked (λ (x : RuleLine). x .pattern ≤ length v) (isField v && isField (drop (fieldSize v) v)) _ _ (fields-within v) (λ e. omega arith)
 
+-- a good rule line's id has 32 bits
+pub good-id : (v : List ℕ) → ruleLineOf v .id < 2 ^ 32
+unfolding ruleLineOf
+good-id v =
+    picked (λ (x : RuleLine). x .id < 2 ^ 32) (isField v && isField (drop (fieldSize v) v)) _ _
+    (λ e. good-field v (and-eq-true-iff (isField v) (isField (drop (fieldSize v) v)) .0 e .0) .small) (λ e. omega arith)
+
 -- ---- numbers in decimal
 
 -- there is a digit, and there are at most 20

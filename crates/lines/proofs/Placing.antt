@@ -6,12 +6,11 @@ use Prim.Native.Nat.{ℕ, zero, suc, _+_, _-_, _≤_, _<_, min}
 use native.Mathlib.Nat.{sub-zero}
 use native.Mathlib.Numerals.{add-one}
 use native.Mathlib.Omega.{arith}
-use native.Mathlib.Decide.{decLt}
 use borrow.Author.Tests.{le-leb, lt-leb}
 use lib.ListN.{length, getD, set, take, drop, replicate, length-append, length-take, length-drop, length-replicate}
 use lib.Seq.{paste, paste-suc, paste-zero, length-paste, take-all, take-append-seam, drop-append-add}
 use Rattle.lines.specs.Numbers.{decimalOf, written}
-use Rattle.lines.specs.Output.{Buffer, buffer, placed, reportsPlaced, reportLine}
+use Rattle.lines.specs.Output.{Buffer, buffer, placed}
 use Rattle.lines.specs.Invariants.{textOf, joined}
 use Rattle.lines.specs.declared.Decimal.{Decimal}
 use Rattle.lines.specs.declared.output.Text.{Text}
@@ -94,26 +93,3 @@ module _ (r : Decimal) (n : ℕ) (e : r ≡ written n) where
   pub decimal-within : r .size ≤ length (r .digits)
   unfolding written
   decimal-within = rw (e, length-append) (omega arith)
-
--- ---- the lines of some reports
-
-pub placed-length : (b : Buffer) (line : List ℕ) → length (placed b line .bytes) ≡ length (b .bytes)
-unfolding placed
-placed-length b line =
-    elim (decLt (length (b .bytes)) (b .next + length line)) [
-      | yes l ↦ rw (lt-leb _ _ l)
-      | no l ↦
-          let g : b .next + length line ≤ length (b .bytes) = omega arith in
-          rw (le-leb _ _ g, length-append, length-append, length-take, length-drop) (omega arith)
-    ]
-
-pub reports-length : (b : Buffer) (ids offsets : List ℕ) (n : ℕ) → length (reportsPlaced b ids offsets n .bytes) ≡ length (b .bytes)
-unfolding reportsPlaced
-reports-length b ids offsets zero = refl
-reports-length b ids offsets (suc n) = placed-length _ _ ∙ reports-length b ids offsets n
-
--- one report more
-pub reports-one : (b now next : Buffer) (ids offsets : List ℕ) (i : ℕ) → now ≡ reportsPlaced b ids offsets i
-    → next ≡ placed now (reportLine (getD ids i 0) (getD offsets i 0)) → next ≡ reportsPlaced b ids offsets (i + 1)
-unfolding reportsPlaced
-reports-one b now next ids offsets i e f = rw (add-one, ← e) f

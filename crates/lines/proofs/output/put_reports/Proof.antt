@@ -5,7 +5,7 @@ use native.Mathlib.Omega.{arith}
 use borrow.Author.Needs.{needs}
 use lib.ListN.{length}
 use Rattle.lines.specs.Output.{Buffer, buffer, reportsPlaced}
-use Rattle.lines.proofs.Placing.{reports-one, reports-length}
+use Rattle.lines.proofs.Buffers.{reports-one, reports-length}
 use Rattle.lines.proofs.output.put_reports.Statement.{statement}
 use Rattle.lines.proofs.output.put_reports.Tie as tie
 
