@@ -5,6 +5,8 @@
 //!                     '-' is the empty file, 'none' a file that cannot be opened
 //! input HEX [COUNT]   bytes of standard input, in the same way
 //! out TEXT            a line that the program writes
+//! outs FIRST LAST STEP TEXT
+//!                     such a line for each number from FIRST to LAST by STEP, put where TEXT has '#'
 //! ```
 //!
 //! A run ends at an empty line.
@@ -32,13 +34,24 @@ pub fn line(run: &mut ProgramCase, text: &str) -> Result<(), String> {
             run.rules.extend(repeated(rest)?);
         }
         "input" => run.input.extend(repeated(rest)?),
-        "out" => {
-            run.out.extend(rest.as_bytes());
-            run.out.push(10);
+        "out" => written(run, rest),
+        "outs" => {
+            let [first, last, step, text] = rest.splitn(4, ' ').collect::<Vec<_>>()[..] else {
+                return Err(format!("'{text}' wants three numbers and a text"));
+            };
+            let numbers = hex::number::<usize>(first)?..=hex::number(last)?;
+            for n in numbers.step_by(hex::number(step)?) {
+                written(run, &text.replace('#', &n.to_string()));
+            }
         }
         _ => return Err(format!("'{text}' is no line of a run")),
     }
     Ok(())
+}
+
+fn written(run: &mut ProgramCase, text: &str) {
+    run.out.extend(text.as_bytes());
+    run.out.push(10);
 }
 
 fn repeated(words: &str) -> Result<Vec<u8>, String> {

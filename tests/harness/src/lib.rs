@@ -7,6 +7,7 @@
 //! make scenarios, `shrink` makes a failing one small. `readings` compares the reader alone.
 //! `over_words` is a watcher made of calls over lent words, be they the interpreter's of `words` or
 //! the library's (`library`), and `damaged` compares such calls where the words are of any content.
+//! `process` is the built program.
 
 pub mod corpus_run;
 pub mod damaged;
@@ -18,6 +19,7 @@ pub mod model;
 pub mod over_words;
 pub mod patterns;
 pub mod play;
+pub mod process;
 pub mod random;
 pub mod readings;
 pub mod rng;

@@ -10,6 +10,7 @@ use harness::exhaustive::{self, Bounds};
 use harness::library::Library;
 use harness::model::Model;
 use harness::over_words::OverWords;
+use harness::process::Process;
 use harness::watcher::{PatternReader, Watcher};
 use harness::{damaged, random, readings};
 use words::calls::Calls;
@@ -22,8 +23,9 @@ const USAGE: &str = "usage:
   harness [WATCHER] readings LENGTH
   harness [WATCHER] random SEED COUNT [FIRST]
   harness library damaged SEED COUNT [FIRST]
+  harness program PATH
 WATCHER is model (the reference's calls, also if none is given), words (the interpreter of table
-words) or library.";
+words) or library; PATH is the built program.";
 
 fn main() -> ExitCode {
     let words: Vec<String> = std::env::args().skip(1).collect();
@@ -31,6 +33,7 @@ fn main() -> ExitCode {
     let done = match &words[..] {
         ["model", rest @ ..] => command(&Model, rest),
         ["words", rest @ ..] => over_words(Interpreter, rest),
+        ["program", path] => program(path),
         #[cfg(feature = "library")]
         ["library", rest @ ..] => over_words(Library, rest),
         rest => command(&Model, rest),
@@ -86,6 +89,11 @@ fn corpus<W: Watcher>(watcher: &W) -> Result<(), String> {
     show("corpus on the definition", &run_definition(folder)?)?;
     show("corpus on the calls", &run_folder(watcher, folder)?)?;
     show("corpus on the model of the program", &run_program(&Model, folder)?)
+}
+
+/// The runs of the program on the program itself.
+fn program(path: &str) -> Result<(), String> {
+    show("corpus on the program", &run_program(&Process::at(path)?, corpus::files::folder())?)
 }
 
 fn show(what: &str, tally: &Tally) -> Result<(), String> {

@@ -87,6 +87,11 @@ impl PatternReader for Model {
 }
 
 impl Program for Model {
+    /// Its time grows with the square of the input.
+    fn longest(&self) -> usize {
+        10_000
+    }
+
     fn run(&self, rules: Option<&[u8]>, input: &[u8]) -> Vec<u8> {
         program::run(rules.unwrap_or_default(), input)
     }

@@ -80,5 +80,10 @@ pub trait PatternReader {
 
 /// The program: what it writes for the bytes of a rules file, if it can be opened, and an input.
 pub trait Program {
+    /// The longest input that it can be asked for; longer runs are skipped.
+    fn longest(&self) -> usize {
+        usize::MAX
+    }
+
     fn run(&self, rules: Option<&[u8]>, input: &[u8]) -> Vec<u8>;
 }
