@@ -9,3 +9,4 @@ pub mod States
 pub mod Busy
 pub mod Validity
 pub mod Theorems
+pub mod Demand1

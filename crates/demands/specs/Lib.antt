@@ -1,3 +1,4 @@
 -- What the demands are stated with: lists of calls, and the statements.
 pub mod Chain
 pub mod Demands
+pub mod Demand1

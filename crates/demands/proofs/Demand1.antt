@@ -1,0 +1,122 @@
+-- Demand 1: the theorem of each public function, and what the definitions that they cite give where the number is not 0. Assumes nothing.
+use mathlib.Core.Path.{_≡_, refl, sym, ap, _∙_}
+use mathlib.Core.Bool.{Bool, true, false, cond}
+use mathlib.Core.List.{List}
+use Prim.Native.Nat.{ℕ, _+_}
+use native.Mathlib.Omega.{arith}
+use native.Mathlib.Decide.{ℕ-discrete}
+use lib.Dec.{ltb, leb}
+use lib.ListN.{length}
+use borrow.Author.Tests.{ne-eqb}
+use Rattle.table.specs.Layout.{maxRules, rulesOf, positionsOf}
+use Rattle.table.specs.Table.{isTable}
+use Rattle.table.proofs.empty.Met.{met as empty-met}
+use Rattle.table.proofs.is_table.Met.{met as is_table-met}
+use Rattle.regex.specs.Count.{limit, saturating}
+use Rattle.pattern.specs.Walk.{Read, tree, refused}
+use Rattle.pattern.specs.Read.{readOf, optionsOf}
+use Rattle.rules.specs.declared.Added.{Added}
+use Rattle.rules.specs.Add.{answer, unknownFlag, hasId, placed, addAnswer}
+use Rattle.rules.proofs.Readings.{refusal-numbered}
+use Rattle.rules.proofs.add.Met.{met as add-met}
+use Rattle.stream.specs.declared.Stream.{Stream}
+use Rattle.stream.specs.declared.Opened.{Opened}
+use Rattle.stream.specs.declared.Scanned.{Scanned}
+use Rattle.stream.specs.declared.Closed.{Closed}
+use Rattle.stream.specs.Byte.{idsOf, endsOf, closeIds}
+use Rattle.stream.specs.Calls.{fresh, opened, space, scanNumber, closeNumber, takenBy, written, scanned, scannedIds, scannedOffsets, closed, closedIds, closedOffsets}
+use Rattle.stream.proofs.Stream.«open».Met.{met as open-met}
+use Rattle.stream.proofs.Stream.scan.Met.{met as scan-met}
+use Rattle.stream.proofs.Stream.close.Met.{met as close-met}
+use Rattle.stream.proofs.Stream.busy.Met.{met as busy-met}
+use Rattle.demands.specs.Chain.{this, emptying, adding, numberOf, tableAfter}
+use Rattle.demands.specs.Demand1.{Answers, ScanRefused, CloseRefused, Refusals, Demand1}
+use Rattle.demands.proofs.Chained.{kept, accepted-scan, refused-scan, accepted-close, refused-close}
+
+answers : Answers
+answers = record {
+  emptying = empty-met;
+  testing = is_table-met;
+  adding = add-met;
+  opening = open-met;
+  scanning = scan-met;
+  closing = close-met;
+  busy = busy-met;
+}
+
+-- an accepted addition has a tree, and then the place is 0
+place-zero : (t : List ℕ) (id flags : ℕ) (pattern : List ℕ) → addAnswer t id flags pattern .number ≡ 0 → addAnswer t id flags pattern .place ≡ 0
+unfolding addAnswer placed
+place-zero t id flags pattern =
+    go (isTable t) (unknownFlag flags) (hasId t id) (leb maxRules (rulesOf t)) (readOf pattern (optionsOf flags)) refl
+  where
+    go : (a b c d : Bool) (r : Read) → readOf pattern (optionsOf flags) ≡ r
+        → cond a (cond b (answer 2 0) (cond c (answer 3 0) (cond d (answer 4 0) (placed (positionsOf t) (length pattern) r)))) (answer 1 0) .number ≡ 0
+        → cond a (cond b (answer 2 0) (cond c (answer 3 0) (cond d (answer 4 0) (placed (positionsOf t) (length pattern) r)))) (answer 1 0) .place ≡ 0
+    go false b c d r e h = refl
+    go true true c d r e h = refl
+    go true false true d r e h = refl
+    go true false false true r e h = refl
+    go true false false false (refused number place) e h = absurd (refusal-numbered pattern (optionsOf flags) number place e h)
+    go true false false false (tree x) e h = last (ltb limit (positionsOf t + saturating x)) h
+      where
+        last : (z : Bool) → cond z (answer 17 (length pattern)) (answer 0 0) .number ≡ 0 → cond z (answer 17 (length pattern)) (answer 0 0) .place ≡ 0
+        last true h = absurd (omega (arith, h))
+        last false h = refl
+
+open-refused : (t : List ℕ) → ¬ (opened t .number ≡ 0) → opened t .stream ≡ fresh 0 0 true
+unfolding opened
+open-refused t = go (isTable t)
+  where
+    go : (b : Bool)
+        → ¬ (cond {A = Opened} b (record { number = 0; stream = fresh (rulesOf t) (positionsOf t) false }) (record { number = 1; stream = fresh 0 0 true }) .number ≡ 0)
+        → cond {A = Opened} b (record { number = 0; stream = fresh (rulesOf t) (positionsOf t) false }) (record { number = 1; stream = fresh 0 0 true }) .stream ≡ fresh 0 0 true
+    go true h = absurd (h refl)
+    go false h = refl
+
+module _ (t : List ℕ) (s : Stream) (block ids offsets : List ℕ) (bad : ¬ (scanned t s block ids offsets .number ≡ 0)) where
+  not-zero : ¬ (scanNumber t s (length block) (space ids offsets) ≡ 0)
+  not-zero ok = bad (ap (λ (a : Scanned). a .number) (accepted-scan t s block ids offsets ok))
+
+  scan-refused : ScanRefused t s block ids offsets
+  unfolding scannedIds scannedOffsets
+  scan-refused =
+      let r = refused-scan t s block ids offsets not-zero in
+      let no = ne-eqb (scanNumber t s (length block) (space ids offsets)) 0 not-zero in
+      record {
+        taken = ap (λ (a : Scanned). a .taken) r;
+        reports = ap (λ (a : Scanned). a .reports) r;
+        state = ap (λ (a : Scanned). a .stream) r;
+        ids-kept = rw no;
+        offsets-kept = rw no;
+      }
+
+module _ (t : List ℕ) (s : Stream) (ids offsets : List ℕ) (bad : ¬ (closed t s ids offsets .number ≡ 0)) where
+  not-zero′ : ¬ (closeNumber t s (space ids offsets) ≡ 0)
+  not-zero′ ok = bad (ap (λ (a : Closed). a .number) (accepted-close t s ids offsets ok))
+
+  close-refused : CloseRefused t s ids offsets
+  unfolding closedIds closedOffsets
+  close-refused =
+      let r = refused-close t s ids offsets not-zero′ in
+      let no = ne-eqb (closeNumber t s (space ids offsets)) 0 not-zero′ in
+      record {
+        reports = ap (λ (a : Closed). a .reports) r;
+        state = ap (λ (a : Closed). a .stream) r;
+        ids-kept = rw no;
+        offsets-kept = rw no;
+      }
+
+refusals : Refusals
+unfolding numberOf tableAfter
+refusals = record {
+  emptying = λ t bad. kept t (emptying this) bad;
+  adding = λ t id flags pattern bad. kept t (adding this id flags pattern) bad;
+  added = place-zero;
+  opening = open-refused;
+  scanning = scan-refused;
+  closing = close-refused;
+}
+
+pub demand1 : Demand1
+demand1 = record { answers = answers; refusals = refusals }

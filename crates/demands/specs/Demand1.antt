@@ -1,0 +1,67 @@
+-- Demand 1, over all the public calls: "Whatever rule bytes, rule table, stream state, block or report space it is handed, every call ends and gives one
+-- fixed answer. Bad input is refused by number, and a refusal changes no word of anything lent. Nobody has to check beforehand."
+-- `statement` of a function is the type of its theorem: its code, run on whatever it is handed, is safe, ends, and leaves what the `ensures` lines at its
+-- head say. None of these functions has a `requires` line. The theorem is `demand1` of proofs/Demand1.antt.
+use mathlib.Core.Path.{_≡_}
+use mathlib.Core.Bool.{true}
+use mathlib.Core.List.{List}
+use Prim.Native.Nat.{ℕ}
+use lib.ListN.{length}
+use Rattle.table.specs.Table.{emptyNumber, emptied}
+use Rattle.table.proofs.empty.Statement.{statement as empty}
+use Rattle.table.proofs.is_table.Statement.{statement as is_table}
+use Rattle.rules.specs.Add.{addAnswer, addWords}
+use Rattle.rules.proofs.add.Statement.{statement as add}
+use Rattle.stream.specs.declared.Stream.{Stream}
+use Rattle.stream.specs.Calls.{fresh, opened, scanned, scannedIds, scannedOffsets, closed, closedIds, closedOffsets}
+use Rattle.stream.proofs.Stream.«open».Statement.{statement as stream-open}
+use Rattle.stream.proofs.Stream.scan.Statement.{statement as stream-scan}
+use Rattle.stream.proofs.Stream.close.Statement.{statement as stream-close}
+use Rattle.stream.proofs.Stream.busy.Statement.{statement as stream-busy}
+
+-- "every call ends and gives one fixed answer": each call's answer and all that it was lent are, afterwards, what these definitions give for what it was
+-- handed
+pub record Answers : Type 2 where
+  -- emptying a table (crates/table/src/lib.rt): the number is `emptyNumber`, the words are `emptied`
+  pub emptying : {M : Type 1} → empty M
+  -- the yes-or-no test: `isTable`
+  pub testing : {M : Type 1} → is_table M
+  -- adding a rule (crates/rules/src/lib.rt): number and place are `addAnswer`, the words are `addWords`
+  pub adding : {M : Type 1} → add M
+  -- opening a stream (crates/stream/src/lib.rt): number and state are `opened`
+  pub opening : {M : Type 1} → stream-open M
+  -- scanning a block: number, bytes taken, count of reports and next state are `scanned`, the two lists are `scannedIds` and `scannedOffsets`
+  pub scanning : {M : Type 1} → stream-scan M
+  -- closing: number, count of reports and next state are `closed`, the two lists are `closedIds` and `closedOffsets`
+  pub closing : {M : Type 1} → stream-close M
+  -- the busy figure: `busyOf`
+  pub busy : {M : Type 1} → stream-busy M
+
+-- "Other refusals return the number, no bytes taken, no reports, the state unchanged", and both lists keep every word
+pub record ScanRefused (t : List ℕ) (s : Stream) (block ids offsets : List ℕ) : Type 0 where
+  pub taken : scanned t s block ids offsets .taken ≡ 0
+  pub reports : scanned t s block ids offsets .reports ≡ 0
+  pub state : scanned t s block ids offsets .stream ≡ s
+  pub ids-kept : scannedIds t s block ids offsets ≡ ids
+  pub offsets-kept : scannedOffsets t s block ids offsets ≡ offsets
+
+pub record CloseRefused (t : List ℕ) (s : Stream) (ids offsets : List ℕ) : Type 0 where
+  pub reports : closed t s ids offsets .reports ≡ 0
+  pub state : closed t s ids offsets .stream ≡ s
+  pub ids-kept : closedIds t s ids offsets ≡ ids
+  pub offsets-kept : closedOffsets t s ids offsets ≡ offsets
+
+-- "a refusal changes no word of anything lent": whenever the number is not 0. (The test, the opening and the busy figure are lent nothing to write to.)
+pub record Refusals : Type 0 where
+  pub emptying : (t : List ℕ) → ¬ (emptyNumber t ≡ 0) → emptied t ≡ t
+  -- "A refused addition returns its number and a place, and leaves the table as it was. An accepted one has place 0."
+  pub adding : (t : List ℕ) (id flags : ℕ) (pattern : List ℕ) → ¬ (addAnswer t id flags pattern .number ≡ 0) → addWords t id flags pattern ≡ t
+  pub added : (t : List ℕ) (id flags : ℕ) (pattern : List ℕ) → addAnswer t id flags pattern .number ≡ 0 → addAnswer t id flags pattern .place ≡ 0
+  -- "A refused opening hands back a closed state, all else in it zero."
+  pub opening : (t : List ℕ) → ¬ (opened t .number ≡ 0) → opened t .stream ≡ fresh 0 0 true
+  pub scanning : (t : List ℕ) (s : Stream) (block ids offsets : List ℕ) → ¬ (scanned t s block ids offsets .number ≡ 0) → ScanRefused t s block ids offsets
+  pub closing : (t : List ℕ) (s : Stream) (ids offsets : List ℕ) → ¬ (closed t s ids offsets .number ≡ 0) → CloseRefused t s ids offsets
+
+pub record Demand1 : Type 2 where
+  pub answers : Answers
+  pub refusals : Refusals
