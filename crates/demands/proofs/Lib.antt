@@ -8,5 +8,10 @@ pub mod Streams
 pub mod States
 pub mod Busy
 pub mod Validity
+pub mod Agreeing
+pub mod Computing
+pub mod Outcomes
 pub mod Theorems
 pub mod Demand1
+pub mod Logs
+pub mod Cases

@@ -68,17 +68,17 @@ both false g e = e
 pub progressing : Progress
 progressing t s block ids offsets ok some = progress t s block ids offsets ok some
 
-built : (c : Setting) → Built (tableIn c) (acceptedIn c)
+pub built : (c : Setting) → Built (tableIn c) (acceptedIn c)
 built c = built-all (emptied (c .words)) [] (built-none (c .words) (c .long)) (c .additions)
 
-table : (c : Setting) → isTable (tableIn c) ≡ true
+pub table : (c : Setting) → isTable (tableIn c) ≡ true
 table c = passing (tableIn c) (built c .passed)
 
 held : (c : Setting) → Carried (tableIn c) (rulesIn c)
 held c = carried (tableIn c) (acceptedIn c) (built c)
 
 -- the stream that is opened, written out
-begins : (c : Setting) → streamIn c ≡ fresh (rulesOf (tableIn c)) (positionsOf (tableIn c)) false
+pub begins : (c : Setting) → streamIn c ≡ fresh (rulesOf (tableIn c)) (positionsOf (tableIn c)) false
 begins c = opened-table (tableIn c) (table c)
 
 pub acceptance : Acceptance

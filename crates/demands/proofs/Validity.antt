@@ -58,14 +58,14 @@ module _ (t : List ℕ) (table : isTable t ≡ true) (s : Stream) (fits : valid 
       (by (s .closed) 19 _ (λ h. absurd (omega (arith, h)), λ h. absurd (omega (arith, h))) (space-fit t room))
 
   -- the state that a scan or a closing hands on fits
-  scan-valid : (block ids offsets : List ℕ) → valid (automaton t) (scanned t s block ids offsets .stream) ≡ true
+  pub scan-valid : (block ids offsets : List ℕ) → valid (automaton t) (scanned t s block ids offsets .stream) ≡ true
   scan-valid block ids offsets = go (ℕ-discrete (scanNumber t s (length block) (space ids offsets)) 0)
     where
       go : Dec (scanNumber t s (length block) (space ids offsets) ≡ 0) → valid (automaton t) (scanned t s block ids offsets .stream) ≡ true
       go (yes ok) = scanned-valid t s block ids offsets (scan-number t s block ids offsets ∙ ok)
       go (no bad) = ap (λ (r : Scanned). valid (automaton t) (r .stream)) (refused-scan t s block ids offsets bad) ∙ fits
 
-  close-valid : (ids offsets : List ℕ) → valid (automaton t) (closed t s ids offsets .stream) ≡ true
+  pub close-valid : (ids offsets : List ℕ) → valid (automaton t) (closed t s ids offsets .stream) ≡ true
   close-valid ids offsets = go (ℕ-discrete (closeNumber t s (space ids offsets)) 0)
     where
       go : Dec (closeNumber t s (space ids offsets) ≡ 0) → valid (automaton t) (closed t s ids offsets .stream) ≡ true

@@ -74,6 +74,22 @@ reportsOf t s (close ids offsets ∷ l) =
     reportsIn (closed t s ids offsets .reports) (closedIds t s ids offsets) (closedOffsets t s ids offsets) ++ reportsOf t (closed t s ids offsets .stream) l
 reportsOf t s (other o ∷ l) = reportsOf (tableAfter t o) s l
 
+-- The same call by call: what each scan or closing of the stream gives, which is its number, the number of bytes that it takes, and its reports.
+pub data Outcome : Type 0 where
+  by-scan : (number taken : ℕ) → List Pair → Outcome
+  by-close : (number : ℕ) → List Pair → Outcome
+
+unfoldable pub outcomesOf : List ℕ → Stream → List Item → List Outcome
+outcomesOf t s [] = []
+outcomesOf t s (scan block ids offsets ∷ l) =
+    by-scan (scanned t s block ids offsets .number) (scanned t s block ids offsets .taken)
+    (reportsIn (scanned t s block ids offsets .reports) (scannedIds t s block ids offsets) (scannedOffsets t s block ids offsets))
+    ∷ outcomesOf t (scanned t s block ids offsets .stream) l
+outcomesOf t s (close ids offsets ∷ l) =
+    by-close (closed t s ids offsets .number) (reportsIn (closed t s ids offsets .reports) (closedIds t s ids offsets) (closedOffsets t s ids offsets))
+    ∷ outcomesOf t (closed t s ids offsets .stream) l
+outcomesOf t s (other o ∷ l) = outcomesOf (tableAfter t o) s l
+
 -- the stream that is opened on a table
 abbrev pub begun : List ℕ → Stream
 begun t = opened t .stream

@@ -2,3 +2,4 @@
 pub mod Chain
 pub mod Demands
 pub mod Demand1
+pub mod Cases

@@ -1,0 +1,105 @@
+-- The automaton of some rules without a word of a table: its sets are those of the rules' written-out forms, worked out when they are asked for. A table that
+-- additions built agrees with it, so a checker can follow a stream by it. Assumes nothing.
+use mathlib.Core.Path.{_≡_, refl, sym, subst, ap, ap₂, _∙_}
+use mathlib.Core.Bool.{Bool, true, false, cond, _&&_}
+use mathlib.Core.List.{List, [], _∷_}
+use Prim.Native.Nat.{ℕ, zero, suc, _+_, _≤_, _<_}
+use native.Mathlib.Omega.{arith}
+use native.Mathlib.Decide.{decLe, decLt}
+use lib.Dec.{leb, ltb}
+use lib.ListN.{length}
+use borrow.Author.Tests.{le-leb, lt-leb, lt-ltb, le-ltb}
+use Rattle.sets.specs.Set.{has}
+use Rattle.table.specs.Automaton.{Automaton, automaton}
+use Rattle.regex.specs.Tree.{empty}
+use Rattle.regex.specs.Automaton.{first, last, follow}
+use Rattle.automaton.specs.Parts.{inside, atStart, atEnd}
+use Rattle.rules.specs.Additions.{Accepted, size, used}
+use Rattle.rules.proofs.Sorted.{Placed, at, byId}
+use Rattle.rules.proofs.Encodes.{Encodes, Of, formOf, itemOf}
+use Rattle.rules.proofs.Additions.{Built}
+use Rattle.demands.proofs.Carried.{positions-at}
+use Rattle.demands.proofs.Agreeing.{Agree}
+
+-- the first rule that has position q
+unfoldable pub owner : List Placed → ℕ → Placed
+owner [] q = record { rule = record { id = 0; flags = 0; tree = empty }; from = 0 }
+owner (p ∷ ps) q = cond (leb (p .from) q && ltb q (p .from + size (p .rule))) p (owner ps q)
+
+-- the automaton of the rules ps with n positions
+unfoldable pub computed : List Placed → ℕ → Automaton
+computed ps n = record {
+  rules = length ps;
+  positions = n;
+  id = λ a. at ps a .rule .id;
+  flags = λ a. at ps a .rule .flags;
+  first = λ q. first inside (formOf (owner ps q)) (owner ps q .from) q;
+  firstAtStart = λ q. first atStart (formOf (owner ps q)) (owner ps q .from) q;
+  follow = λ p q. follow inside (formOf (owner ps q)) (owner ps q .from) p q;
+  takes = λ x q. has (itemOf (owner ps q) q) x;
+  last = λ a p. last inside (formOf (at ps a)) (at ps a .from) p;
+  lastAtEnd = λ a p. last atEnd (formOf (at ps a)) (at ps a .from) p;
+}
+
+-- the owner is a rule that has the position, if there is one
+abbrev Owned : List Placed → ℕ → Type 0
+Owned ps q = (b : ℕ) × (b < length ps) × Of (at ps b) q × (owner ps q ≡ at ps b)
+
+owner-is : (ps : List Placed) (q a : ℕ) → a < length ps → Of (at ps a) q → Owned ps q
+unfolding owner
+owner-is [] q a lt o = absurd (omega arith)
+owner-is (p ∷ ps) q a lt o = go (decLe (p .from) q) (decLt q (p .from + size (p .rule))) a lt o (λ b l i. owner-is ps q b l i)
+  where
+    test : Bool
+    test = leb (p .from) q && ltb q (p .from + size (p .rule))
+
+    Later : Type 0
+    Later = (b : ℕ) → b < length ps → Of (at ps b) q → Owned ps q
+
+    rest : test ≡ false → (a : ℕ) → a < suc (length ps) → Of (at (p ∷ ps) a) q → Later → ¬ Of p q → Owned (p ∷ ps) q
+    rest e zero lt o later out = absurd (out o)
+    rest e (suc a) lt o later out =
+        let r = later a (omega arith) o in
+        (suc (r .0), omega (arith, r .1), r .2, ap (λ (b : Bool). cond b p (owner ps q)) e ∙ r .3)
+
+    go : Dec (p .from ≤ q) → Dec (q < p .from + size (p .rule)) → (a : ℕ) → a < suc (length ps) → Of (at (p ∷ ps) a) q → Later → Owned (p ∷ ps) q
+    go (yes l) (yes m) a lt o later =
+        (0, omega arith, (l, m), ap (λ (b : Bool). cond b p (owner ps q)) (ap₂ _&&_ (le-leb (p .from) q l) (lt-ltb q (p .from + size (p .rule)) m)))
+    go (yes l) (no m) a lt o later =
+        rest (ap₂ _&&_ (le-leb (p .from) q l) (le-ltb q (p .from + size (p .rule)) (omega arith))) a lt o later (λ i. m (i .1))
+    go (no l) d a lt o later =
+        rest (ap (λ (b : Bool). b && ltb q (p .from + size (p .rule))) (lt-leb (p .from) q (omega arith))) a lt o later (λ i. l (i .0))
+
+module _ (w : Automaton) (ps : List Placed) (e : Encodes w ps) where
+  -- every position has its owner, by place
+  owned : (q : ℕ) → q < w .positions → Owned ps q
+  owned q lt = let c = e .covered q lt in owner-is ps q (c .0) (c .1) (c .2)
+
+  in-list : (a : ℕ) → a < w .rules → a < length ps
+  in-list a lt = omega (arith, e .rules)
+
+  -- what holds of the rule that has q holds of the owner of q
+  by-owner : (q : ℕ) (lt : q < w .positions) (b : Bool) (f : Placed → Bool) → ((a : ℕ) → a < length ps → Of (at ps a) q → b ≡ f (at ps a)) → b ≡ f (owner ps q)
+  by-owner q lt b f h = let o = owned q lt in h (o .0) (o .1) (o .2) ∙ ap f (sym (o .3))
+
+  pub encoded-agrees : (n : ℕ) → w .positions ≡ n → Agree w (computed ps n)
+  unfolding computed
+  encoded-agrees n k = record {
+    rules = e .rules;
+    positions = k;
+    id = λ a lt. e .rule a (in-list a lt) .id-is;
+    flags = λ a lt. e .rule a (in-list a lt) .flags-are;
+    first = λ q lt. by-owner q lt (w .first q) (λ p. first inside (formOf p) (p .from) q) (λ a l o. e .rule a l .first-is q o);
+    start = λ q lt. by-owner q lt (w .firstAtStart q) (λ p. first atStart (formOf p) (p .from) q) (λ a l o. e .rule a l .start-is q o);
+    follow = λ o q lt. by-owner q lt (w .follow o q) (λ p. follow inside (formOf p) (p .from) o q) (λ a l i. e .rule a l .follow-is o q i);
+    takes = λ x q small lt. by-owner q lt (w .takes x q) (λ p. has (itemOf p q) x) (λ a l o. e .rule a l .takes-is x q small o);
+    last = λ a p lt l. e .rule a (in-list a lt) .last-is p l;
+    last-at-end = λ a p lt l. e .rule a (in-list a lt) .end-is p l;
+  }
+
+-- the automaton of the rules that were accepted
+abbrev pub computedOf : List Accepted → Automaton
+computedOf rs = computed (byId rs) (used rs)
+
+pub built-agrees : (t : List ℕ) (rs : List Accepted) → Built t rs → Agree (automaton t) (computedOf rs)
+built-agrees t rs b = encoded-agrees (automaton t) (byId rs) (b .encodes) (used rs) (positions-at t ∙ b .positions)

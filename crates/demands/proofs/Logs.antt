@@ -1,0 +1,195 @@
+-- A log whose reports fit the lent lists, scanned block by block on a table that additions built: each call gives what the automaton of the accepted rules
+-- gives, which computes. Assumes nothing.
+use mathlib.Core.Path.{_≡_, refl, sym, subst, ap, ap₂, _∙_}
+use mathlib.Core.Bool.{Bool, true, false, cond, true≢false, _&&_}
+use mathlib.Core.List.{List, [], _∷_, _++_, zip}
+use Prim.Native.Nat.{ℕ, suc, _+_, _-_, _≤_, _<_}
+use Prim.Native.String.{String}
+use native.Mathlib.Omega.{arith}
+use lib.Dec.{T, eqb, leb, ltb, leb→le, ltb→lt}
+use lib.ListN.{length, getD, replicate}
+use borrow.Author.Tests.{le-ltb}
+use Rattle.sets.proofs.Laws.{has-empty}
+use Rattle.table.specs.Layout.{maxRules, maxPositions, rulesOf, positionsOf}
+use Rattle.table.specs.Table.{all}
+use Rattle.table.specs.Automaton.{Automaton, automaton}
+use Rattle.table.proofs.Test.{all-at}
+use Rattle.stream.specs.declared.Stream.{Stream}
+use Rattle.stream.specs.Byte.{byteIds, byteState, stateAfter, idsOf, endsOf, fits, closeIds}
+use Rattle.stream.specs.Valid.{streamLimit}
+use Rattle.stream.specs.Calls.{fresh, space}
+use Rattle.stream.proofs.Results.{opened-valid}
+use Rattle.stream.proofs.Blocks.{fits-is, ends-count, closed-after, two-parts}
+use Rattle.regex.specs.Ordered.{Pair}
+use Rattle.regex.proofs.Logic.{and-T, true-T}
+use Rattle.rules.specs.Additions.{Accepted, used}
+use Rattle.demands.specs.Chain.{Outcome, by-scan, by-close, outcomesOf, OthersRefused}
+use Rattle.demands.specs.Demands.{Setting, tableIn, acceptedIn, streamIn}
+use Rattle.demands.specs.Cases.{bytes, Log, callsOn, expected, Gives}
+use Rattle.demands.proofs.Carried.{rules-at}
+use Rattle.demands.proofs.Bytewise.{pairsOf, pairs-append}
+use Rattle.demands.proofs.Agreeing.{Agree, Inside}
+use Rattle.demands.proofs.Computing.{computedOf, built-agrees}
+use Rattle.demands.proofs.Outcomes.{Call, scans, closes, callsIn, scanLeft, closeLeft, gives, moves, run, followed, BytesIn, runs-same}
+use Rattle.demands.proofs.Theorems.{built, table, begins}
+
+pub zip-length : (a b : List ℕ) → length b ≡ length a → length (zip a b) ≡ length a
+unfolding zip mathlib.Core.List.zipWith
+zip-length [] b e = refl
+zip-length (x ∷ a) [] e = absurd (omega (arith, e))
+zip-length (x ∷ a) (y ∷ b) e = ap suc (zip-length a b (omega (arith, e)))
+
+-- ---- one byte after the other
+
+module _ (w : Automaton) where
+  -- the state after a block, and the pairs that its bytes report
+  unfoldable pub pass : Stream → List ℕ → Stream
+  pass s [] = s
+  pass s (x ∷ l) = pass (byteState w s x) l
+
+  unfoldable pub passed : Stream → List ℕ → List Pair
+  passed s [] = []
+  passed s (x ∷ l) = zip (byteIds w s x) (replicate (length (byteIds w s x)) (suc (s .taken))) ++ passed (byteState w s x) l
+
+  -- the pairs that the closing reports
+  unfoldable pub final : Stream → List Pair
+  final s = zip (closeIds w s) (replicate (length (closeIds w s)) (s .taken))
+
+  pass-is : (block : List ℕ) (s : Stream) → stateAfter w s block (length block) ≡ pass s block
+  unfolding pass stateAfter
+  pass-is [] s = refl
+  pass-is (x ∷ l) s = two-parts w s (x ∷ []) l .state ∙ pass-is l (byteState w s x)
+
+  passed-is : (block : List ℕ) (s : Stream) → pairsOf w s block ≡ passed s block
+  unfolding passed stateAfter idsOf endsOf zip mathlib.Core.List.zipWith
+  passed-is [] s = refl
+  passed-is (x ∷ l) s =
+      let next : s .taken + 1 ≡ suc (s .taken) = omega arith in
+      pairs-append w s (x ∷ []) l
+      ∙ ap₂ (λ (n : ℕ) (r : List Pair). zip (byteIds w s x) (replicate (length (byteIds w s x)) n) ++ r) next (passed-is l (byteState w s x))
+
+  -- ---- every block taken whole
+
+  -- a block is of bytes, it stays below the stream's limit, and its reports fit
+  abbrev Small : Stream → String × List Pair → Bool
+  Small s b =
+      all (length (bytes (b .0))) (λ i. ltb (getD (bytes (b .0)) i 0) 256) && (leb (s .taken + length (bytes (b .0))) streamLimit && leb (length (b .1)) maxRules)
+
+  -- the blocks and the closing give the pairs that are said of them
+  unfoldable pub Follows : Stream → List (String × List Pair) → List Pair → Type 0
+  Follows s [] closing = final s ≡ closing
+  Follows s (b ∷ bs) closing = T (Small s b) × (passed s (bytes (b .0)) ≡ b .1) × Follows (pass s (bytes (b .0))) bs closing
+
+  module _ (s : Stream) (b : String × List Pair) (ok : T (Small s b)) where
+    abbrev block : List ℕ
+    block = bytes (b .0)
+
+    parts : T (all (length block) (λ i. ltb (getD block i 0) 256)) × T (leb (s .taken + length block) streamLimit && leb (length (b .1)) maxRules)
+    parts = and-T (all (length block) (λ i. ltb (getD block i 0) 256)) _ .0 ok
+
+    rest : T (leb (s .taken + length block) streamLimit) × T (leb (length (b .1)) maxRules)
+    rest = and-T (leb (s .taken + length block) streamLimit) (leb (length (b .1)) maxRules) .0 (parts .1)
+
+    of-bytes : (i : ℕ) → i < length block → getD block i 0 < 256
+    of-bytes i lt =
+        ltb→lt (getD block i 0) 256
+        (subst T (sym (all-at (λ i. ltb (getD block i 0) 256) (length block) (true-T (all (length block) (λ i. ltb (getD block i 0) 256)) (parts .0)) i lt)) tt)
+
+    below-limit : s .taken + length block ≤ streamLimit
+    below-limit = leb→le (s .taken + length block) streamLimit (rest .0)
+
+    few : passed s block ≡ b .1 → length (idsOf w s block (length block)) ≤ maxRules
+    few is =
+        omega (
+          arith,
+          leb→le (length (b .1)) maxRules (rest .1),
+          sym (ap length is),
+          ap length (passed-is block s),
+          zip-length (idsOf w s block (length block)) (endsOf w s block (length block)) (ends-count w s block (length block)),
+        )
+
+  module _ (few-rules : w .rules ≤ maxRules) (s : Stream) (running : s .closed ≡ false) where
+    scan-open : (len room : ℕ) → s .taken + len ≤ streamLimit → maxRules ≤ room → scanLeft (w .rules) s len room ≡ 0
+    unfolding scanLeft
+    scan-open len room short wide =
+        let a : ltb (streamLimit - s .taken) len ≡ false = le-ltb (streamLimit - s .taken) len (omega arith) in
+        let b : ltb room (w .rules) ≡ false = le-ltb room (w .rules) (omega arith) in
+        rw (running, a, b)
+
+    close-open : (room : ℕ) → maxRules ≤ room → closeLeft (w .rules) s room ≡ 0
+    unfolding closeLeft
+    close-open room wide = let b : ltb room (w .rules) ≡ false = le-ltb room (w .rules) (omega arith) in rw (running, b)
+
+    scan-whole : (b : String × List Pair) → T (Small s b) → passed s (bytes (b .0)) ≡ b .1 → (room : ℕ) → maxRules ≤ room
+        → (gives w s (scans (bytes (b .0)) room) ≡ by-scan 0 (length (bytes (b .0))) (b .1)) × (moves w s (scans (bytes (b .0)) room) ≡ pass s (bytes (b .0)))
+    unfolding gives moves
+    scan-whole b ok same room wide =
+        let block : List ℕ = bytes (b .0) in
+        let number : scanLeft (w .rules) s (length block) room ≡ 0 = scan-open (length block) room (below-limit s b ok) wide in
+        let taken : fits w s block room (length block) ≡ length block =
+        fits-is w s block room (length block) (length block) (omega arith) (omega (arith, few s b ok same)) (λ lt. absurd (omega arith)) in (
+          ap₂ (λ (n k : ℕ). cond (eqb n 0) (by-scan 0 k (zip (idsOf w s block k) (endsOf w s block k))) (by-scan n 0 [])) number taken
+              ∙ ap (by-scan 0 (length block)) (passed-is block s ∙ same),
+          ap₂ (λ (n k : ℕ). cond (eqb n 0) (stateAfter w s block k) s) number taken ∙ pass-is block s,
+        )
+
+    close-whole : (room : ℕ) → maxRules ≤ room → gives w s (closes room) ≡ by-close 0 (final s)
+    unfolding gives final
+    close-whole room wide =
+        ap (λ (n : ℕ). cond (eqb n 0) (by-close 0 (zip (closeIds w s) (replicate (length (closeIds w s)) (s .taken)))) (by-close n [])) (close-open room wide)
+
+  still-running : (block : List ℕ) (s : Stream) → s .closed ≡ false → pass s block .closed ≡ false
+  still-running block s running = ap (λ (x : Stream). x .closed) (sym (pass-is block s)) ∙ closed-after w s block (length block) ∙ running
+
+  roomy : w .rules ≤ maxRules → (bs : List (String × List Pair)) (closing : List Pair) (lent : ℕ → List ℕ × List ℕ)
+      → ((i : ℕ) → maxRules ≤ space (lent i .0) (lent i .1)) → (s : Stream) → s .closed ≡ false → Follows s bs closing
+      → run w s (callsIn (callsOn bs lent)) ≡ expected bs closing
+  unfolding callsOn callsIn run expected Follows
+  roomy few [] closing lent wide s running h =
+      ap (λ (o : Outcome). o ∷ []) (close-whole few s running (space (lent 0 .0) (lent 0 .1)) (wide 0) ∙ ap (by-close 0) h)
+  roomy few (b ∷ bs) closing lent wide s running h =
+      let g = scan-whole few s running b (h .0) (h .1) (space (lent 0 .0) (lent 0 .1)) (wide 0) in
+      ap₂ (λ (o : Outcome) (r : List Outcome). o ∷ r) (g .0)
+      (ap (λ (x : Stream). run w x (callsIn (callsOn bs (λ i. lent (suc i))))) (g .1)
+      ∙ roomy few bs closing (λ i. lent (suc i)) (λ i. wide (suc i)) (pass s (bytes (b .0))) (still-running (bytes (b .0)) s running) (h .2))
+
+  bytes-in : (bs : List (String × List Pair)) (closing : List Pair) (lent : ℕ → List ℕ × List ℕ) (s : Stream) → Follows s bs closing
+      → BytesIn (callsIn (callsOn bs lent))
+  unfolding callsOn callsIn BytesIn Follows
+  bytes-in [] closing lent s h = tt
+  bytes-in (b ∷ bs) closing lent s h = (of-bytes s b (h .0), bytes-in bs closing (λ i. lent (suc i)) (pass s (bytes (b .0))) (h .2))
+
+-- there are no other calls
+none-other : (t : List ℕ) (bs : List (String × List Pair)) (lent : ℕ → List ℕ × List ℕ) (s : Stream) → OthersRefused t s (callsOn bs lent)
+unfolding callsOn OthersRefused
+none-other t [] lent s = tt
+none-other t (b ∷ bs) lent s = none-other t bs (λ i. lent (suc i)) _
+
+-- ---- on a table that additions built
+
+-- the stream that is opened, by the accepted rules
+abbrev pub startOf : List Accepted → Stream
+startOf rs = fresh (length rs) (used rs) false
+
+module _ (c : Setting) where
+  abbrev rs : List Accepted
+  rs = acceptedIn c
+
+  pub opened-is : streamIn c ≡ startOf rs
+  opened-is = begins c ∙ ap₂ (λ (n m : ℕ). fresh n m false) (built c .rules) (built c .positions)
+
+  pub start-inside : Inside (automaton (tableIn c)) (computedOf rs) (built-agrees (tableIn c) rs (built c)) (startOf rs)
+  start-inside q lt h = absurd (true≢false (sym h ∙ has-empty q lt))
+
+  few-rules : computedOf rs .rules ≤ maxRules
+  few-rules = omega (arith, sym (built-agrees (tableIn c) rs (built c) .rules), rules-at (tableIn c), built c .passed .rules)
+
+  pub log-gives : (log : Log) → Follows (computedOf rs) (startOf rs) (log .blocks) (log .closing) → Gives c log
+  log-gives log h lent wide =
+      let t : List ℕ = tableIn c in
+      let v : Automaton = computedOf rs in
+      let agree : Agree (automaton t) v = built-agrees t rs (built c) in
+      followed t (table c) (callsOn (log .blocks) lent) (streamIn c) (opened-valid t (table c)) (none-other t (log .blocks) lent (streamIn c))
+      ∙ ap (λ (s : Stream). run (automaton t) s (callsIn (callsOn (log .blocks) lent))) opened-is
+      ∙ runs-same (automaton t) v agree (callsIn (callsOn (log .blocks) lent)) (startOf rs) start-inside (bytes-in v (log .blocks) (log .closing) lent (startOf rs) h)
+      ∙ roomy v few-rules (log .blocks) (log .closing) lent wide (startOf rs) refl h

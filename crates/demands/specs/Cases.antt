@@ -1,0 +1,158 @@
+-- The worked cases that the product's rules mark P, "proved together, in one table": each rule alone in an emptied table, and all of them in one. The rules
+-- are pattern bytes and flags, the logs are cut as the rules cut them, and all else is worked out by the definitions of the calls. The theorem is
+-- `worked-cases` of proofs/Cases.antt. Assumes nothing: these are definitions.
+use mathlib.Core.Path.{_≡_}
+use mathlib.Core.List.{List, [], _∷_, map, List·Memᴰ}
+use Prim.Native.Nat.{ℕ, suc, _≤_, _%_, _^_}
+use Prim.Native.Char.{code}
+use Prim.Native.String.{String}
+use native.Mathlib.Omega.{arith}
+use lib.ListN.{length}
+use Rattle.table.specs.Layout.{tableWords, maxRules}
+use Rattle.table.specs.Table.{emptied}
+use Rattle.stream.specs.Calls.{space}
+use Rattle.regex.specs.Ordered.{Pair}
+use Rattle.rules.specs.declared.Added.{Added}
+use Rattle.rules.specs.Add.{answer, addAnswer, addWords}
+use Rattle.rules.specs.Additions.{Addition}
+use Rattle.demands.specs.Chain.{Item, scan, close, Outcome, by-scan, by-close, outcomesOf}
+use Rattle.demands.specs.Demands.{Setting, tableIn, streamIn}
+
+-- the bytes of a text
+unfoldable pub bytes : String → List ℕ
+bytes Prim.Native.String.[] = []
+bytes (Prim.Native.String._∷_ c text) = code c ∷ bytes text
+
+-- ---- what a case says
+
+-- a log: each block with the pairs that its scan reports, and the pairs that the closing reports
+pub record Log : Type 0 where
+  pub blocks : List (String × List Pair)
+  pub closing : List Pair
+
+-- what is said of a rule: the number and place of its refusal, or the logs to try
+pub data Verdict : Type 0 where
+  refused : (number place : ℕ) → Verdict
+  accepted : List Log → Verdict
+
+pub record Case : Type 0 where
+  pub rule : Addition
+  pub verdict : Verdict
+
+-- ---- what it means that a case holds
+
+-- the calls of a log: a scan of each block as it is cut, then a closing; call i is lent the two lists `lent i`
+unfoldable pub callsOn : List (String × List Pair) → (lent : ℕ → List ℕ × List ℕ) → List Item
+callsOn [] lent = close (lent 0 .0) (lent 0 .1) ∷ []
+callsOn (b ∷ bs) lent = scan (bytes (b .0)) (lent 0 .0) (lent 0 .1) ∷ callsOn bs (λ i. lent (suc i))
+
+-- every call is accepted, every scan takes its whole block, and the reports are those of the log
+unfoldable pub expected : List (String × List Pair) → List Pair → List Outcome
+expected [] closing = by-close 0 closing ∷ []
+expected (b ∷ bs) closing = by-scan 0 (length (bytes (b .0))) (b .1) ∷ expected bs closing
+
+-- "Opening .., scans of the blocks, a closing": whatever the lists hold before, if both have 32 slots
+abbrev pub Gives : Setting → Log → Type 0
+Gives c log = (lent : ℕ → List ℕ × List ℕ) → ((i : ℕ) → maxRules ≤ space (lent i .0) (lent i .1))
+    → outcomesOf (tableIn c) (streamIn c) (callsOn (log .blocks) lent) ≡ expected (log .blocks) (log .closing)
+
+abbrev pub AllGive : Setting → List Log → Type 0
+AllGive c logs = (log : Log) → List·Memᴰ log logs → Gives c log
+
+abbrev pub answerIn : Verdict → Added
+answerIn (refused number place) = answer number place
+answerIn (accepted logs) = answer 0 0
+
+abbrev pub logsIn : Verdict → List Log
+logsIn (refused number place) = []
+logsIn (accepted logs) = logs
+
+-- the rule alone, added to any words that were emptied
+abbrev pub Alone : Case → Type 0
+Alone k = (words : List ℕ) (long : tableWords ≤ length words)
+    → (addAnswer (emptied words) (k .rule .id) (k .rule .flags) (k .rule .pattern) ≡ answerIn (k .verdict))
+    × AllGive (record { words = words; long = long; additions = k .rule ∷ [] }) (logsIn (k .verdict))
+
+-- the answers of a list of additions, one after the other
+unfoldable pub answersOf : List ℕ → List Addition → List Added
+answersOf t [] = []
+answersOf t (a ∷ l) = addAnswer t (a .id) (a .flags) (a .pattern) ∷ answersOf (addWords t (a .id) (a .flags) (a .pattern)) l
+
+-- the rules of all cases, one after the other in one table: each answer is as for the rule alone, and each log gives the pairs of all the accepted rules
+abbrev pub rulesIn : List Case → List Addition
+rulesIn cases = map (λ (k : Case). k .rule) cases
+
+abbrev pub Together : List Case → List Log → Type 0
+Together cases logs = (words : List ℕ) (long : tableWords ≤ length words)
+    → (answersOf (emptied words) (rulesIn cases) ≡ map (λ (k : Case). answerIn (k .verdict)) cases)
+    × AllGive (record { words = words; long = long; additions = rulesIn cases }) logs
+
+-- ---- the table
+
+-- "Ids: any 32-bit number": the number is taken to 32 bits, which those below have
+abbrev rule : (id flags : ℕ) → String → Addition
+rule id flags pattern = record { id = id % 2 ^ 32; narrow = omega arith; flags = flags; pattern = bytes pattern }
+
+-- the end offsets of the one rule that there is
+abbrev ends : ℕ → List ℕ → List Pair
+ends id offsets = map (λ (e : ℕ). (id, e)) offsets
+
+abbrev log : ℕ → List (String × List ℕ) → (closing : List ℕ) → Log
+log id blocks closing = record { blocks = map (λ (b : String × List ℕ). (b .0, ends id (b .1))) blocks; closing = ends id closing }
+
+abbrev hits : (id flags : ℕ) → String → List Log → Case
+hits id flags pattern logs = record { rule = rule id flags pattern; verdict = accepted logs }
+
+abbrev refuses : (id flags : ℕ) → String → (number place : ℕ) → Case
+refuses id flags pattern number place = record { rule = rule id flags pattern; verdict = refused number place }
+
+unfoldable pub cases : List Case
+cases =
+    -- "`foo.*bar` on `fooxyzbar`, `baz`, `qbar`: 9, 16."
+    hits 7 0 "foo.*bar" (log 7 (("fooxyzbar", 9 ∷ []) ∷ ("baz", []) ∷ ("qbar", 16 ∷ []) ∷ []) [] ∷ [])
+    -- "`ab+` on `abbb`: 2, 3, 4; with flag 8: 2."
+    ∷ hits 5 0 "ab+" (log 5 (("abbb", 2 ∷ 3 ∷ 4 ∷ []) ∷ []) [] ∷ [])
+    ∷ hits 6 8 "ab+" (log 6 (("abbb", 2 ∷ []) ∷ []) [] ∷ [])
+    -- "`(a(?i)b|c)` on `aBC`: 2, 3; on `AB`: none."
+    ∷ hits 4 0 "(a(?i)b|c)" (log 4 (("aBC", 2 ∷ 3 ∷ []) ∷ []) [] ∷ log 4 (("AB", []) ∷ []) [] ∷ [])
+    -- "`{,}` on itself: 3. `aX{,4}` on `aXX`: 1, 2, 3."
+    ∷ hits 9 0 "{,}" (log 9 (("{,}", 3 ∷ []) ∷ []) [] ∷ [])
+    ∷ hits 8 0 "aX{,4}" (log 8 (("aXX", 1 ∷ 2 ∷ 3 ∷ []) ∷ []) [] ∷ [])
+    -- "`a\z` on `aa`: 2 at closing. `a|a\z`: 1, 2 by scanning, none at closing."
+    ∷ hits 2 0 "a\\z" (log 2 (("aa", []) ∷ []) (2 ∷ []) ∷ [])
+    ∷ hits 3 0 "a|a\\z" (log 3 (("aa", 1 ∷ 2 ∷ []) ∷ []) [] ∷ [])
+    -- "`^a` on `aa`: 1. `[]a]` on `]`: 1."
+    ∷ hits 1 0 "^a" (log 1 (("aa", 1 ∷ []) ∷ []) [] ∷ [])
+    ∷ hits 12 0 "[]a]" (log 12 (("]", 1 ∷ []) ∷ []) [] ∷ [])
+    -- "`a$` on `a` and byte 10: none."
+    ∷ hits 11 0 "a$" (log 11 (("a\n", []) ∷ []) [] ∷ [])
+    -- "`[z-a]` 9 at 1; `a*+` 14 at 1; `a)` 12 at 1; `(a` 12 at 2; `\x{100}` 7 at 0; `X{,4}` 15 at 5; empty pattern 15 at 0."
+    ∷ refuses 21 0 "[z-a]" 9 1
+    ∷ refuses 22 0 "a*+" 14 1
+    ∷ refuses 23 0 "a)" 12 1
+    ∷ refuses 24 0 "(a" 12 2
+    ∷ refuses 25 0 "\\x{100}" 7 0
+    ∷ refuses 26 0 "X{,4}" 15 5
+    ∷ refuses 27 0 "" 15 0
+    ∷ []
+
+abbrev cut : List (String × List Pair) → (closing : List Pair) → Log
+cut blocks closing = record { blocks = blocks; closing = closing }
+
+-- the same logs with all the rules in one table: by rising id within a byte, whatever the order of their addition
+unfoldable pub logs : List Log
+logs =
+    cut (("fooxyzbar", (3, 8) ∷ (8, 8) ∷ (12, 8) ∷ (7, 9) ∷ []) ∷ ("baz", (3, 11) ∷ (8, 11) ∷ (12, 11) ∷ []) ∷ ("qbar", (3, 15) ∷ (8, 15) ∷ (12, 15) ∷ (7, 16) ∷ []) ∷ []) []
+    ∷ cut (("abbb", (1, 1) ∷ (3, 1) ∷ (8, 1) ∷ (12, 1) ∷ (4, 2) ∷ (5, 2) ∷ (6, 2) ∷ (5, 3) ∷ (5, 4) ∷ []) ∷ []) []
+    ∷ cut (("aBC", (1, 1) ∷ (3, 1) ∷ (8, 1) ∷ (12, 1) ∷ (4, 2) ∷ (4, 3) ∷ []) ∷ []) []
+    ∷ cut (("AB", []) ∷ []) []
+    ∷ cut (("{,}", (9, 3) ∷ []) ∷ []) []
+    ∷ cut (("aXX", (1, 1) ∷ (3, 1) ∷ (8, 1) ∷ (12, 1) ∷ (8, 2) ∷ (8, 3) ∷ []) ∷ []) []
+    ∷ cut (("aa", (1, 1) ∷ (3, 1) ∷ (8, 1) ∷ (12, 1) ∷ (3, 2) ∷ (8, 2) ∷ (12, 2) ∷ []) ∷ []) ((2, 2) ∷ (11, 2) ∷ [])
+    ∷ cut (("]", (12, 1) ∷ []) ∷ []) []
+    ∷ cut (("a\n", (1, 1) ∷ (3, 1) ∷ (8, 1) ∷ (12, 1) ∷ []) ∷ []) []
+    ∷ []
+
+-- every case holds, the rule alone; and all of them hold together
+abbrev pub WorkedCases : Type 0
+WorkedCases = ((k : Case) → List·Memᴰ k cases → Alone k) × Together cases logs
