@@ -1,9 +1,10 @@
 -- The worked cases come out as they must: the checker reads every pattern, adds every rule and follows every log by the definitions, with the automaton of
 -- the accepted rules in place of 4,096 words, and what is proved of it (Logs) carries the answer to the calls. Assumes nothing.
 use mathlib.Core.Path.{_≡_, refl, sym, subst, ap, ap₂, _∙_}
-use mathlib.Core.List.{List, [], _∷_, map, zip, List·Memᴰ, List·Memᴰ·head, List·Memᴰ·tail, List·Memᴰ·not-nil}
+use mathlib.Core.Bool.{Bool, true, false, cond, _&&_}
+use mathlib.Core.List.{List, [], _∷_, map, zip, List·Memᴰ, List·Memᴰ·head, List·Memᴰ·tail, List·Memᴰ·not-nil, cons-ne-nil}
 use Prim.Native.Nat.{ℕ, _≤_}
-use lib.Dec.{T}
+use lib.Dec.{T, eqb, eqb→eq}
 use lib.ListN.{length}
 use Rattle.sets.specs.Set.{on, has, setOf, wordOf, any, emptySet, insertedRange, unionOf, complementOf, inserted, fullSet}
 use Rattle.kinds.specs.Kind.{isDigit, isLower, isUpper}
@@ -19,153 +20,91 @@ use Rattle.table.specs.Table.{all, emptied}
 use Rattle.regex.specs.Count.{copied, capped, saturating, nullable}
 use Rattle.regex.specs.Form.{write, positions, repeated, copies, optionals}
 use Rattle.regex.specs.Automaton.{null, first, last, follow, items}
+use Rattle.regex.proofs.Logic.{and-T}
 use Rattle.pattern.specs.Walk.{chained, chosen, one, repeating, closing, opening, act, next, finish, walk}
 use Rattle.pattern.specs.Read.{judged, readOf, optionsOf}
 use Rattle.stream.specs.Byte.{starts, nextLive, ends, endsAtEnd, runIds, runMarks, byteIds, byteState, stateAfter, idsOf, endsOf, closeIds}
 use Rattle.rules.specs.declared.Added.{Added}
-use Rattle.rules.specs.Add.{unknownFlag, placed, addAnswer, addWords}
+use Rattle.rules.specs.Add.{answer, unknownFlag, placed, addAnswer, addWords}
 use Rattle.rules.specs.Additions.{Addition, Accepted, used, taken, nextAnswer, withNew, afterNext, acceptedAfter}
 use Rattle.rules.proofs.Sorted.{laid, insert, into}
 use Rattle.rules.proofs.Additions.{Built, built-none, built-next, answer-built}
 use Rattle.demands.specs.Demands.{Setting, acceptedIn}
 use Rattle.demands.specs.Cases.{bytes, Log, Case, expected, Gives, AllGive, answerIn, logsIn, Alone, answersOf, rulesIn, Together, cases, logs, WorkedCases}
 use Rattle.demands.proofs.Computing.{owner, computed, computedOf}
-use Rattle.demands.proofs.Logs.{pass, passed, final, Follows, startOf, log-gives}
+use Rattle.demands.proofs.Logs.{same, pass, passed, final, follows, startOf, log-gives}
 
 -- ---- the cases without a table, which compute
 
--- each of these logs, followed by the automaton of some accepted rules
-unfoldable AllRun : List Accepted → List Log → Type 0
-AllRun rs [] = Unit {0}
-AllRun rs (log ∷ logs) = Follows (computedOf rs) (startOf rs) (log .blocks) (log .closing) × AllRun rs logs
+-- the log, followed by the automaton of some accepted rules
+abbrev runs : List Accepted → Log → Bool
+runs rs log = follows (computedOf rs) (startOf rs) (log .blocks) (log .closing)
+
+unfoldable allRun : List Accepted → List Log → Bool
+allRun rs [] = true
+allRun rs (log ∷ l) = runs rs log && allRun rs l
+
+abbrev answers : Added → Added → Bool
+answers a b = eqb (a .number) (b .number) && eqb (a .place) (b .place)
 
 -- a rule alone
-abbrev Right : Case → Type 0
-Right k = (nextAnswer [] (k .rule) ≡ answerIn (k .verdict)) × AllRun (acceptedAfter [] (k .rule ∷ [])) (logsIn (k .verdict))
+unfoldable right : Case → Bool
+right k = answers (nextAnswer [] (k .rule)) (answerIn (k .verdict)) && allRun (acceptedAfter [] (k .rule ∷ [])) (logsIn (k .verdict))
 
-unfoldable AllRight : List Case → Type 0
-AllRight [] = Unit {0}
-AllRight (k ∷ ks) = Right k × AllRight ks
+-- those of a list that fail a test
+unfoldable failing : {A : Type 0} → (A → Bool) → List A → List A
+failing test [] = []
+failing test (x ∷ l) = cond (test x) (failing test l) (x ∷ failing test l)
 
-all-right : AllRight cases
-unfolding AllRun AllRight on has setOf wordOf any emptySet insertedRange unionOf complementOf inserted fullSet isDigit isLower isUpper otherCase caseClosed digitOf digits valueFrom numeralOf bracedOf shortOf flipped64 raised controlOf typeOf namedOf placedOf hexOf octalOf isAlnum escapeOf lower opensName memberOf rangeFault ranges memberAt membersOf classOf joined settled lettersOf openingOf bounded open-ended bracesOf formOf marked quantifierOf escaped lexemeOf itemSet copied capped saturating nullable write positions repeated copies optionals null first last follow items chained chosen one repeating closing opening act next finish walk judged readOf optionsOf unknownFlag placed used taken nextAnswer withNew afterNext acceptedAfter laid insert into owner computed starts nextLive ends endsAtEnd runIds runMarks byteIds byteState closeIds all bytes cases logs pass passed final Follows zip mathlib.Core.List.zipWith
-all-right = (
-  (refl, ((tt, refl, (tt, refl, (tt, refl, refl))), tt)),
-  (
-    (refl, ((tt, refl, refl), tt)),
-    (
-      (refl, ((tt, refl, refl), tt)),
-      (
-        (refl, ((tt, refl, refl), ((tt, refl, refl), tt))),
-        (
-          (refl, ((tt, refl, refl), tt)),
-          (
-            (refl, ((tt, refl, refl), tt)),
-            (
-              (refl, ((tt, refl, refl), tt)),
-              (
-                (refl, ((tt, refl, refl), tt)),
-                (
-                  (refl, ((tt, refl, refl), tt)),
-                  (
-                    (refl, ((tt, refl, refl), tt)),
-                    (
-                      (refl, ((tt, refl, refl), tt)),
-                      (
-                        (refl, tt),
-                        (
-                          (refl, tt),
-                          (
-                            (refl, tt),
-                            (
-                              (refl, tt),
-                              (
-                                (refl, tt),
-                                (
-                                  (refl, tt),
-                                  (
-                                    (refl, tt),
-                                    tt,
-                                  ),
-                                ),
-                              ),
-                            ),
-                          ),
-                        ),
-                      ),
-                    ),
-                  ),
-                ),
-              ),
-            ),
-          ),
-        ),
-      ),
-    ),
-  ),
-)
+none-wrong : failing right cases ≡ []
+unfolding allRun right failing on has setOf wordOf any emptySet insertedRange unionOf complementOf inserted fullSet isDigit isLower isUpper otherCase caseClosed digitOf digits valueFrom numeralOf bracedOf shortOf flipped64 raised controlOf typeOf namedOf placedOf hexOf octalOf isAlnum escapeOf lower opensName memberOf rangeFault ranges memberAt membersOf classOf joined settled lettersOf openingOf bounded open-ended bracesOf formOf marked quantifierOf escaped lexemeOf itemSet copied capped saturating nullable write positions repeated copies optionals null first last follow items chained chosen one repeating closing opening act next finish walk judged readOf optionsOf unknownFlag placed used taken nextAnswer withNew afterNext acceptedAfter laid insert into owner computed starts nextLive ends endsAtEnd runIds runMarks byteIds byteState closeIds all bytes cases logs pass passed final follows same zip mathlib.Core.List.zipWith
+none-wrong = refl
 
--- the answers of a list of additions after some accepted rules
+-- all the rules in one table: the answers of the additions after some accepted rules, and the logs
 unfoldable nextAnswers : List Accepted → List Addition → List Added
 nextAnswers rs [] = []
 nextAnswers rs (a ∷ l) = nextAnswer rs a ∷ nextAnswers (afterNext rs a) l
 
--- all the rules in one table
 answers-right : nextAnswers [] (rulesIn cases) ≡ map (λ (k : Case). answerIn (k .verdict)) cases
-unfolding nextAnswers on has setOf wordOf any emptySet insertedRange unionOf complementOf inserted fullSet isDigit isLower isUpper otherCase caseClosed digitOf digits valueFrom numeralOf bracedOf shortOf flipped64 raised controlOf typeOf namedOf placedOf hexOf octalOf isAlnum escapeOf lower opensName memberOf rangeFault ranges memberAt membersOf classOf joined settled lettersOf openingOf bounded open-ended bracesOf formOf marked quantifierOf escaped lexemeOf itemSet copied capped saturating nullable write positions repeated copies optionals null first last follow items chained chosen one repeating closing opening act next finish walk judged readOf optionsOf unknownFlag placed used taken nextAnswer withNew afterNext acceptedAfter laid insert into owner computed starts nextLive ends endsAtEnd runIds runMarks byteIds byteState closeIds all bytes cases logs pass passed final Follows zip mathlib.Core.List.zipWith
+unfolding nextAnswers on has setOf wordOf any emptySet insertedRange unionOf complementOf inserted fullSet isDigit isLower isUpper otherCase caseClosed digitOf digits valueFrom numeralOf bracedOf shortOf flipped64 raised controlOf typeOf namedOf placedOf hexOf octalOf isAlnum escapeOf lower opensName memberOf rangeFault ranges memberAt membersOf classOf joined settled lettersOf openingOf bounded open-ended bracesOf formOf marked quantifierOf escaped lexemeOf itemSet copied capped saturating nullable write positions repeated copies optionals null first last follow items chained chosen one repeating closing opening act next finish walk judged readOf optionsOf unknownFlag placed used taken nextAnswer withNew afterNext acceptedAfter laid insert into owner computed starts nextLive ends endsAtEnd runIds runMarks byteIds byteState closeIds all bytes cases logs pass passed final follows same zip mathlib.Core.List.zipWith
 answers-right = refl
 
-logs-right : AllRun (acceptedAfter [] (rulesIn cases)) logs
-unfolding AllRun on has setOf wordOf any emptySet insertedRange unionOf complementOf inserted fullSet isDigit isLower isUpper otherCase caseClosed digitOf digits valueFrom numeralOf bracedOf shortOf flipped64 raised controlOf typeOf namedOf placedOf hexOf octalOf isAlnum escapeOf lower opensName memberOf rangeFault ranges memberAt membersOf classOf joined settled lettersOf openingOf bounded open-ended bracesOf formOf marked quantifierOf escaped lexemeOf itemSet copied capped saturating nullable write positions repeated copies optionals null first last follow items chained chosen one repeating closing opening act next finish walk judged readOf optionsOf unknownFlag placed used taken nextAnswer withNew afterNext acceptedAfter laid insert into owner computed starts nextLive ends endsAtEnd runIds runMarks byteIds byteState closeIds all bytes cases logs pass passed final Follows zip mathlib.Core.List.zipWith
-logs-right = (
-  (tt, refl, (tt, refl, (tt, refl, refl))),
-  (
-    (tt, refl, refl),
-    (
-      (tt, refl, refl),
-      (
-        (tt, refl, refl),
-        (
-          (tt, refl, refl),
-          (
-            (tt, refl, refl),
-            (
-              (tt, refl, refl),
-              (
-                (tt, refl, refl),
-                (
-                  (tt, refl, refl),
-                  tt,
-                ),
-              ),
-            ),
-          ),
-        ),
-      ),
-    ),
-  ),
-)
+no-log-wrong : failing (runs (acceptedAfter [] (rulesIn cases))) logs ≡ []
+unfolding failing on has setOf wordOf any emptySet insertedRange unionOf complementOf inserted fullSet isDigit isLower isUpper otherCase caseClosed digitOf digits valueFrom numeralOf bracedOf shortOf flipped64 raised controlOf typeOf namedOf placedOf hexOf octalOf isAlnum escapeOf lower opensName memberOf rangeFault ranges memberAt membersOf classOf joined settled lettersOf openingOf bounded open-ended bracesOf formOf marked quantifierOf escaped lexemeOf itemSet copied capped saturating nullable write positions repeated copies optionals null first last follow items chained chosen one repeating closing opening act next finish walk judged readOf optionsOf unknownFlag placed used taken nextAnswer withNew afterNext acceptedAfter laid insert into owner computed starts nextLive ends endsAtEnd runIds runMarks byteIds byteState closeIds all bytes cases logs pass passed final follows same zip mathlib.Core.List.zipWith
+no-log-wrong = refl
 
 -- ---- carried to the calls
 
+each : {A : Type 0} (test : A → Bool) (l : List A) → failing test l ≡ [] → (x : A) → List·Memᴰ x l → T (test x)
+unfolding failing
+each test [] e x m = absurd (List·Memᴰ·not-nil m)
+each {A} test (y ∷ l) e x m = go (test y) refl e m (λ r n. each test l r x n)
+  where
+    go : (b : Bool) → test y ≡ b → cond b (failing test l) (y ∷ failing test l) ≡ [] → List·Memᴰ x (y ∷ l)
+        → (failing test l ≡ [] → List·Memᴰ x l → T (test x)) → T (test x)
+    go true f e (List·Memᴰ·head h) later = subst (λ (z : A). T (test z)) (sym h) (subst T (sym f) tt)
+    go true f e (List·Memᴰ·tail n) later = later e n
+    go false f e n later = absurd (cons-ne-nil y (failing test l) e)
+
 module _ (c : Setting) where
-  all-give : (logs : List Log) → AllRun (acceptedIn c) logs → AllGive c logs
-  unfolding AllRun
+  all-give : (logs : List Log) → T (allRun (acceptedIn c) logs) → AllGive c logs
+  unfolding allRun
   all-give [] h log m = absurd (List·Memᴰ·not-nil m)
-  all-give (x ∷ l) h log (List·Memᴰ·head e) = subst (Gives c) (sym e) (log-gives c x (h .0))
-  all-give (x ∷ l) h log (List·Memᴰ·tail m) = all-give l (h .1) log m
+  all-give (x ∷ l) h log (List·Memᴰ·head e) = subst (Gives c) (sym e) (log-gives c x (and-T (runs (acceptedIn c) x) (allRun (acceptedIn c) l) .0 h .0))
+  all-give (x ∷ l) h log (List·Memᴰ·tail m) = all-give l (and-T (runs (acceptedIn c) x) (allRun (acceptedIn c) l) .0 h .1) log m
 
-right-alone : (k : Case) → Right k → Alone k
-right-alone k h words long = (
-  answer-built (emptied words) [] (built-none words long) (k .rule) ∙ h .0,
-  all-give (record { words = words; long = long; additions = k .rule ∷ [] }) (logsIn (k .verdict)) (h .1),
-)
+same-answer : (a b : Added) → T (answers a b) → a ≡ b
+same-answer a b h =
+    let x = and-T (eqb (a .number) (b .number)) (eqb (a .place) (b .place)) .0 h in
+    ap₂ answer (eqb→eq (a .number) (b .number) (x .0)) (eqb→eq (a .place) (b .place) (x .1))
 
-each-alone : (ks : List Case) → AllRight ks → (k : Case) → List·Memᴰ k ks → Alone k
-unfolding AllRight
-each-alone [] h k m = absurd (List·Memᴰ·not-nil m)
-each-alone (x ∷ ks) h k (List·Memᴰ·head e) = subst Alone (sym e) (right-alone x (h .0))
-each-alone (x ∷ ks) h k (List·Memᴰ·tail m) = each-alone ks (h .1) k m
+right-alone : (k : Case) → T (right k) → Alone k
+unfolding right
+right-alone k h words long =
+    let x = and-T (answers (nextAnswer [] (k .rule)) (answerIn (k .verdict))) (allRun (acceptedAfter [] (k .rule ∷ [])) (logsIn (k .verdict))) .0 h in (
+      answer-built (emptied words) [] (built-none words long) (k .rule) ∙ same-answer (nextAnswer [] (k .rule)) (answerIn (k .verdict)) (x .0),
+      all-give (record { words = words; long = long; additions = k .rule ∷ [] }) (logsIn (k .verdict)) (x .1),
+    )
 
 answers-built : (l : List Addition) (t : List ℕ) (rs : List Accepted) → Built t rs → answersOf t l ≡ nextAnswers rs l
 unfolding answersOf nextAnswers
@@ -176,9 +115,10 @@ answers-built (a ∷ l) t rs b =
 
 pub worked-cases : WorkedCases
 worked-cases = (
-  each-alone cases all-right,
+  λ k m. right-alone k (each right cases none-wrong k m),
   λ words long. (
     answers-built (rulesIn cases) (emptied words) [] (built-none words long) ∙ answers-right,
-    all-give (record { words = words; long = long; additions = rulesIn cases }) logs logs-right,
+    λ log m. log-gives (record { words = words; long = long; additions = rulesIn cases }) log
+        (each (runs (acceptedAfter [] (rulesIn cases))) logs no-log-wrong log m),
   ),
 )

@@ -43,6 +43,20 @@ kept t (opening l) h = refl
 kept t (scanning l s block ids offsets) h = refl
 kept t (closing l s ids offsets) h = refl
 
+-- the other calls of a list, each asked on the same table
+unfoldable pub Refused : List ℕ → List Item → Type 0
+Refused t [] = Unit {0}
+Refused t (scan block ids offsets ∷ l) = Refused t l
+Refused t (close ids offsets ∷ l) = Refused t l
+Refused t (other o ∷ l) = (¬ (numberOf t o ≡ 0)) × Refused t l
+
+pub refused-others : (t : List ℕ) (l : List Item) (s : Stream) → Refused t l → OthersRefused t s l
+unfolding Refused OthersRefused
+refused-others t [] s h = tt
+refused-others t (scan block ids offsets ∷ l) s h = refused-others t l (scanned t s block ids offsets .stream) h
+refused-others t (close ids offsets ∷ l) s h = refused-others t l (closed t s ids offsets .stream) h
+refused-others t (other o ∷ l) s h = (h .0, subst (λ (u : List ℕ). OthersRefused u s l) (sym (kept t o (h .0))) (refused-others t l s (h .1)))
+
 pub takes-le : (t : List ℕ) (s : Stream) (block : List ℕ) (room : ℕ) → takenBy t s block room ≤ length block
 unfolding takenBy
 takes-le t s block room = fits-le (automaton t) s block room (length block)

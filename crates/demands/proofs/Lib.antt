@@ -15,3 +15,4 @@ pub mod Theorems
 pub mod Demand1
 pub mod Logs
 pub mod Cases
+pub mod Example

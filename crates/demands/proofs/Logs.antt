@@ -6,7 +6,7 @@ use mathlib.Core.List.{List, [], _∷_, _++_, zip}
 use Prim.Native.Nat.{ℕ, suc, _+_, _-_, _≤_, _<_}
 use Prim.Native.String.{String}
 use native.Mathlib.Omega.{arith}
-use lib.Dec.{T, eqb, leb, ltb, leb→le, ltb→lt}
+use lib.Dec.{T, eqb, leb, ltb, eqb→eq, leb→le, ltb→lt}
 use lib.ListN.{length, getD, replicate}
 use borrow.Author.Tests.{le-ltb}
 use Rattle.sets.proofs.Laws.{has-empty}
@@ -23,7 +23,7 @@ use Rattle.stream.proofs.Blocks.{fits-is, ends-count, closed-after, two-parts}
 use Rattle.regex.specs.Ordered.{Pair}
 use Rattle.regex.proofs.Logic.{and-T, true-T}
 use Rattle.rules.specs.Additions.{Accepted, used}
-use Rattle.demands.specs.Chain.{Outcome, by-scan, by-close, outcomesOf, OthersRefused}
+use Rattle.demands.specs.Chain.{Outcome, by-scan, by-close, OthersRefused, Bytes}
 use Rattle.demands.specs.Demands.{Setting, tableIn, acceptedIn, streamIn}
 use Rattle.demands.specs.Cases.{bytes, Log, callsOn, expected, Gives}
 use Rattle.demands.proofs.Carried.{rules-at}
@@ -38,6 +38,29 @@ unfolding zip mathlib.Core.List.zipWith
 zip-length [] b e = refl
 zip-length (x ∷ a) [] e = absurd (omega (arith, e))
 zip-length (x ∷ a) (y ∷ b) e = ap suc (zip-length a b (omega (arith, e)))
+
+-- whether two lists of pairs are the same
+unfoldable pub same : List Pair → List Pair → Bool
+same [] [] = true
+same [] (q ∷ m) = false
+same (p ∷ l) [] = false
+same (p ∷ l) (q ∷ m) = eqb (p .0) (q .0) && (eqb (p .1) (q .1) && same l m)
+
+same-eq : (l m : List Pair) → T (same l m) → l ≡ m
+unfolding same
+same-eq [] [] h = refl
+same-eq [] (q ∷ m) h = absurd h
+same-eq (p ∷ l) [] h = absurd h
+same-eq (p ∷ l) (q ∷ m) h =
+    let x = and-T (eqb (p .0) (q .0)) _ .0 h in
+    let y = and-T (eqb (p .1) (q .1)) (same l m) .0 (x .1) in
+    ap₂ (λ (r : Pair) (k : List Pair). r ∷ k) (ap₂ (λ (i e : ℕ). (i, e)) (eqb→eq (p .0) (q .0) (x .0)) (eqb→eq (p .1) (q .1) (y .0))) (same-eq l m (y .1))
+
+-- a block is of bytes, tested
+pub bytes-tested : (block : List ℕ) → T (all (length block) (λ i. ltb (getD block i 0) 256)) → Bytes block
+bytes-tested block h i lt =
+    let f : ℕ → Bool = λ i. ltb (getD block i 0) 256 in
+    ltb→lt (getD block i 0) 256 (subst T (sym (all-at f (length block) (true-T (all (length block) f) h) i lt)) tt)
 
 -- ---- one byte after the other
 
@@ -75,10 +98,18 @@ module _ (w : Automaton) where
   Small s b =
       all (length (bytes (b .0))) (λ i. ltb (getD (bytes (b .0)) i 0) 256) && (leb (s .taken + length (bytes (b .0))) streamLimit && leb (length (b .1)) maxRules)
 
-  -- the blocks and the closing give the pairs that are said of them
-  unfoldable pub Follows : Stream → List (String × List Pair) → List Pair → Type 0
-  Follows s [] closing = final s ≡ closing
-  Follows s (b ∷ bs) closing = T (Small s b) × (passed s (bytes (b .0)) ≡ b .1) × Follows (pass s (bytes (b .0))) bs closing
+  -- whether the blocks and the closing give the pairs that are said of them
+  unfoldable pub follows : Stream → List (String × List Pair) → List Pair → Bool
+  follows s [] closing = same (final s) closing
+  follows s (b ∷ bs) closing = Small s b && (same (passed s (bytes (b .0))) (b .1) && follows (pass s (bytes (b .0))) bs closing)
+
+  next-block : (s : Stream) (b : String × List Pair) (bs : List (String × List Pair)) (closing : List Pair) → T (follows s (b ∷ bs) closing)
+      → T (Small s b) × (passed s (bytes (b .0)) ≡ b .1) × T (follows (pass s (bytes (b .0))) bs closing)
+  unfolding follows
+  next-block s b bs closing h =
+      let x = and-T (Small s b) _ .0 h in
+      let y = and-T (same (passed s (bytes (b .0))) (b .1)) (follows (pass s (bytes (b .0))) bs closing) .0 (x .1) in
+      (x .0, same-eq (passed s (bytes (b .0))) (b .1) (y .0), y .1)
 
   module _ (s : Stream) (b : String × List Pair) (ok : T (Small s b)) where
     abbrev block : List ℕ
@@ -90,10 +121,8 @@ module _ (w : Automaton) where
     rest : T (leb (s .taken + length block) streamLimit) × T (leb (length (b .1)) maxRules)
     rest = and-T (leb (s .taken + length block) streamLimit) (leb (length (b .1)) maxRules) .0 (parts .1)
 
-    of-bytes : (i : ℕ) → i < length block → getD block i 0 < 256
-    of-bytes i lt =
-        ltb→lt (getD block i 0) 256
-        (subst T (sym (all-at (λ i. ltb (getD block i 0) 256) (length block) (true-T (all (length block) (λ i. ltb (getD block i 0) 256)) (parts .0)) i lt)) tt)
+    of-bytes : Bytes block
+    of-bytes = bytes-tested block (parts .0)
 
     below-limit : s .taken + length block ≤ streamLimit
     below-limit = leb→le (s .taken + length block) streamLimit (rest .0)
@@ -142,22 +171,25 @@ module _ (w : Automaton) where
   still-running block s running = ap (λ (x : Stream). x .closed) (sym (pass-is block s)) ∙ closed-after w s block (length block) ∙ running
 
   roomy : w .rules ≤ maxRules → (bs : List (String × List Pair)) (closing : List Pair) (lent : ℕ → List ℕ × List ℕ)
-      → ((i : ℕ) → maxRules ≤ space (lent i .0) (lent i .1)) → (s : Stream) → s .closed ≡ false → Follows s bs closing
+      → ((i : ℕ) → maxRules ≤ space (lent i .0) (lent i .1)) → (s : Stream) → s .closed ≡ false → T (follows s bs closing)
       → run w s (callsIn (callsOn bs lent)) ≡ expected bs closing
-  unfolding callsOn callsIn run expected Follows
+  unfolding callsOn callsIn run expected follows
   roomy few [] closing lent wide s running h =
-      ap (λ (o : Outcome). o ∷ []) (close-whole few s running (space (lent 0 .0) (lent 0 .1)) (wide 0) ∙ ap (by-close 0) h)
+      ap (λ (o : Outcome). o ∷ []) (close-whole few s running (space (lent 0 .0) (lent 0 .1)) (wide 0) ∙ ap (by-close 0) (same-eq (final s) closing h))
   roomy few (b ∷ bs) closing lent wide s running h =
-      let g = scan-whole few s running b (h .0) (h .1) (space (lent 0 .0) (lent 0 .1)) (wide 0) in
+      let n = next-block s b bs closing h in
+      let g = scan-whole few s running b (n .0) (n .1) (space (lent 0 .0) (lent 0 .1)) (wide 0) in
       ap₂ (λ (o : Outcome) (r : List Outcome). o ∷ r) (g .0)
       (ap (λ (x : Stream). run w x (callsIn (callsOn bs (λ i. lent (suc i))))) (g .1)
-      ∙ roomy few bs closing (λ i. lent (suc i)) (λ i. wide (suc i)) (pass s (bytes (b .0))) (still-running (bytes (b .0)) s running) (h .2))
+      ∙ roomy few bs closing (λ i. lent (suc i)) (λ i. wide (suc i)) (pass s (bytes (b .0))) (still-running (bytes (b .0)) s running) (n .2))
 
-  bytes-in : (bs : List (String × List Pair)) (closing : List Pair) (lent : ℕ → List ℕ × List ℕ) (s : Stream) → Follows s bs closing
+  bytes-in : (bs : List (String × List Pair)) (closing : List Pair) (lent : ℕ → List ℕ × List ℕ) (s : Stream) → T (follows s bs closing)
       → BytesIn (callsIn (callsOn bs lent))
-  unfolding callsOn callsIn BytesIn Follows
+  unfolding callsOn callsIn BytesIn
   bytes-in [] closing lent s h = tt
-  bytes-in (b ∷ bs) closing lent s h = (of-bytes s b (h .0), bytes-in bs closing (λ i. lent (suc i)) (pass s (bytes (b .0))) (h .2))
+  bytes-in (b ∷ bs) closing lent s h =
+      let n = next-block s b bs closing h in
+      (of-bytes s b (n .0), bytes-in bs closing (λ i. lent (suc i)) (pass s (bytes (b .0))) (n .2))
 
 -- there are no other calls
 none-other : (t : List ℕ) (bs : List (String × List Pair)) (lent : ℕ → List ℕ × List ℕ) (s : Stream) → OthersRefused t s (callsOn bs lent)
@@ -184,7 +216,7 @@ module _ (c : Setting) where
   few-rules : computedOf rs .rules ≤ maxRules
   few-rules = omega (arith, sym (built-agrees (tableIn c) rs (built c) .rules), rules-at (tableIn c), built c .passed .rules)
 
-  pub log-gives : (log : Log) → Follows (computedOf rs) (startOf rs) (log .blocks) (log .closing) → Gives c log
+  pub log-gives : (log : Log) → T (follows (computedOf rs) (startOf rs) (log .blocks) (log .closing)) → Gives c log
   log-gives log h lent wide =
       let t : List ℕ = tableIn c in
       let v : Automaton = computedOf rs in

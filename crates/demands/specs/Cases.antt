@@ -90,7 +90,7 @@ Together cases logs = (words : List ℕ) (long : tableWords ≤ length words)
 -- ---- the table
 
 -- "Ids: any 32-bit number": the number is taken to 32 bits, which those below have
-abbrev rule : (id flags : ℕ) → String → Addition
+abbrev pub rule : (id flags : ℕ) → String → Addition
 rule id flags pattern = record { id = id % 2 ^ 32; narrow = omega arith; flags = flags; pattern = bytes pattern }
 
 -- the end offsets of the one rule that there is

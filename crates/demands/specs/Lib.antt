@@ -3,3 +3,4 @@ pub mod Chain
 pub mod Demands
 pub mod Demand1
 pub mod Cases
+pub mod Example

@@ -1,0 +1,71 @@
+-- One list of calls that meets what demand 3 asks for, so that the theorem is seen to speak of something: refused additions, report space for one report
+-- only, refused scans and closings, other refused calls between, an empty block, and calls after the closing. The theorem is `instance` of
+-- proofs/Example.antt. Assumes nothing: these are definitions.
+use mathlib.Core.Path.{_≡_}
+use mathlib.Core.List.{List, [], _∷_}
+use Prim.Native.Nat.{ℕ, _≤_}
+use lib.ListN.{length}
+use Rattle.table.specs.Layout.{tableWords}
+use Rattle.regex.specs.Ordered.{Pair, Ordered}
+use Rattle.demands.specs.Chain.{this, those, adding, scanning, Item, scan, close, other, Outcome, by-scan, by-close, outcomesOf, begun}
+use Rattle.demands.specs.Demands.{Setting, tableIn, streamIn, rulesIn, Calls, closes, taken, joined}
+use Rattle.demands.specs.Cases.{bytes, rule}
+
+-- two lists with one slot each
+abbrev slot : List ℕ
+slot = 0 ∷ []
+
+unfoldable pub items : List Item
+items =
+    -- takes 2 bytes: the third has a second report
+    scan (bytes "abbb") slot slot
+    -- refused with 3: the id is in the table
+    ∷ other (adding this 5 0 (bytes "a"))
+    -- refused with 20: no report space
+    ∷ scan (bytes "bb") [] []
+    -- refused with 1: no table
+    ∷ other (scanning (those []) (begun []) (bytes "ab") slot slot)
+    ∷ scan (bytes "bb") slot slot
+    ∷ close [] []
+    -- an empty block
+    ∷ scan [] slot slot
+    ∷ scan (bytes "b") slot slot
+    ∷ close slot slot
+    -- refused with 19: the stream is closed
+    ∷ scan (bytes "b") slot slot
+    ∷ close slot slot
+    ∷ []
+
+-- what the scans and closings among them give
+unfoldable pub outcomes : List Outcome
+outcomes =
+    by-scan 0 2 ((5, 2) ∷ [])
+    ∷ by-scan 20 0 []
+    ∷ by-scan 0 1 ((5, 3) ∷ [])
+    ∷ by-close 20 []
+    ∷ by-scan 0 0 []
+    ∷ by-scan 0 1 ((5, 4) ∷ [])
+    ∷ by-close 0 []
+    ∷ by-scan 19 0 []
+    ∷ by-close 19 []
+    ∷ []
+
+-- "`ab+` on `abbb`: 2, 3, 4"
+abbrev pub list : List Pair
+list = (5, 2) ∷ (5, 3) ∷ (5, 4) ∷ []
+
+module _ (words : List ℕ) (long : tableWords ≤ length words) where
+  -- the second rule is refused, 10 at 2
+  abbrev pub setting : Setting
+  setting = record { words = words; long = long; additions = rule 5 0 "ab+" ∷ rule 8 0 "a**" ∷ [] }
+
+  pub record Instance : Type 0 where
+    -- demand 3's hypotheses hold
+    pub calls : Calls setting items
+    pub closing : closes setting items
+    -- each call gives this, so all bytes are taken and the joined reports are these
+    pub each : outcomesOf (tableIn setting) (streamIn setting) items ≡ outcomes
+    pub all-taken : taken setting items ≡ bytes "abbb"
+    pub all-reports : joined setting items ≡ list
+    -- and by demand 3 they are the ordered list of the one accepted rule
+    pub ordered : Ordered (rulesIn setting) (bytes "abbb") list
