@@ -1,29 +1,28 @@
 -- The busy figure of the state after some bytes is the number of live positions by meaning: the live words' ones, counted rule by rule in the order of their
 -- addition. Assumes nothing.
 use mathlib.Core.Path.{_≡_, refl, sym, subst, subst₂, ap, ap₂, _∙_}
-use mathlib.Core.Logic.{_⊎_, inl, inr, _↔_}
+use mathlib.Core.Logic.{_↔_}
 use mathlib.Core.Bool.{Bool, true, false}
 use mathlib.Core.List.{List, [], _∷_}
 use Prim.Native.Nat.{ℕ, zero, suc, _+_, _-_, _≤_, _<_}
 use native.Mathlib.Nat.{add-zero}
 use native.Mathlib.Omega.{arith}
 use lib.Dec.{T}
-use lib.ListN.{length, take, getD}
+use lib.ListN.{length, take}
 use lib.Seq.{take-length}
 use Rattle.sets.specs.Set.{has, count, asOne, sizeOf}
 use Rattle.sets.proofs.Laws.{count-ext, count-add}
-use Rattle.table.specs.Layout.{maxPositions, positionsOf}
-use Rattle.table.specs.Automaton.{Automaton, automaton}
+use Rattle.table.specs.Layout.{maxPositions}
+use Rattle.table.specs.Automaton.{automaton}
 use Rattle.stream.specs.declared.Stream.{Stream}
-use Rattle.stream.specs.Byte.{stateAfter}
-use Rattle.stream.specs.Calls.{fresh, busyOf}
-use Rattle.regex.specs.Form.{positions, write}
-use Rattle.regex.specs.Rule.{Rule, ByteSet, stream}
+use Rattle.stream.specs.Calls.{busyOf}
+use Rattle.regex.specs.Form.{positions}
+use Rattle.regex.specs.Rule.{Rule, stream}
 use Rattle.regex.specs.Live.{Reached, Live, Counts, none, one, skip, Busy}
 use Rattle.regex.proofs.Shift.{shift, unshift}
 use Rattle.regex.proofs.Logic.{false-T}
-use Rattle.demands.proofs.Carried.{Carries, Carried, Based, positionsIn, formOf}
-use Rattle.demands.proofs.Tracked.{Alive, Tracked, opens, tracked}
+use Rattle.demands.proofs.Carried.{Carried, Based, positionsIn, formOf}
+use Rattle.demands.proofs.Tracked.{Alive}
 
 -- a test is counted as often as what it tests holds
 counts-of : (Q : ℕ → Type 0) (f : ℕ → Bool) (n : ℕ) → ((q : ℕ) → q < n → T (f q) ↔ Q q) → Counts Q n (count n f)

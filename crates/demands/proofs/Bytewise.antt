@@ -10,7 +10,7 @@ use Rattle.table.specs.Automaton.{Automaton}
 use Rattle.stream.specs.declared.Stream.{Stream}
 use Rattle.stream.specs.Byte.{byteIds, stateAfter, idsOf, endsOf}
 use Rattle.stream.proofs.Blocks.{state-front, ids-front, ends-front, ends-count, two-parts}
-use Rattle.regex.specs.Ordered.{Pair, pair, Entry, entry}
+use Rattle.regex.specs.Ordered.{Pair, pair, Entry}
 use Rattle.demands.proofs.Whole.{run, entriesOf}
 
 -- the first k bytes of a block are a block of their own

@@ -12,7 +12,6 @@ use lib.ListN.{length}
 use Rattle.sets.specs.Set.{has}
 use Rattle.table.specs.Layout.{maxRules, maxPositions, rulesOf, positionsOf}
 use Rattle.table.specs.Automaton.{Automaton, automaton, single}
-use Rattle.table.proofs.Test.{Passes}
 use Rattle.regex.specs.Form.{Form, write, positions}
 use Rattle.regex.specs.Rule.{Rule, ByteSet, Assertion, world}
 use Rattle.regex.specs.Automaton.{First, Last, Follow, Takes, first, last, follow}

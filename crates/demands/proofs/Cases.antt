@@ -1,11 +1,10 @@
 -- The worked cases come out as they must: the checker reads every pattern, adds every rule and follows every log by the definitions, with the automaton of
 -- the accepted rules in place of 4,096 words, and what is proved of it (Logs) carries the answer to the calls. Assumes nothing.
-use mathlib.Core.Path.{_≡_, refl, sym, subst, ap, ap₂, _∙_}
+use mathlib.Core.Path.{_≡_, refl, sym, subst, ap₂, _∙_}
 use mathlib.Core.Bool.{Bool, true, false, cond, _&&_}
 use mathlib.Core.List.{List, [], _∷_, map, zip, List·Memᴰ, List·Memᴰ·head, List·Memᴰ·tail, List·Memᴰ·not-nil, cons-ne-nil}
-use Prim.Native.Nat.{ℕ, _≤_}
+use Prim.Native.Nat.{ℕ}
 use lib.Dec.{T, eqb, eqb→eq}
-use lib.ListN.{length}
 use Rattle.sets.specs.Set.{on, has, setOf, wordOf, any, emptySet, insertedRange, unionOf, complementOf, inserted, fullSet}
 use Rattle.kinds.specs.Kind.{isDigit, isLower, isUpper}
 use Rattle.kinds.specs.Case.{otherCase, caseClosed}
@@ -15,7 +14,6 @@ use Rattle.tokens.specs.Class.{lower, opensName, memberOf, rangeFault, ranges, 
 use Rattle.tokens.specs.Option.{lettersOf, openingOf}
 use Rattle.tokens.specs.Quantifier.{bounded, open-ended, bracesOf, formOf, marked, quantifierOf}
 use Rattle.tokens.specs.Token.{escaped, lexemeOf, itemSet}
-use Rattle.table.specs.Layout.{tableWords}
 use Rattle.table.specs.Table.{all, emptied}
 use Rattle.regex.specs.Count.{copied, capped, saturating, nullable}
 use Rattle.regex.specs.Form.{write, positions, repeated, copies, optionals}
@@ -23,14 +21,14 @@ use Rattle.regex.specs.Automaton.{null, first, last, follow, items}
 use Rattle.regex.proofs.Logic.{and-T}
 use Rattle.pattern.specs.Walk.{chained, chosen, one, repeating, closing, opening, act, next, finish, walk}
 use Rattle.pattern.specs.Read.{judged, readOf, optionsOf}
-use Rattle.stream.specs.Byte.{starts, nextLive, ends, endsAtEnd, runIds, runMarks, byteIds, byteState, stateAfter, idsOf, endsOf, closeIds}
+use Rattle.stream.specs.Byte.{starts, nextLive, ends, endsAtEnd, runIds, runMarks, byteIds, byteState, closeIds}
 use Rattle.rules.specs.declared.Added.{Added}
-use Rattle.rules.specs.Add.{answer, unknownFlag, placed, addAnswer, addWords}
+use Rattle.rules.specs.Add.{answer, unknownFlag, placed, addWords}
 use Rattle.rules.specs.Additions.{Addition, Accepted, used, taken, nextAnswer, withNew, afterNext, acceptedAfter}
 use Rattle.rules.proofs.Sorted.{laid, insert, into}
 use Rattle.rules.proofs.Additions.{Built, built-none, built-next, answer-built}
 use Rattle.demands.specs.Demands.{Setting, acceptedIn}
-use Rattle.demands.specs.Cases.{bytes, Log, Case, expected, Gives, AllGive, answerIn, logsIn, Alone, answersOf, rulesIn, Together, cases, logs, WorkedCases}
+use Rattle.demands.specs.Cases.{bytes, Log, Case, Gives, AllGive, answerIn, logsIn, Alone, answersOf, rulesIn, cases, logs, WorkedCases}
 use Rattle.demands.proofs.Computing.{owner, computed, computedOf}
 use Rattle.demands.proofs.Logs.{same, pass, passed, final, follows, startOf, log-gives}
 
@@ -56,22 +54,17 @@ unfoldable failing : {A : Type 0} → (A → Bool) → List A → List A
 failing test [] = []
 failing test (x ∷ l) = cond (test x) (failing test l) (x ∷ failing test l)
 
-none-wrong : failing right cases ≡ []
-unfolding allRun right failing on has setOf wordOf any emptySet insertedRange unionOf complementOf inserted fullSet isDigit isLower isUpper otherCase caseClosed digitOf digits valueFrom numeralOf bracedOf shortOf flipped64 raised controlOf typeOf namedOf placedOf hexOf octalOf isAlnum escapeOf lower opensName memberOf rangeFault ranges memberAt membersOf classOf joined settled lettersOf openingOf bounded open-ended bracesOf formOf marked quantifierOf escaped lexemeOf itemSet copied capped saturating nullable write positions repeated copies optionals null first last follow items chained chosen one repeating closing opening act next finish walk judged readOf optionsOf unknownFlag placed used taken nextAnswer withNew afterNext acceptedAfter laid insert into owner computed starts nextLive ends endsAtEnd runIds runMarks byteIds byteState closeIds all bytes cases logs pass passed final follows same zip mathlib.Core.List.zipWith
-none-wrong = refl
-
--- all the rules in one table: the answers of the additions after some accepted rules, and the logs
+-- the answers of a list of additions after some accepted rules
 unfoldable nextAnswers : List Accepted → List Addition → List Added
 nextAnswers rs [] = []
 nextAnswers rs (a ∷ l) = nextAnswer rs a ∷ nextAnswers (afterNext rs a) l
 
-answers-right : nextAnswers [] (rulesIn cases) ≡ map (λ (k : Case). answerIn (k .verdict)) cases
-unfolding nextAnswers on has setOf wordOf any emptySet insertedRange unionOf complementOf inserted fullSet isDigit isLower isUpper otherCase caseClosed digitOf digits valueFrom numeralOf bracedOf shortOf flipped64 raised controlOf typeOf namedOf placedOf hexOf octalOf isAlnum escapeOf lower opensName memberOf rangeFault ranges memberAt membersOf classOf joined settled lettersOf openingOf bounded open-ended bracesOf formOf marked quantifierOf escaped lexemeOf itemSet copied capped saturating nullable write positions repeated copies optionals null first last follow items chained chosen one repeating closing opening act next finish walk judged readOf optionsOf unknownFlag placed used taken nextAnswer withNew afterNext acceptedAfter laid insert into owner computed starts nextLive ends endsAtEnd runIds runMarks byteIds byteState closeIds all bytes cases logs pass passed final follows same zip mathlib.Core.List.zipWith
-answers-right = refl
-
-no-log-wrong : failing (runs (acceptedAfter [] (rulesIn cases))) logs ≡ []
-unfolding failing on has setOf wordOf any emptySet insertedRange unionOf complementOf inserted fullSet isDigit isLower isUpper otherCase caseClosed digitOf digits valueFrom numeralOf bracedOf shortOf flipped64 raised controlOf typeOf namedOf placedOf hexOf octalOf isAlnum escapeOf lower opensName memberOf rangeFault ranges memberAt membersOf classOf joined settled lettersOf openingOf bounded open-ended bracesOf formOf marked quantifierOf escaped lexemeOf itemSet copied capped saturating nullable write positions repeated copies optionals null first last follow items chained chosen one repeating closing opening act next finish walk judged readOf optionsOf unknownFlag placed used taken nextAnswer withNew afterNext acceptedAfter laid insert into owner computed starts nextLive ends endsAtEnd runIds runMarks byteIds byteState closeIds all bytes cases logs pass passed final follows same zip mathlib.Core.List.zipWith
-no-log-wrong = refl
+-- no rule fails alone; and all in one table have the same answers, and no log fails
+computed-right : (failing right cases ≡ [])
+    × (nextAnswers [] (rulesIn cases) ≡ map (λ (k : Case). answerIn (k .verdict)) cases)
+    × (failing (runs (acceptedAfter [] (rulesIn cases))) logs ≡ [])
+unfolding allRun right failing nextAnswers on has setOf wordOf any emptySet insertedRange unionOf complementOf inserted fullSet isDigit isLower isUpper otherCase caseClosed digitOf digits valueFrom numeralOf bracedOf shortOf flipped64 raised controlOf typeOf namedOf placedOf hexOf octalOf isAlnum escapeOf lower opensName memberOf rangeFault ranges memberAt membersOf classOf joined settled lettersOf openingOf bounded open-ended bracesOf formOf marked quantifierOf escaped lexemeOf itemSet copied capped saturating nullable write positions repeated copies optionals null first last follow items chained chosen one repeating closing opening act next finish walk judged readOf optionsOf unknownFlag placed used taken nextAnswer withNew afterNext acceptedAfter laid insert into owner computed starts nextLive ends endsAtEnd runIds runMarks byteIds byteState closeIds all bytes cases logs pass passed final follows same zip mathlib.Core.List.zipWith
+computed-right = (refl, refl, refl)
 
 -- ---- carried to the calls
 
@@ -115,10 +108,10 @@ answers-built (a ∷ l) t rs b =
 
 pub worked-cases : WorkedCases
 worked-cases = (
-  λ k m. right-alone k (each right cases none-wrong k m),
+  λ k m. right-alone k (each right cases (computed-right .0) k m),
   λ words long. (
-    answers-built (rulesIn cases) (emptied words) [] (built-none words long) ∙ answers-right,
+    answers-built (rulesIn cases) (emptied words) [] (built-none words long) ∙ computed-right .1,
     λ log m. log-gives (record { words = words; long = long; additions = rulesIn cases }) log
-        (each (runs (acceptedAfter [] (rulesIn cases))) logs no-log-wrong log m),
+        (each (runs (acceptedAfter [] (rulesIn cases))) logs (computed-right .2) log m),
   ),
 )

@@ -1,15 +1,15 @@
 -- Whatever the blocks, the lists and the refused calls between: the joined reports of a list of calls with an accepted closing are those of the joined bytes
 -- in one go and of the closing after them. By one induction over the list. Assumes nothing.
 use mathlib.Core.Path.{_≡_, refl, sym, subst, subst₂, ap, ap₂, _∙_}
-use mathlib.Core.Logic.{_⊎_, inl, inr, _↔_}
-use mathlib.Core.Bool.{Bool, true, false, cond, not, true≢false}
-use mathlib.Core.List.{List, [], _∷_, _++_, map, zip, append-nil, append-assoc}
-use Prim.Native.Nat.{ℕ, zero, suc, _+_, _-_, _≤_, _<_}
+use mathlib.Core.Logic.{_⊎_, inl, inr}
+use mathlib.Core.Bool.{Bool, true, false, cond}
+use mathlib.Core.List.{List, [], _∷_, _++_, zip, append-nil, append-assoc}
+use Prim.Native.Nat.{ℕ, zero, suc, _-_, _≤_, _<_}
 use native.Mathlib.Omega.{arith}
 use native.Mathlib.Decide.{ℕ-discrete}
-use lib.Dec.{eqb, ltb, leb}
-use lib.ListN.{length, getD, take, drop, replicate, length-replicate, length-append, length-take}
-use lib.Seq.{take-append-seam, length-take-le, getD-take}
+use lib.Dec.{eqb, ltb}
+use lib.ListN.{length, take, drop, replicate, length-replicate, length-take}
+use lib.Seq.{take-append-seam, getD-take}
 use borrow.Author.Tests.{eq-eqb, ne-eqb}
 use Rattle.table.specs.Layout.{tableWords}
 use Rattle.table.specs.Table.{isTable, emptyNumber, emptied}
@@ -17,13 +17,13 @@ use Rattle.table.specs.Automaton.{Automaton, automaton}
 use Rattle.stream.specs.declared.Stream.{Stream}
 use Rattle.stream.specs.declared.Scanned.{Scanned}
 use Rattle.stream.specs.declared.Closed.{Closed}
-use Rattle.stream.specs.Byte.{byteIds, stateAfter, idsOf, endsOf, fits, closeIds}
+use Rattle.stream.specs.Byte.{stateAfter, idsOf, endsOf, closeIds}
 use Rattle.stream.specs.Valid.{valid}
 use Rattle.stream.specs.Calls.{space, spaceNumber, scanNumber, closeNumber, takenBy, written, scanned, scannedIds, scannedOffsets, shut, closed, closedIds, closedOffsets, overLimit}
 use Rattle.pattern.specs.Read.{readOf, optionsOf}
 use Rattle.rules.specs.Add.{addAnswer, withRule, addWords}
 use Rattle.regex.specs.Ordered.{Pair}
-use Rattle.demands.specs.Chain.{Lent, this, those, lent, Other, emptying, adding, opening, scanning, closing, numberOf, tableAfter, Item, scan, close, other, reportsIn, bytesOf, reportsOf, OthersRefused, Closes, Bytes, Blocks}
+use Rattle.demands.specs.Chain.{this, those, Other, emptying, adding, opening, scanning, closing, numberOf, tableAfter, Item, scan, close, other, reportsIn, bytesOf, reportsOf, OthersRefused, Closes, Bytes, Blocks}
 use Rattle.stream.proofs.Blocks.{fits-le, ends-count, closed-after, two-parts}
 use Rattle.demands.proofs.Bytewise.{pairsOf, pairs-append, state-cut, pairs-cut}
 

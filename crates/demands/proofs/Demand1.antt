@@ -1,10 +1,9 @@
 -- Demand 1: the theorem of each public function, and what the definitions that they cite give where the number is not 0. Assumes nothing.
-use mathlib.Core.Path.{_≡_, refl, sym, ap, _∙_}
+use mathlib.Core.Path.{_≡_, refl, ap}
 use mathlib.Core.Bool.{Bool, true, false, cond}
 use mathlib.Core.List.{List}
 use Prim.Native.Nat.{ℕ, _+_}
 use native.Mathlib.Omega.{arith}
-use native.Mathlib.Decide.{ℕ-discrete}
 use lib.Dec.{ltb, leb}
 use lib.ListN.{length}
 use borrow.Author.Tests.{ne-eqb}
@@ -15,7 +14,6 @@ use Rattle.table.proofs.is_table.Met.{met as is_table-met}
 use Rattle.regex.specs.Count.{limit, saturating}
 use Rattle.pattern.specs.Walk.{Read, tree, refused}
 use Rattle.pattern.specs.Read.{readOf, optionsOf}
-use Rattle.rules.specs.declared.Added.{Added}
 use Rattle.rules.specs.Add.{answer, unknownFlag, hasId, placed, addAnswer}
 use Rattle.rules.proofs.Readings.{refusal-numbered}
 use Rattle.rules.proofs.add.Met.{met as add-met}
@@ -23,8 +21,7 @@ use Rattle.stream.specs.declared.Stream.{Stream}
 use Rattle.stream.specs.declared.Opened.{Opened}
 use Rattle.stream.specs.declared.Scanned.{Scanned}
 use Rattle.stream.specs.declared.Closed.{Closed}
-use Rattle.stream.specs.Byte.{idsOf, endsOf, closeIds}
-use Rattle.stream.specs.Calls.{fresh, opened, space, scanNumber, closeNumber, takenBy, written, scanned, scannedIds, scannedOffsets, closed, closedIds, closedOffsets}
+use Rattle.stream.specs.Calls.{fresh, opened, space, scanNumber, closeNumber, scanned, scannedIds, scannedOffsets, closed, closedIds, closedOffsets}
 use Rattle.stream.proofs.Stream.«open».Met.{met as open-met}
 use Rattle.stream.proofs.Stream.scan.Met.{met as scan-met}
 use Rattle.stream.proofs.Stream.close.Met.{met as close-met}

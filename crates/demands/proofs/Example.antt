@@ -1,12 +1,10 @@
 -- The instance of demand 3: the other calls are refused by their definitions, the rest is followed by the automaton of the one accepted rule, which computes.
 -- Assumes nothing.
 use mathlib.Core.Path.{_≡_, refl, sym, subst, subst₂, ap, _∙_}
-use mathlib.Core.Bool.{Bool, true, false}
-use mathlib.Core.List.{List, [], _∷_, zip}
-use Prim.Native.Nat.{ℕ, zero, suc, _≤_, _<_}
+use mathlib.Core.List.{List, [], zip}
+use Prim.Native.Nat.{ℕ, _≤_}
 use native.Mathlib.Omega.{arith}
-use lib.Dec.{T, ltb, ltb→lt}
-use lib.ListN.{length, getD}
+use lib.ListN.{length}
 use Rattle.sets.specs.Set.{on, has, setOf, wordOf, any, emptySet, insertedRange, unionOf, complementOf, inserted, fullSet}
 use Rattle.kinds.specs.Kind.{isDigit, isLower, isUpper}
 use Rattle.kinds.specs.Case.{otherCase, caseClosed}
@@ -18,7 +16,7 @@ use Rattle.tokens.specs.Quantifier.{bounded, open-ended, bracesOf, formOf, mark
 use Rattle.tokens.specs.Token.{escaped, lexemeOf, itemSet}
 use Rattle.table.specs.Layout.{tableWords}
 use Rattle.table.specs.Table.{all, isTable}
-use Rattle.table.specs.Automaton.{Automaton, automaton}
+use Rattle.table.specs.Automaton.{automaton}
 use Rattle.regex.specs.Count.{copied, capped, saturating, nullable}
 use Rattle.regex.specs.Form.{write, positions, repeated, copies, optionals}
 use Rattle.regex.specs.Automaton.{null, first, last, follow, items as byteSets}
@@ -27,18 +25,17 @@ use Rattle.pattern.specs.Walk.{chained, chosen, one, repeating, closing, openin
 use Rattle.pattern.specs.Read.{judged, readOf, optionsOf}
 use Rattle.stream.specs.declared.Stream.{Stream}
 use Rattle.stream.specs.Byte.{starts, nextLive, ends, endsAtEnd, runIds, runMarks, byteIds, byteState, stateAfter, idsOf, endsOf, fits, closeIds}
-use Rattle.stream.specs.Calls.{opened, scanNumber}
+use Rattle.stream.specs.Calls.{scanNumber}
 use Rattle.stream.proofs.Results.{opened-valid}
 use Rattle.rules.specs.declared.Added.{Added}
 use Rattle.rules.specs.Add.{unknownFlag, placed}
-use Rattle.rules.specs.Additions.{Addition, Accepted, used, taken, nextAnswer, withNew, afterNext, acceptedAfter}
+use Rattle.rules.specs.Additions.{used, taken, nextAnswer, withNew, afterNext, acceptedAfter}
 use Rattle.rules.proofs.Sorted.{laid, insert, into}
-use Rattle.demands.specs.Chain.{Item, scan, close, other, this, adding, numberOf, tableAfter, bytesOf, reportsOf, Outcome, outcomesOf, OthersRefused, Blocks}
+use Rattle.demands.specs.Chain.{numberOf, bytesOf, reportsOf, outcomesOf, OthersRefused, Blocks}
 use Rattle.demands.specs.Demands.{Setting, tableIn, acceptedIn, streamIn, rulesIn}
 use Rattle.demands.specs.Cases.{bytes, rule}
 use Rattle.demands.specs.Example.{items, outcomes, list, setting, Instance}
 use Rattle.demands.proofs.Chained.{refused-others, Refused}
-use Rattle.demands.proofs.Agreeing.{Agree}
 use Rattle.demands.proofs.Computing.{owner, computed, computedOf, built-agrees}
 use Rattle.demands.proofs.Outcomes.{callsIn, scanLeft, closeLeft, gives, moves, run, followed, BytesIn, runs-same, reportsIn-all, reports-joined, bytesIn-all, bytes-joined, Shuts, closes-seen}
 use Rattle.demands.proofs.Logs.{bytes-tested, startOf, opened-is, start-inside}
@@ -51,14 +48,14 @@ module _ (words : List ℕ) (long : tableWords ≤ length words) where
   abbrev t : List ℕ
   t = tableIn c
 
-  -- the id is in the table
-  id-there : nextAnswer (acceptedIn c) (rule 5 0 "a") .number ≡ 3
-  unfolding on has setOf wordOf any emptySet insertedRange unionOf complementOf inserted fullSet isDigit isLower isUpper otherCase caseClosed digitOf digits valueFrom numeralOf bracedOf shortOf flipped64 raised controlOf typeOf namedOf placedOf hexOf octalOf isAlnum escapeOf lower opensName memberOf rangeFault ranges memberAt membersOf classOf joined settled lettersOf openingOf bounded open-ended bracesOf formOf marked quantifierOf escaped lexemeOf itemSet copied capped saturating nullable write positions repeated copies optionals null first last follow byteSets chained chosen one repeating closing opening act next finish walk judged readOf optionsOf unknownFlag placed used taken nextAnswer withNew afterNext acceptedAfter laid insert into owner computed starts nextLive ends endsAtEnd runIds runMarks byteIds byteState closeIds all bytes stateAfter idsOf endsOf fits zip mathlib.Core.List.zipWith
-  id-there = refl
+  -- by the accepted rule alone: its id is taken, and this is what the calls give
+  computes : (nextAnswer (acceptedIn c) (rule 5 0 "a") .number ≡ 3) × (run (computedOf (acceptedIn c)) (startOf (acceptedIn c)) (callsIn items) ≡ outcomes)
+  unfolding callsIn scanLeft closeLeft gives moves run items outcomes on has setOf wordOf any emptySet insertedRange unionOf complementOf inserted fullSet isDigit isLower isUpper otherCase caseClosed digitOf digits valueFrom numeralOf bracedOf shortOf flipped64 raised controlOf typeOf namedOf placedOf hexOf octalOf isAlnum escapeOf lower opensName memberOf rangeFault ranges memberAt membersOf classOf joined settled lettersOf openingOf bounded open-ended bracesOf formOf marked quantifierOf escaped lexemeOf itemSet copied capped saturating nullable write positions repeated copies optionals null first last follow byteSets chained chosen one repeating closing opening act next finish walk judged readOf optionsOf unknownFlag placed used taken nextAnswer withNew afterNext acceptedAfter laid insert into owner computed starts nextLive ends endsAtEnd runIds runMarks byteIds byteState closeIds all bytes stateAfter idsOf endsOf fits zip mathlib.Core.List.zipWith
+  computes = (refl, refl)
 
   refused : Refused t items
   unfolding Refused items numberOf scanNumber isTable
-  refused = (λ e. absurd (omega (arith, sym id-there, sym (ap (λ (a : Added). a .number) (acceptance c (rule 5 0 "a"))), e)), (λ e. absurd (omega (arith, e)), tt))
+  refused = (λ e. absurd (omega (arith, sym (computes .0), sym (ap (λ (a : Added). a .number) (acceptance c (rule 5 0 "a"))), e)), (λ e. absurd (omega (arith, e)), tt))
 
   others : OthersRefused t (streamIn c) items
   others = refused-others t items (streamIn c) refused
@@ -71,16 +68,12 @@ module _ (words : List ℕ) (long : tableWords ≤ length words) where
   unfolding callsIn BytesIn items bytes all
   in-calls = (bytes-tested (bytes "abbb") tt, (bytes-tested (bytes "bb") tt, (bytes-tested (bytes "bb") tt, (bytes-tested [] tt, (bytes-tested (bytes "b") tt, (bytes-tested (bytes "b") tt, tt))))))
 
-  computes : run (computedOf (acceptedIn c)) (startOf (acceptedIn c)) (callsIn items) ≡ outcomes
-  unfolding callsIn scanLeft closeLeft gives moves run items outcomes on has setOf wordOf any emptySet insertedRange unionOf complementOf inserted fullSet isDigit isLower isUpper otherCase caseClosed digitOf digits valueFrom numeralOf bracedOf shortOf flipped64 raised controlOf typeOf namedOf placedOf hexOf octalOf isAlnum escapeOf lower opensName memberOf rangeFault ranges memberAt membersOf classOf joined settled lettersOf openingOf bounded open-ended bracesOf formOf marked quantifierOf escaped lexemeOf itemSet copied capped saturating nullable write positions repeated copies optionals null first last follow byteSets chained chosen one repeating closing opening act next finish walk judged readOf optionsOf unknownFlag placed used taken nextAnswer withNew afterNext acceptedAfter laid insert into owner computed starts nextLive ends endsAtEnd runIds runMarks byteIds byteState closeIds all bytes stateAfter idsOf endsOf fits zip mathlib.Core.List.zipWith
-  computes = refl
-
   each : outcomesOf t (streamIn c) items ≡ outcomes
   each =
       followed t (table c) items (streamIn c) (opened-valid t (table c)) others
       ∙ ap (λ (s : Stream). run (automaton t) s (callsIn items)) (opened-is c)
       ∙ runs-same (automaton t) (computedOf (acceptedIn c)) (built-agrees t (acceptedIn c) (built c)) (callsIn items) (startOf (acceptedIn c)) (start-inside c) in-calls
-      ∙ computes
+      ∙ computes .1
 
   bytes-are : bytesOf t (streamIn c) items ≡ bytes "abbb"
   unfolding bytesIn-all callsIn items outcomes bytes

@@ -3,14 +3,14 @@
 use mathlib.Core.Path.{_≡_, refl, sym, subst, ap, ap₂, _∙_}
 use mathlib.Core.Bool.{Bool, true, false, cond, true≢false, _&&_}
 use mathlib.Core.List.{List, [], _∷_, _++_, zip}
-use Prim.Native.Nat.{ℕ, suc, _+_, _-_, _≤_, _<_}
+use Prim.Native.Nat.{ℕ, suc, _+_, _-_, _≤_}
 use Prim.Native.String.{String}
 use native.Mathlib.Omega.{arith}
 use lib.Dec.{T, eqb, leb, ltb, eqb→eq, leb→le, ltb→lt}
 use lib.ListN.{length, getD, replicate}
 use borrow.Author.Tests.{le-ltb}
 use Rattle.sets.proofs.Laws.{has-empty}
-use Rattle.table.specs.Layout.{maxRules, maxPositions, rulesOf, positionsOf}
+use Rattle.table.specs.Layout.{maxRules}
 use Rattle.table.specs.Table.{all}
 use Rattle.table.specs.Automaton.{Automaton, automaton}
 use Rattle.table.proofs.Test.{all-at}
@@ -30,7 +30,7 @@ use Rattle.demands.proofs.Carried.{rules-at}
 use Rattle.demands.proofs.Bytewise.{pairsOf, pairs-append}
 use Rattle.demands.proofs.Agreeing.{Agree, Inside}
 use Rattle.demands.proofs.Computing.{computedOf, built-agrees}
-use Rattle.demands.proofs.Outcomes.{Call, scans, closes, callsIn, scanLeft, closeLeft, gives, moves, run, followed, BytesIn, runs-same}
+use Rattle.demands.proofs.Outcomes.{scans, closes, callsIn, scanLeft, closeLeft, gives, moves, run, followed, BytesIn, runs-same}
 use Rattle.demands.proofs.Theorems.{built, table, begins}
 
 pub zip-length : (a b : List ℕ) → length b ≡ length a → length (zip a b) ≡ length a

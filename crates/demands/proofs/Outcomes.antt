@@ -3,14 +3,13 @@
 use mathlib.Core.Path.{_≡_, refl, sym, subst, ap, ap₂, _∙_}
 use mathlib.Core.Logic.{inl, inr}
 use mathlib.Core.Bool.{Bool, true, false, cond}
-use mathlib.Core.List.{List, [], _∷_, _++_, zip, List·Memᴰ, List·Memᴰ·head, List·Memᴰ·tail, List·Memᴰ·not-nil}
-use Prim.Native.Nat.{ℕ, zero, suc, _+_, _-_, _≤_, _<_}
+use mathlib.Core.List.{List, [], _∷_, _++_, zip}
+use Prim.Native.Nat.{ℕ, zero, suc, _-_, _≤_}
 use native.Mathlib.Omega.{arith}
 use native.Mathlib.Decide.{ℕ-discrete}
 use lib.Dec.{eqb, ltb}
-use lib.ListN.{length, getD, take, replicate}
+use lib.ListN.{length, take, replicate}
 use borrow.Author.Tests.{eq-eqb, ne-eqb}
-use Rattle.table.specs.Layout.{rulesOf}
 use Rattle.table.specs.Table.{isTable}
 use Rattle.table.specs.Automaton.{Automaton, automaton}
 use Rattle.stream.specs.declared.Stream.{Stream}
@@ -19,10 +18,9 @@ use Rattle.stream.specs.declared.Closed.{Closed}
 use Rattle.stream.specs.Byte.{stateAfter, idsOf, endsOf, fits, closeIds}
 use Rattle.stream.specs.Valid.{streamLimit, valid}
 use Rattle.stream.specs.Calls.{space, spaceNumber, scanNumber, closeNumber, takenBy, scanned, scannedIds, scannedOffsets, shut, closed, closedIds, closedOffsets}
-use Rattle.stream.proofs.Results.{scan-number, close-number-is}
 use Rattle.stream.proofs.Blocks.{fits-le}
 use Rattle.regex.specs.Ordered.{Pair}
-use Rattle.demands.specs.Chain.{Item, scan, close, other, tableAfter, reportsIn, bytesOf, reportsOf, Outcome, by-scan, by-close, outcomesOf, OthersRefused, Closes, Bytes, Blocks}
+use Rattle.demands.specs.Chain.{Item, scan, close, other, tableAfter, reportsIn, bytesOf, reportsOf, Outcome, by-scan, by-close, outcomesOf, OthersRefused, Closes, Bytes}
 use Rattle.demands.proofs.Chained.{kept, accepted-scan, scan-reports, refused-scan, accepted-close, close-reports, refused-close}
 use Rattle.demands.proofs.Validity.{scan-valid, close-valid}
 use Rattle.demands.proofs.Agreeing.{Agree, Inside, states-agree, all-ids-agree, all-ends-agree, fits-agree, inside-after, closing-agrees}

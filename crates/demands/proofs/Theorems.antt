@@ -3,14 +3,14 @@
 use mathlib.Core.Path.{_≡_, refl, sym, subst, ap, _∙_}
 use mathlib.Core.Bool.{Bool, true, false, cond, true≢false, _&&_}
 use mathlib.Core.List.{List, [], _∷_}
-use Prim.Native.Nat.{ℕ, _+_, _≤_, _<_, _^_}
+use Prim.Native.Nat.{ℕ, _+_}
 use native.Mathlib.Nat.{zero-add}
 use native.Mathlib.Omega.{arith}
 use lib.Dec.{eqb}
 use lib.ListN.{length, length-append}
 use borrow.Author.Tests.{eq-eqb, ne-eqb, eqb-true}
 use Rattle.sets.specs.Set.{sizeOf}
-use Rattle.table.specs.Layout.{tableWords, rulesOf, positionsOf}
+use Rattle.table.specs.Layout.{rulesOf, positionsOf}
 use Rattle.table.specs.Table.{isTable, emptied}
 use Rattle.table.specs.Automaton.{automaton}
 use Rattle.table.proofs.Test.{accepted as passing}
@@ -25,11 +25,11 @@ use Rattle.regex.specs.Live.{Busy}
 use Rattle.regex.proofs.OneList.{one-answer}
 use Rattle.regex.proofs.Reports.{in-reports, no-pair-twice}
 use Rattle.rules.specs.Add.{addWords}
-use Rattle.rules.specs.Additions.{Addition, Accepted, ruleOf, readingOf, nextAnswer, withNew, afterNext}
+use Rattle.rules.specs.Additions.{Addition, Accepted, readingOf, nextAnswer, withNew, afterNext}
 use Rattle.rules.proofs.Encodes.{distinct}
-use Rattle.rules.proofs.Additions.{Built, Accepts, built-none, built-next, built-all, answer-built, accepts}
+use Rattle.rules.proofs.Additions.{Built, built-none, built-next, built-all, answer-built, accepts}
 use Rattle.pattern.specs.Walk.{Read}
-use Rattle.demands.specs.Chain.{Item, Roomy, offering, begun, bytesOf, reportsOf, stateOf, OthersRefused, Closes, Blocks}
+use Rattle.demands.specs.Chain.{Roomy, offering, bytesOf, reportsOf, stateOf, OthersRefused, Closes}
 use Rattle.demands.specs.Demands.{Setting, tableIn, acceptedIn, rulesIn, streamIn, Acceptance, Demand3, Meaning, Total, BusyFigure, Validity, Progress, OfferedAgain, SameForCuttings, AdditionEndsStreams}
 use Rattle.demands.proofs.Carried.{Carried, carried, rules-at}
 use Rattle.demands.proofs.Tracked.{opens, tracked}

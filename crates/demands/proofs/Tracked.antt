@@ -1,19 +1,19 @@
 -- The state after some bytes says what the rules' meaning says: a position is live exactly if some way has just taken it, and a single-match rule is marked
 -- exactly if a match of it has ended. By one byte more, with the automaton's step. Assumes nothing.
-use mathlib.Core.Path.{_≡_, refl, sym, subst, subst₂, ap, ap₂, _∙_}
-use mathlib.Core.Logic.{_⊎_, inl, inr, _↔_}
-use mathlib.Core.Bool.{Bool, true, false, cond, not, _&&_, _||_}
-use mathlib.Core.List.{List, [], _∷_, _++_, append-nil}
-use Prim.Native.Nat.{ℕ, zero, suc, _+_, _≤_, _<_}
+use mathlib.Core.Path.{_≡_, sym, subst, subst₂, ap, _∙_}
+use mathlib.Core.Logic.{inl, inr, _↔_}
+use mathlib.Core.Bool.{Bool, true, false, cond, _&&_, _||_}
+use mathlib.Core.List.{List, [], _∷_, _++_}
+use Prim.Native.Nat.{ℕ, zero, suc, _≤_, _<_}
 use native.Mathlib.Omega.{arith}
-use native.Mathlib.Decide.{decLe, decLt}
+use native.Mathlib.Decide.{decLe}
 use lib.Dec.{T, eqb, ltb, lt→ltb, ltb→lt}
-use lib.ListN.{length, getD, take, drop}
+use lib.ListN.{length, getD, take}
 use lib.Seq.{take-suc, length-take-le}
-use Rattle.sets.specs.Set.{on, has, setOf, wordOf, any, emptySet}
+use Rattle.sets.specs.Set.{on, has, wordOf, any, emptySet}
 use Rattle.sets.proofs.Laws.{has-setOf, has-empty, any-at, any-some, on-zero}
 use Rattle.sets.proofs.Digits.{on-wordOf}
-use Rattle.table.specs.Layout.{maxRules, maxPositions}
+use Rattle.table.specs.Layout.{maxPositions}
 use Rattle.table.specs.Automaton.{Automaton, single}
 use Rattle.stream.specs.declared.Stream.{Stream}
 use Rattle.stream.specs.Byte.{starts, nextLive, ends, endsAtEnd, runMarks, byteState, stateAfter}
@@ -21,7 +21,7 @@ use Rattle.regex.specs.Form.{Form, Match, Reach, positions}
 use Rattle.regex.specs.Live.{Reached}
 use Rattle.regex.specs.Gap.{no-bytes}
 use Rattle.regex.specs.Rule.{Rule, ByteSet, Assertion, world, stream}
-use Rattle.regex.specs.Automaton.{First, Last, Follow}
+use Rattle.regex.specs.Automaton.{First, Last}
 use Rattle.regex.proofs.Logic.{and-T, or-T, true-T}
 use Rattle.regex.proofs.Range.{last-inside, follow-inside}
 use Rattle.regex.proofs.Local.{reach-up}

@@ -1,25 +1,25 @@
 -- A whole stream in one go: what its bytes and its closing report, with the moments, is the one ordered list. Which pairs stay in the list is told by
 -- where matches end and by the marks, and so is what a byte reports. Assumes nothing.
-use mathlib.Core.Path.{_≡_, refl, sym, subst, subst₂, ap, ap₂, _∙_}
+use mathlib.Core.Path.{_≡_, refl, sym, subst, subst₂, ap, _∙_}
 use mathlib.Core.Logic.{_⊎_, inl, inr, _↔_}
-use mathlib.Core.Bool.{Bool, true, false, cond, not, _&&_, _||_}
-use mathlib.Core.List.{List, [], _∷_, _++_, map, List·Memᴰ, List·Memᴰ·head, List·Memᴰ·tail, List·Memᴰ·cases-cons, List·Memᴰ·not-nil, List·Memᴰ·append-cases, List·Memᴰ·eq-of-singleton, Memᴰ·append-left, Memᴰ·append-right}
-use Prim.Native.Nat.{ℕ, zero, suc, _+_, _≤_, _<_}
+use mathlib.Core.Bool.{Bool, true, false, cond, not, _&&_}
+use mathlib.Core.List.{List, [], _∷_, _++_, map, List·Memᴰ, List·Memᴰ·head, List·Memᴰ·tail, List·Memᴰ·not-nil, List·Memᴰ·append-cases, List·Memᴰ·eq-of-singleton, Memᴰ·append-left, Memᴰ·append-right}
+use Prim.Native.Nat.{ℕ, zero, suc, _≤_, _<_}
 use native.Mathlib.Omega.{arith}
-use native.Mathlib.Decide.{decLe, decLt, ℕ-discrete}
+use native.Mathlib.Decide.{ℕ-discrete}
 use lib.Dec.{T, T-not, not-T}
-use lib.ListN.{length, getD, take}
+use lib.ListN.{length, getD}
 use Rattle.sets.specs.Set.{on}
 use Rattle.table.specs.Automaton.{Automaton, single}
 use Rattle.stream.specs.declared.Stream.{Stream}
 use Rattle.stream.specs.Byte.{nextLive, ends, endsAtEnd, due, runIds, byteIds, byteState, stateAfter, closeIds}
 use Rattle.regex.specs.Rule.{Rule, ByteSet}
-use Rattle.regex.specs.Ordered.{closing, Settled, Falls, Earlier, Hides, Stays, Entry, entry, Before, Rising, Owed, IsList}
-use Rattle.regex.proofs.Logic.{and-T, or-T, dec-T}
+use Rattle.regex.specs.Ordered.{closing, Settled, Falls, Hides, Stays, Entry, entry, Before, Rising, Owed, IsList}
+use Rattle.regex.proofs.Logic.{and-T}
 use Rattle.regex.proofs.Enumerated.{append-rising}
-use Rattle.regex.proofs.Moments.{EndsAt, within, by-byte, by-end, falls-at, falls-when}
-use Rattle.demands.proofs.Carried.{Carries, formOf}
-use Rattle.demands.proofs.Tracked.{Alive, Tracked, tracked, ends-is, ends-at-end-is}
+use Rattle.regex.proofs.Moments.{EndsAt, by-byte, by-end, falls-at, falls-when}
+use Rattle.demands.proofs.Carried.{Carries}
+use Rattle.demands.proofs.Tracked.{Tracked, tracked, ends-is, ends-at-end-is}
 
 -- which pairs stay, by where matches end
 

@@ -6,7 +6,6 @@ use mathlib.Core.Path.{_≡_}
 use mathlib.Core.Bool.{true}
 use mathlib.Core.List.{List}
 use Prim.Native.Nat.{ℕ}
-use lib.ListN.{length}
 use Rattle.table.specs.Table.{emptyNumber, emptied}
 use Rattle.table.proofs.empty.Statement.{statement as empty}
 use Rattle.table.proofs.is_table.Statement.{statement as is_table}
