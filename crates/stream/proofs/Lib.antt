@@ -3,7 +3,9 @@
 -- Local (only the first 4,096 words count).
 pub mod Members
 pub mod TableSets
+pub mod Asked
 pub mod Steps
+pub mod Walked
 pub mod Runs
 pub mod Blocks
 pub mod Turns

@@ -3,7 +3,8 @@
 use mathlib.Core.Path.{_≡_, refl, sym, ap, ap₂, _∙_}
 use mathlib.Core.Bool.{Bool, true, false, cond, _||_, _&&_, or-false, or-assoc, and-comm}
 use mathlib.Core.List.{List}
-use Prim.Native.Nat.{ℕ, _+_, _<_}
+use Prim.Native.Nat.{ℕ, zero, suc, _+_, _-_, _<_, _≤_}
+use native.Mathlib.Nat.{add-zero, add-suc}
 use native.Mathlib.Numerals.{add-one}
 use native.Mathlib.Omega.{arith}
 use lib.Dec.{eqb, ltb}
@@ -28,43 +29,63 @@ starts-later t taken e = ap (λ (b : Bool). setOf (λ q. cond b (rowHas t firstA
 
 -- ---- the live positions are asked one a turn
 
-module _ (t live : List ℕ) (taken : ℕ) where
-  -- the first positions, with what follows the live ones below n
+module _ (t live : List ℕ) (from : ℕ → Bool) where
+  -- a set, with what follows the live positions below n
   abbrev pub reached : ℕ → List ℕ
-  reached n = setOf (λ q. starts (automaton t) (stateOf live 0 taken) q || any n (λ p. has live p && rowHas t (followAt p) q))
-
-  pub reached-none : setOf (starts (automaton t) (stateOf emptySet 0 taken)) ≡ reached 0
-  unfolding any starts
-  reached-none =
-      setOf-ext (starts (automaton t) (stateOf emptySet 0 taken)) (λ q. starts (automaton t) (stateOf live 0 taken) q || any 0 (λ p. has live p && rowHas t (followAt p) q))
-      (λ q h. sym (or-false (starts (automaton t) (stateOf live 0 taken) q)))
+  reached n = setOf (λ q. from q || any n (λ p. has live p && rowHas t (followAt p) q))
 
   module _ (n : ℕ) where
-    asked : (ℕ → Bool) → ℕ → Bool
-    asked row q = starts (automaton t) (stateOf live 0 taken) q || (any n (λ p. has live p && rowHas t (followAt p) q) || row q)
+    more : (ℕ → Bool) → ℕ → Bool
+    more row q = from q || (any n (λ p. has live p && rowHas t (followAt p) q) || row q)
 
-    one-more : (b : Bool) → has live n ≡ b → setOf (asked (λ q. b && rowHas t (followAt n) q)) ≡ reached (n + 1)
-    unfolding asked any
-    one-more b e = ap (λ (x : Bool). setOf (asked (λ q. x && rowHas t (followAt n) q))) (sym e) ∙ ap reached (sym (add-one n))
+    one-more : (b : Bool) → has live n ≡ b → setOf (more (λ q. b && rowHas t (followAt n) q)) ≡ reached (n + 1)
+    unfolding more any
+    one-more b e = ap (λ (x : Bool). setOf (more (λ q. x && rowHas t (followAt n) q))) (sym e) ∙ ap reached (sym (add-one n))
 
     pub reached-hit : has live n ≡ true → unionOf (reached n) (setOf (rowHas t (followAt n))) ≡ reached (n + 1)
-    unfolding asked
+    unfolding more
     reached-hit e =
-        union-setOf (λ q. starts (automaton t) (stateOf live 0 taken) q || any n (λ p. has live p && rowHas t (followAt p) q)) (rowHas t (followAt n))
-        ∙ setOf-ext (λ q. (starts (automaton t) (stateOf live 0 taken) q || any n (λ p. has live p && rowHas t (followAt p) q)) || rowHas t (followAt n) q) (asked (rowHas t (followAt n)))
-        (λ q h. or-assoc (starts (automaton t) (stateOf live 0 taken) q) (any n (λ p. has live p && rowHas t (followAt p) q)) (rowHas t (followAt n) q))
+        union-setOf (λ q. from q || any n (λ p. has live p && rowHas t (followAt p) q)) (rowHas t (followAt n))
+        ∙ setOf-ext (λ q. (from q || any n (λ p. has live p && rowHas t (followAt p) q)) || rowHas t (followAt n) q) (more (rowHas t (followAt n)))
+        (λ q h. or-assoc (from q) (any n (λ p. has live p && rowHas t (followAt p) q)) (rowHas t (followAt n) q))
         ∙ one-more true e
 
-    pub reached-miss : has live n ≡ false → reached n ≡ reached (n + 1)
-    unfolding asked
+    reached-miss : has live n ≡ false → reached n ≡ reached (n + 1)
+    unfolding more
     reached-miss e =
-        setOf-ext (λ q. starts (automaton t) (stateOf live 0 taken) q || any n (λ p. has live p && rowHas t (followAt p) q)) (asked (λ q. false))
-        (λ q h. ap (λ (x : Bool). starts (automaton t) (stateOf live 0 taken) q || x) (sym (or-false (any n (λ p. has live p && rowHas t (followAt p) q)))))
+        setOf-ext (λ q. from q || any n (λ p. has live p && rowHas t (followAt p) q)) (more (λ q. false))
+        (λ q h. ap (λ (x : Bool). from q || x) (sym (or-false (any n (λ p. has live p && rowHas t (followAt p) q)))))
         ∙ one-more false e
+
+  -- positions that are not live need not be asked
+  reached-on : (n d : ℕ) → ((p : ℕ) → n ≤ p → p < n + d → has live p ≡ false) → reached n ≡ reached (n + d)
+  reached-on n zero e = ap reached (sym (add-zero n))
+  reached-on n (suc d) e =
+      reached-on n d (λ p h l. e p h (omega arith)) ∙ reached-miss (n + d) (e (n + d) (omega arith) (omega arith))
+      ∙ ap reached (add-one (n + d) ∙ sym (add-suc n d))
+
+  pub reached-skip : (m n : ℕ) → m ≤ n → ((p : ℕ) → m ≤ p → p < n → has live p ≡ false) → reached m ≡ reached n
+  reached-skip m n h e =
+      let whole : m + (n - m) ≡ n = omega arith in
+      reached-on m (n - m) (λ p g l. e p g (omega arith)) ∙ ap reached whole
+
+-- ---- the step
+
+module _ (t live : List ℕ) (taken : ℕ) where
+  -- from the set of the first positions
+  pub reached-starts : (first : List ℕ) → first ≡ setOf (starts (automaton t) (stateOf emptySet 0 taken))
+      → reached t live (has first) maxPositions ≡ reached t live (starts (automaton t) (stateOf live 0 taken)) maxPositions
+  unfolding starts
+  reached-starts first e =
+      setOf-ext (λ q. has first q || follows q) (λ q. starts (automaton t) (stateOf live 0 taken) q || follows q)
+      (λ q h. ap (λ (b : Bool). b || follows q) (ap (λ (s : List ℕ). has s q) e ∙ has-setOf (starts (automaton t) (stateOf emptySet 0 taken)) q h))
+    where
+      follows : ℕ → Bool
+      follows q = any maxPositions (λ p. has live p && rowHas t (followAt p) q)
 
   -- met with the byte's row and kept below the count
   pub next-words : (x : ℕ) → x < bytes
-      → keptBelow (intersectionOf (reached maxPositions) (setOf (rowHas t (takersAt x)))) (positionsOf t) ≡ nextLive (automaton t) (stateOf live 0 taken) x
+      → keptBelow (intersectionOf (reached t live (starts (automaton t) (stateOf live 0 taken)) maxPositions) (setOf (rowHas t (takersAt x)))) (positionsOf t) ≡ nextLive (automaton t) (stateOf live 0 taken) x
   unfolding nextLive automaton
   next-words x h =
       ap (λ (s : List ℕ). keptBelow s (positionsOf t)) (intersection-setOf from (rowHas t (takersAt x)))

@@ -2,13 +2,15 @@
 use mathlib.Core.Path.{_≡_}
 use mathlib.Core.Bool.{Bool, false}
 use mathlib.Core.List.{List}
-use Prim.Native.Nat.{ℕ, _+_, _<_, _≤_}
+use Prim.Native.Nat.{ℕ, zero, suc, _+_, _<_, _≤_}
 use lib.ListN.{length, getD, replicate}
-use Rattle.sets.specs.Set.{emptySet}
+use Rattle.sets.specs.Set.{setOf, unionOf, emptySet}
+use Rattle.table.specs.Layout.{followAt, rowHas}
 use Rattle.table.specs.Automaton.{Automaton}
 use Rattle.stream.specs.declared.Stream.{Stream}
 use Rattle.stream.specs.Byte.{nextLive, runIds, runMarks, stateAfter, idsOf, endsOf, fits}
 use Rattle.stream.specs.Calls.{space, written}
+use Rattle.stream.specs.Walk.{asked}
 
 -- a state of which the live set, the marks and the bytes taken count
 abbrev pub stateOf : (live : List ℕ) → (reported taken : ℕ) → Stream
@@ -20,6 +22,11 @@ pub record Wrote (w : Automaton) (test : ℕ → Bool) (marks end : ℕ) (ids of
   pub marks-are : marks′ ≡ runMarks w test marks
   pub ids-are : ids′ ≡ written (runIds w test marks (w .rules)) ids
   pub offsets-are : offsets′ ≡ written (replicate (length (runIds w test marks (w .rules))) end) offsets
+
+-- a set joined with what follows the positions that the first n turns of the walk over a word ask; digit k of the word is position base + k
+unfoldable pub joined : (t : List ℕ) → (word base : ℕ) → (from : List ℕ) → ℕ → List ℕ
+joined t word base from zero = from
+joined t word base from (suc n) = unionOf (joined t word base from n) (setOf (rowHas t (followAt (base + asked word n))))
 
 -- nothing is live and the bytes of the block from `from` up to `to` leave it so, `taken` bytes of the stream before the block
 pub record Skipped (w : Automaton) (live block : List ℕ) (taken from to : ℕ) : Type 0 where

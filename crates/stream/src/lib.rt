@@ -4,6 +4,7 @@ mod checks;
 mod reports;
 mod rows;
 mod scan;
+mod walk;
 
 use checks::least;
 use checks::refusal;

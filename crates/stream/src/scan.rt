@@ -6,11 +6,10 @@ use super::rows::ending;
 use super::rows::lasts;
 use super::rows::meets;
 use super::rows::singles;
+use super::walk::walk;
 use table::layout::FIRST_AT;
 use table::layout::FIRST_AT_START_AT;
-use table::layout::FOLLOW_AT;
 use table::layout::LAST;
-use table::layout::MAX_POSITIONS;
 use table::layout::POSITIONS_AT;
 use table::layout::RULES_AT;
 use table::layout::SET_WORDS;
@@ -46,21 +45,13 @@ fn takers(words: &[u64], byte: u8) -> [u64; 4]
     table::row(words, TAKERS_AT + byte as usize * SET_WORDS)
 }
 
-// The live set after one more byte, `taken` bytes into the stream. It asks every position.
+// The live set after one more byte, `taken` bytes into the stream.
 fn step(live: [u64; 4], taken: u64, words: &[u64], positions: usize, byte: u8) -> [u64; 4]
     requires { ⌜ (tableWords ≤ length (now words)) × (positions ≡ positionsOf (now words)) ⌝ }
     ensures { λ r. ⌜ r ≡ nextLive (automaton (now (words .entry))) (stateOf live 0 taken) byte ⌝ }
 {
-    let mut next = firsts(words, taken);
-    let mut p: usize = 0;
-    while p < MAX_POSITIONS as usize {
-        if sets::contains(live, p as u8) {
-            let after = table::row(words, FOLLOW_AT + p * SET_WORDS);
-            let joined = sets::union(next, after);
-            next = joined;
-        }
-        p += 1;
-    }
+    let walked = walk(live, firsts(words, taken), words);
+    let next = walked.set;
     sets::below(sets::intersection(next, takers(words, byte)), positions)
 }
 
