@@ -16,3 +16,4 @@ pub mod Demand1
 pub mod Logs
 pub mod Cases
 pub mod Example
+pub mod Alone

@@ -4,3 +4,4 @@ pub mod Demands
 pub mod Demand1
 pub mod Cases
 pub mod Example
+pub mod Alone

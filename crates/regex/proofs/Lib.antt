@@ -14,6 +14,7 @@ pub mod Base
 pub mod Decidable
 pub mod Enumerated
 pub mod OneList
+pub mod Alone
 pub mod Moments
 pub mod Reports
 pub mod Ways

@@ -2,10 +2,10 @@
 -- automaton. Assumes nothing: these are definitions.
 use mathlib.Core.Path.{_≡_}
 use mathlib.Core.Logic.{_⊎_, _↔_}
-use mathlib.Core.Bool.{Bool}
+use mathlib.Core.Bool.{Bool, cond}
 use mathlib.Core.List.{List, [], _∷_, map, List·Memᴰ}
 use Prim.Native.Nat.{ℕ, suc, _≤_, _<_}
-use lib.Dec.{T, ltb}
+use lib.Dec.{T, eqb, ltb}
 use lib.ListN.{length, take}
 use Rattle.regex.specs.Tree.{Text, Means}
 use Rattle.regex.specs.Rule.{Rule, Assertion, ByteSet, stream}
@@ -87,3 +87,8 @@ pub record Ordered (rules : List Rule) (bytes : List ℕ) (reports : List Pair) 
   pub list : List Entry
   pub is-list : IsList rules bytes list
   pub pairs : map pair list ≡ reports
+
+-- the reports of one id, in their order
+unfoldable pub ofId : ℕ → List Pair → List Pair
+ofId i [] = []
+ofId i (p ∷ l) = cond (eqb (p .0) i) (p ∷ ofId i l) (ofId i l)
