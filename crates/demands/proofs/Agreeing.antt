@@ -10,13 +10,12 @@ use lib.Dec.{eqb, leb, ltb}
 use lib.ListN.{length, getD, replicate}
 use borrow.Author.Tests.{le-ltb}
 use Rattle.sets.specs.Set.{on, has, any}
-use Rattle.sets.proofs.Laws.{has-setOf, setOf-ext}
+use Rattle.sets.proofs.Laws.{has-setOf, setOf-ext, any-ext}
 use Rattle.sets.proofs.Digits.{wordOf-ext}
 use Rattle.table.specs.Layout.{maxPositions}
 use Rattle.table.specs.Automaton.{Automaton}
 use Rattle.stream.specs.declared.Stream.{Stream}
 use Rattle.stream.specs.Byte.{starts, nextLive, ends, endsAtEnd, runIds, runMarks, byteIds, byteState, stateAfter, idsOf, endsOf, fits, closeIds}
-use Rattle.stream.proofs.Members.{any-ext}
 
 -- what the two say of the rules and positions that they have
 pub record Agree (w v : Automaton) : Type 0 where
