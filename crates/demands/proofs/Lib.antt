@@ -1,4 +1,5 @@
 -- From words to meaning: Carried (what additions built), Tracked and Whole (a stream follows the meaning), Chained and States (lists of calls), Theorems.
+pub mod Acceptance
 pub mod Carried
 pub mod Tracked
 pub mod Whole

@@ -24,13 +24,15 @@ use Rattle.regex.specs.Ordered.{Ordered}
 use Rattle.regex.specs.Live.{Busy}
 use Rattle.regex.proofs.OneList.{one-answer}
 use Rattle.regex.proofs.Reports.{in-reports, no-pair-twice}
+use Rattle.rules.specs.declared.Added.{Added}
 use Rattle.rules.specs.Add.{addWords}
 use Rattle.rules.specs.Additions.{Addition, Accepted, readingOf, nextAnswer, withNew, afterNext}
 use Rattle.rules.proofs.Encodes.{distinct}
 use Rattle.rules.proofs.Additions.{Built, built-none, built-next, built-all, answer-built, accepts}
 use Rattle.pattern.specs.Walk.{Read}
 use Rattle.demands.specs.Chain.{Roomy, offering, bytesOf, reportsOf, stateOf, OthersRefused, Closes}
-use Rattle.demands.specs.Demands.{Setting, tableIn, acceptedIn, rulesIn, streamIn, Acceptance, Demand3, Meaning, Total, BusyFigure, Validity, Progress, OfferedAgain, SameForCuttings, AdditionEndsStreams}
+use Rattle.demands.specs.Demands.{Setting, tableIn, acceptedIn, rulesIn, streamIn, Acceptance, AcceptedExactly, Demand3, Meaning, Total, BusyFigure, Validity, Progress, OfferedAgain, SameForCuttings, AdditionEndsStreams}
+use Rattle.demands.proofs.Acceptance.{accepted-if}
 use Rattle.demands.proofs.Carried.{Carried, carried, rules-at}
 use Rattle.demands.proofs.Tracked.{opens, tracked}
 use Rattle.demands.proofs.Chained.{joined-bytes}
@@ -83,6 +85,12 @@ begins c = opened-table (tableIn c) (table c)
 
 pub acceptance : Acceptance
 acceptance c a = answer-built (tableIn c) (acceptedIn c) (built c) a
+
+pub accepted-exactly : AcceptedExactly
+accepted-exactly c a =
+    let e = ap (λ (r : Added). r .number) (acceptance c a) in
+    let i = accepted-if (acceptedIn c) a in
+    (λ h. i .0 (sym e ∙ h), λ none. e ∙ i .1 none)
 
 pub demand3 : Demand3
 demand3 c items calls closes =
