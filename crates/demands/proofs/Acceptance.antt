@@ -1,7 +1,7 @@
 -- An addition is accepted exactly when none of the reasons to refuse it holds: what rules proves of the answer (`accepts`) and what the pattern crate proves of
 -- the reader (`accepted`), put together, reason by reason. Assumes nothing.
 use mathlib.Core.Path.{_≡_, refl, sym, ap, _∙_}
-use mathlib.Core.Logic.{_⊎_, inl, inr, _↔_}
+use mathlib.Core.Logic.{_↔_}
 use mathlib.Core.Bool.{Bool, true, false, true≢false, _||_}
 use mathlib.Core.List.{List, [], _∷_, List·Memᴰ, List·Memᴰ·head, List·Memᴰ·tail}
 use Prim.Native.Nat.{ℕ, _+_, _≤_, _<_}
@@ -14,11 +14,9 @@ use borrow.Author.Tests.{eq-eqb, eqb-true}
 use Rattle.table.specs.Layout.{maxRules, maxPositions}
 use Rattle.table.specs.Table.{knownFlags}
 use Rattle.regex.specs.Form.{write, positions}
-use Rattle.pattern.specs.declared.Reading.{Reading}
 use Rattle.pattern.specs.Nodes.{Syntax}
 use Rattle.pattern.specs.Walk.{Read, tree, refused}
-use Rattle.pattern.specs.Read.{longest, readOf, optionsOf, answerOf}
-use Rattle.pattern.specs.Reasons.{Reason}
+use Rattle.pattern.specs.Read.{longest, optionsOf, answerOf}
 use Rattle.pattern.proofs.Answers.{accepted-tree}
 use Rattle.pattern.proofs.Accepted.{accepted}
 use Rattle.rules.specs.Additions.{Addition, Accepted, used, taken, readingOf, nextAnswer}
