@@ -28,7 +28,7 @@ use Rattle.rules.specs.Additions.{Addition, Accepted, used, taken, nextAnswer, 
 use Rattle.rules.proofs.Sorted.{laid, insert, into}
 use Rattle.rules.proofs.Additions.{Built, built-none, built-next, answer-built}
 use Rattle.demands.specs.Demands.{Setting, acceptedIn}
-use Rattle.demands.specs.Cases.{bytes, Log, Case, Gives, AllGive, answerIn, logsIn, Alone, answersOf, rulesIn, cases, logs, WorkedCases}
+use Rattle.demands.specs.Cases.{bytes, Log, Case, Gives, AllGive, answerIn, logsIn, Alone, answersOf, additionsIn, cases, logs, WorkedCases}
 use Rattle.demands.proofs.Computing.{owner, computed, computedOf}
 use Rattle.demands.proofs.Logs.{same, pass, passed, final, follows, startOf, log-gives}
 
@@ -61,8 +61,8 @@ nextAnswers rs (a ∷ l) = nextAnswer rs a ∷ nextAnswers (afterNext rs a) l
 
 -- no rule fails alone; and all in one table have the same answers, and no log fails
 computed-right : (failing right cases ≡ [])
-    × (nextAnswers [] (rulesIn cases) ≡ map (λ (k : Case). answerIn (k .verdict)) cases)
-    × (failing (runs (acceptedAfter [] (rulesIn cases))) logs ≡ [])
+    × (nextAnswers [] (additionsIn cases) ≡ map (λ (k : Case). answerIn (k .verdict)) cases)
+    × (failing (runs (acceptedAfter [] (additionsIn cases))) logs ≡ [])
 unfolding allRun right failing nextAnswers on has setOf wordOf any emptySet insertedRange unionOf complementOf inserted fullSet isDigit isLower isUpper otherCase caseClosed digitOf digits valueFrom numeralOf bracedOf shortOf flipped64 raised controlOf typeOf namedOf placedOf hexOf octalOf isAlnum escapeOf lower opensName memberOf rangeFault ranges memberAt membersOf classOf joined settled lettersOf openingOf bounded open-ended bracesOf formOf marked quantifierOf escaped lexemeOf itemSet copied capped saturating nullable write positions repeated copies optionals null first last follow items chained chosen one repeating closing opening act next finish walk judged readOf optionsOf unknownFlag placed used taken nextAnswer withNew afterNext acceptedAfter laid insert into owner computed starts nextLive ends endsAtEnd runIds runMarks byteIds byteState closeIds all bytes cases logs pass passed final follows same zip mathlib.Core.List.zipWith
 computed-right = (refl, refl, refl)
 
@@ -110,8 +110,8 @@ pub worked-cases : WorkedCases
 worked-cases = (
   λ k m. right-alone k (each right cases (computed-right .0) k m),
   λ words long. (
-    answers-built (rulesIn cases) (emptied words) [] (built-none words long) ∙ computed-right .1,
-    λ log m. log-gives (record { words = words; long = long; additions = rulesIn cases }) log
-        (each (runs (acceptedAfter [] (rulesIn cases))) logs (computed-right .2) log m),
+    answers-built (additionsIn cases) (emptied words) [] (built-none words long) ∙ computed-right .1,
+    λ log m. log-gives (record { words = words; long = long; additions = additionsIn cases }) log
+        (each (runs (acceptedAfter [] (additionsIn cases))) logs (computed-right .2) log m),
   ),
 )

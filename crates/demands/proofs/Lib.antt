@@ -1,4 +1,6 @@
--- From words to meaning: Carried (what additions built), Tracked and Whole (a stream follows the meaning), Chained and States (lists of calls), Theorems.
+-- From words to meaning: Acceptance (which additions are accepted), Carried (what additions built), Tracked and Whole (a stream follows the meaning), Bytewise,
+-- Chained, Streams and States (lists of calls), Busy, Validity, Theorems; Demand1.
+-- From words to values, for the worked cases: Agreeing, Computing and Outcomes (calls followed by an automaton that computes), Logs, Cases, Example.
 pub mod Acceptance
 pub mod Carried
 pub mod Tracked
@@ -9,11 +11,11 @@ pub mod Streams
 pub mod States
 pub mod Busy
 pub mod Validity
+pub mod Theorems
+pub mod Demand1
 pub mod Agreeing
 pub mod Computing
 pub mod Outcomes
-pub mod Theorems
-pub mod Demand1
 pub mod Logs
 pub mod Cases
 pub mod Example

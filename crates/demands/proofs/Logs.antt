@@ -23,7 +23,7 @@ use Rattle.stream.proofs.Blocks.{fits-is, ends-count, closed-after, two-parts}
 use Rattle.regex.specs.Ordered.{Pair}
 use Rattle.regex.proofs.Logic.{and-T, true-T}
 use Rattle.rules.specs.Additions.{Accepted, used}
-use Rattle.demands.specs.Chain.{Outcome, by-scan, by-close, OthersRefused, Bytes}
+use Rattle.demands.specs.Chain.{Outcome, by-scan, by-close, outcomesOf, OthersRefused, Bytes}
 use Rattle.demands.specs.Demands.{Setting, tableIn, acceptedIn, streamIn}
 use Rattle.demands.specs.Cases.{bytes, Log, callsOn, expected, Gives}
 use Rattle.demands.proofs.Carried.{rules-at}
@@ -31,7 +31,7 @@ use Rattle.demands.proofs.Bytewise.{pairsOf, pairs-append}
 use Rattle.demands.proofs.Agreeing.{Agree, Inside}
 use Rattle.demands.proofs.Computing.{computedOf, built-agrees}
 use Rattle.demands.proofs.Outcomes.{scans, closes, callsIn, scanLeft, closeLeft, gives, moves, run, followed, BytesIn, runs-same}
-use Rattle.demands.proofs.Theorems.{built, table, begins}
+use Rattle.demands.proofs.Theorems.{built, table, opens, begins}
 
 pub zip-length : (a b : List ℕ) → length b ≡ length a → length (zip a b) ≡ length a
 unfolding zip mathlib.Core.List.zipWith
@@ -217,11 +217,15 @@ module _ (c : Setting) where
   few-rules = omega (arith, sym (built-agrees (tableIn c) rs (built c) .rules), rules-at (tableIn c), built c .passed .rules)
 
   pub log-gives : (log : Log) → T (follows (computedOf rs) (startOf rs) (log .blocks) (log .closing)) → Gives c log
-  log-gives log h lent wide =
-      let t : List ℕ = tableIn c in
-      let v : Automaton = computedOf rs in
-      let agree : Agree (automaton t) v = built-agrees t rs (built c) in
-      followed t (table c) (callsOn (log .blocks) lent) (streamIn c) (opened-valid t (table c)) (none-other t (log .blocks) lent (streamIn c))
-      ∙ ap (λ (s : Stream). run (automaton t) s (callsIn (callsOn (log .blocks) lent))) opened-is
-      ∙ runs-same (automaton t) v agree (callsIn (callsOn (log .blocks) lent)) (startOf rs) start-inside (bytes-in v (log .blocks) (log .closing) lent (startOf rs) h)
-      ∙ roomy v few-rules (log .blocks) (log .closing) lent wide (startOf rs) refl h
+  log-gives log h = (opens c, λ lent wide. calls-give lent wide)
+    where
+      calls-give : (lent : ℕ → List ℕ × List ℕ) → ((i : ℕ) → maxRules ≤ space (lent i .0) (lent i .1))
+          → outcomesOf (tableIn c) (streamIn c) (callsOn (log .blocks) lent) ≡ expected (log .blocks) (log .closing)
+      calls-give lent wide =
+          let t : List ℕ = tableIn c in
+          let v : Automaton = computedOf rs in
+          let agree : Agree (automaton t) v = built-agrees t rs (built c) in
+          followed t (table c) (callsOn (log .blocks) lent) (streamIn c) (opened-valid t (table c)) (none-other t (log .blocks) lent (streamIn c))
+          ∙ ap (λ (s : Stream). run (automaton t) s (callsIn (callsOn (log .blocks) lent))) opened-is
+          ∙ runs-same (automaton t) v agree (callsIn (callsOn (log .blocks) lent)) (startOf rs) start-inside (bytes-in v (log .blocks) (log .closing) lent (startOf rs) h)
+          ∙ roomy v few-rules (log .blocks) (log .closing) lent wide (startOf rs) refl h

@@ -34,7 +34,7 @@ use Rattle.demands.specs.Chain.{Roomy, offering, bytesOf, reportsOf, sta
 use Rattle.demands.specs.Demands.{Setting, tableIn, acceptedIn, rulesIn, streamIn, Acceptance, AcceptedExactly, Demand3, Meaning, Total, BusyFigure, Validity, Progress, OfferedAgain, SameForCuttings, AdditionEndsStreams}
 use Rattle.demands.proofs.Acceptance.{accepted-if}
 use Rattle.demands.proofs.Carried.{Carried, carried, rules-at}
-use Rattle.demands.proofs.Tracked.{opens, tracked}
+use Rattle.demands.proofs.Tracked.{opens as tracks, tracked}
 use Rattle.demands.proofs.Chained.{joined-bytes}
 use Rattle.demands.proofs.States.{state-is, bytes-counted}
 use Rattle.demands.proofs.Busy.{busy-is}
@@ -79,7 +79,13 @@ table c = passing (tableIn c) (built c .passed)
 held : (c : Setting) → Carried (tableIn c) (rulesIn c)
 held c = carried (tableIn c) (acceptedIn c) (built c)
 
--- the stream that is opened, written out
+-- the opening is accepted, and this is the stream that is opened
+pub opens : (c : Setting) → opened (tableIn c) .number ≡ 0
+unfolding opened
+opens c =
+    ap (λ (b : Bool).
+    cond {A = Opened} b (record { number = 0; stream = fresh (rulesOf (tableIn c)) (positionsOf (tableIn c)) false }) (record { number = 1; stream = fresh 0 0 true }) .number) (table c)
+
 pub begins : (c : Setting) → streamIn c ≡ fresh (rulesOf (tableIn c)) (positionsOf (tableIn c)) false
 begins c = opened-table (tableIn c) (table c)
 
@@ -123,7 +129,7 @@ busy-figure c items calls =
     let s : Stream = fresh (rulesOf t) (positionsOf t) false in
     let refused : OthersRefused t s items = subst (λ (s : Stream). OthersRefused t s items) (begins c) (calls .0) in
     let bytes : List ℕ = bytesOf t s items in
-    let first = opens (automaton t) (b .rule) (b .from) (b .tab) (b .carries) bytes s refl refl refl in
+    let first = tracks (automaton t) (b .rule) (b .from) (b .tab) (b .carries) bytes s refl refl refl in
     let last = tracked (automaton t) (b .rule) (b .from) (b .tab) (b .carries) bytes (joined-bytes t items s refused (calls .1)) s first (length bytes) (omega arith) in
     let figure : Busy (rulesIn c) bytes (busyOf (stateAfter (automaton t) s bytes (length bytes))) =
     busy-is t (rulesIn c) b bytes (stateAfter (automaton t) s bytes (length bytes)) (last .alive) in

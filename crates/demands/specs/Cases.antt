@@ -10,7 +10,7 @@ use native.Mathlib.Omega.{arith}
 use lib.ListN.{length}
 use Rattle.table.specs.Layout.{tableWords, maxRules}
 use Rattle.table.specs.Table.{emptied}
-use Rattle.stream.specs.Calls.{space}
+use Rattle.stream.specs.Calls.{opened, space}
 use Rattle.regex.specs.Ordered.{Pair}
 use Rattle.rules.specs.declared.Added.{Added}
 use Rattle.rules.specs.Add.{answer, addAnswer, addWords}
@@ -51,10 +51,11 @@ unfoldable pub expected : List (String × List Pair) → List Pair → List Outc
 expected [] closing = by-close 0 closing ∷ []
 expected (b ∷ bs) closing = by-scan 0 (length (bytes (b .0))) (b .1) ∷ expected bs closing
 
--- "Opening .., scans of the blocks, a closing": whatever the lists hold before, if both have 32 slots
+-- the opening is accepted, and the calls after it give this, whatever the lists hold before, if both have 32 slots
 abbrev pub Gives : Setting → Log → Type 0
-Gives c log = (lent : ℕ → List ℕ × List ℕ) → ((i : ℕ) → maxRules ≤ space (lent i .0) (lent i .1))
-    → outcomesOf (tableIn c) (streamIn c) (callsOn (log .blocks) lent) ≡ expected (log .blocks) (log .closing)
+Gives c log = (opened (tableIn c) .number ≡ 0)
+    × ((lent : ℕ → List ℕ × List ℕ) → ((i : ℕ) → maxRules ≤ space (lent i .0) (lent i .1))
+    → outcomesOf (tableIn c) (streamIn c) (callsOn (log .blocks) lent) ≡ expected (log .blocks) (log .closing))
 
 abbrev pub AllGive : Setting → List Log → Type 0
 AllGive c logs = (log : Log) → List·Memᴰ log logs → Gives c log
@@ -78,18 +79,18 @@ unfoldable pub answersOf : List ℕ → List Addition → List Added
 answersOf t [] = []
 answersOf t (a ∷ l) = addAnswer t (a .id) (a .flags) (a .pattern) ∷ answersOf (addWords t (a .id) (a .flags) (a .pattern)) l
 
--- the rules of all cases, one after the other in one table: each answer is as for the rule alone, and each log gives the pairs of all the accepted rules
-abbrev pub rulesIn : List Case → List Addition
-rulesIn cases = map (λ (k : Case). k .rule) cases
+abbrev pub additionsIn : List Case → List Addition
+additionsIn cases = map (λ (k : Case). k .rule) cases
 
+-- the rules of all cases, one after the other in one table: each answer is as for the rule alone, and each log gives the pairs of all the accepted rules
 abbrev pub Together : List Case → List Log → Type 0
 Together cases logs = (words : List ℕ) (long : tableWords ≤ length words)
-    → (answersOf (emptied words) (rulesIn cases) ≡ map (λ (k : Case). answerIn (k .verdict)) cases)
-    × AllGive (record { words = words; long = long; additions = rulesIn cases }) logs
+    → (answersOf (emptied words) (additionsIn cases) ≡ map (λ (k : Case). answerIn (k .verdict)) cases)
+    × AllGive (record { words = words; long = long; additions = additionsIn cases }) logs
 
 -- ---- the table
 
--- "Ids: any 32-bit number": the number is taken to 32 bits, which those below have
+-- "Ids: any 32-bit number": an id is taken as its low 32 bits
 abbrev pub rule : (id flags : ℕ) → String → Addition
 rule id flags pattern = record { id = id % 2 ^ 32; narrow = omega arith; flags = flags; pattern = bytes pattern }
 

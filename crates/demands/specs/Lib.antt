@@ -1,7 +1,8 @@
--- What the demands are stated with: lists of calls, and the statements.
+-- What is promised: lists of calls (Chain), demand 1, demands 2 and 3 and what follows for whole lists (Demands), the worked cases of the rules (Cases), one
+-- instance of demand 3 (Example).
 pub mod Chain
-pub mod Demands
 pub mod Demand1
+pub mod Demands
 pub mod Cases
 pub mod Example
 pub mod Alone
