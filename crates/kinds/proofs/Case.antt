@@ -7,7 +7,7 @@ use lib.Dec.{leb}
 use Rattle.kinds.specs.Kind.{within, isLower, isUpper}
 use Rattle.kinds.specs.Case.{otherCase}
 
-within-true : (lo hi b : ℕ) → within lo hi b ≡ true → (lo ≤ b) × (b ≤ hi)
+pub within-true : (lo hi b : ℕ) → within lo hi b ≡ true → (lo ≤ b) × (b ≤ hi)
 within-true lo hi b e =
     let both = and-eq-true-iff (leb lo b) (leb b hi) .0 e in
     (leb-true lo b (both .0), leb-true b hi (both .1))

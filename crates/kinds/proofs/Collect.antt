@@ -2,25 +2,16 @@
 use mathlib.Core.Path.{_≡_, refl, sym, ap, _∙_}
 use mathlib.Core.Bool.{Bool, true, false, _&&_, _||_, and-true, and-false, or-false, and-or-distrib-left}
 use mathlib.Core.List.{List}
-use Prim.Native.Nat.{ℕ, _+_, _≤_, _<_}
-use native.Mathlib.Decide.{decLt, ℕ-discrete}
+use Prim.Native.Nat.{ℕ, _+_, _≤_}
 use native.Mathlib.Omega.{arith}
-use borrow.Author.Tests.{lt-ltb, le-ltb, eq-eqb, ne-eqb, eqb-true}
+use borrow.Author.Tests.{lt-ltb, le-ltb, eqb-true}
 use lib.Dec.{eqb, ltb}
 use Rattle.sets.specs.Set.{setOf, emptySet, inserted}
-use Rattle.sets.proofs.Laws.{setOf-ext, inserted-setOf}
+use Rattle.sets.proofs.Laws.{setOf-ext, inserted-setOf, below-next}
 
 -- the members of f below n
 abbrev pub membersBelow : (ℕ → Bool) → ℕ → List ℕ
 membersBelow f n = setOf (λ q. f q && ltb q n)
-
-below-next : (q n : ℕ) → ltb q (n + 1) ≡ (ltb q n || eqb q n)
-below-next q n = go (decLt q n) (ℕ-discrete q n)
-  where
-    go : Dec (q < n) → Dec (q ≡ n) → ltb q (n + 1) ≡ (ltb q n || eqb q n)
-    go (yes l) d = rw (lt-ltb q (n + 1) (omega arith), lt-ltb q n l)
-    go (no l) (yes e) = rw (lt-ltb q (n + 1) (omega arith), le-ltb q n (omega arith), eq-eqb q n e)
-    go (no l) (no e) = rw (le-ltb q (n + 1) (omega arith), le-ltb q n (omega arith), ne-eqb q n e)
 
 module _ (f : ℕ → Bool) where
   at-n : (n q : ℕ) → (f q && eqb q n) ≡ (f n && eqb q n)

@@ -261,6 +261,15 @@ range-words s lo hi =
 
 -- ---- some member, or none
 
+-- what is below n + 1 is below n, or n
+pub below-next : (q n : ℕ) → ltb q (n + 1) ≡ (ltb q n || eqb q n)
+below-next q n = go (decLt q n) (ℕ-discrete q n)
+  where
+    go : Dec (q < n) → Dec (q ≡ n) → ltb q (n + 1) ≡ (ltb q n || eqb q n)
+    go (yes l) d = rw (lt-ltb q (n + 1) (omega arith), lt-ltb q n l)
+    go (no l) (yes e) = rw (lt-ltb q (n + 1) (omega arith), le-ltb q n (omega arith), eq-eqb q n e)
+    go (no l) (no e) = rw (le-ltb q (n + 1) (omega arith), le-ltb q n (omega arith), ne-eqb q n e)
+
 pub any-at : (n : ℕ) (f : ℕ → Bool) (k : ℕ) → k < n → f k ≡ true → any n f ≡ true
 unfolding any
 any-at zero f k h e = absurd (not-suc-le-zero h)

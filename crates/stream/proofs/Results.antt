@@ -31,7 +31,7 @@ pub busy-fresh : (rules positions : ℕ) (shut : Bool) → busyOf (fresh rules p
 unfolding sizeOf
 busy-fresh rules positions shut = count-never maxPositions (has emptySet) has-empty
 
-opened-stream : (t : List ℕ) → isTable t ≡ true → opened t .stream ≡ fresh (rulesOf t) (positionsOf t) false
+pub opened-stream : (t : List ℕ) → isTable t ≡ true → opened t .stream ≡ fresh (rulesOf t) (positionsOf t) false
 unfolding opened
 opened-stream t e = rw e
 
