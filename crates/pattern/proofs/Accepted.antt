@@ -22,6 +22,7 @@ use Rattle.tokens.specs.Quantifier.{formOf}
 use Rattle.tokens.specs.Token.{lexemeOf}
 use Rattle.sets.specs.Set.{emptySet}
 use Rattle.regex.specs.Count.{limit, saturating, nullable}
+use Rattle.regex.proofs.Logic.{true-T}
 use Rattle.pattern.specs.Nodes.{Syntax}
 use Rattle.pattern.specs.Walk.{Target, nothing, single, repeated, Frame, State, Read, tree, refused, Next, stop, go, groupOf, deepest, targetFault, closing, opening, act, context, next, walk, begin}
 use Rattle.pattern.specs.Read.{longest, judged, readOf, answerOf}
@@ -37,10 +38,6 @@ use Rattle.pattern.proofs.Answers.{accepted-tree}
 use Rattle.pattern.proofs.Rows.{tokenRows, lower-clean, lexeme-clean, memberRows, members-clean}
 
 -- ---- truth values
-
-T-is : (b : Bool) → T b → b ≡ true
-T-is true t = refl
-T-is false t = absurd t
 
 is-T : (b : Bool) → b ≡ true → T b
 is-T true e = tt
@@ -469,26 +466,26 @@ module _ (s : List ℕ) (o : Options) (t : Syntax) (some : nullable t ≡ false)
       w
 
   reason-refuses : (n : ℕ) → Reason s o n → ⊥
-  reason-refuses n (Reason.escape-cut at m S x) = against (rows-refused s o at m S (left-true (row6 (drop at s)) _ (T-is _ x)))
-  reason-refuses n (Reason.member-cut at M x) = member-against at M (left-true (ofEnd row6 (drop at s)) _ (T-is _ x))
+  reason-refuses n (Reason.escape-cut at m S x) = against (rows-refused s o at m S (left-true (row6 (drop at s)) _ (true-T _ x)))
+  reason-refuses n (Reason.member-cut at M x) = member-against at M (left-true (ofEnd row6 (drop at s)) _ (true-T _ x))
   reason-refuses n (Reason.escape-large at m S x) =
-      against (rows-refused s o at m S (right-true (row6 (drop at s)) _ (left-true (row7 (drop at s)) _ (T-is _ x))))
-  reason-refuses n (Reason.member-large at M x) = member-against at M (right-true (ofEnd row6 (drop at s)) _ (left-true (ofEnd row7 (drop at s)) _ (T-is _ x)))
+      against (rows-refused s o at m S (right-true (row6 (drop at s)) _ (left-true (row7 (drop at s)) _ (true-T _ x))))
+  reason-refuses n (Reason.member-large at M x) = member-against at M (right-true (ofEnd row6 (drop at s)) _ (left-true (ofEnd row7 (drop at s)) _ (true-T _ x)))
   reason-refuses n (Reason.class-open at bracket b C i h) =
       against (class-refused s o bracket (C .state) (C .stands) (C .token) (open-refuses (C .state .options .caseless) s (bracket + 1) at b i h))
   reason-refuses n (Reason.bad-range at M x) =
-      member-against at M (right-true (ofEnd row6 (drop at s)) _ (right-true (ofEnd row7 (drop at s)) _ (left-true (row9 (drop at s)) _ (T-is _ x))))
-  reason-refuses n (Reason.nothing-repeated at m S x) = against (ten-refused s o at m S (T-is _ x))
+      member-against at M (right-true (ofEnd row6 (drop at s)) _ (right-true (ofEnd row7 (drop at s)) _ (left-true (row9 (drop at s)) _ (true-T _ x))))
+  reason-refuses n (Reason.nothing-repeated at m S x) = against (ten-refused s o at m S (true-T _ x))
   reason-refuses n (Reason.bad-bounds at m S x) =
-      against (rows-refused s o at m S (right-true (row6 (drop at s)) _ (right-true (row7 (drop at s)) _ (left-true (row11 (drop at s)) _ (T-is _ x)))))
+      against (rows-refused s o at m S (right-true (row6 (drop at s)) _ (right-true (row7 (drop at s)) _ (left-true (row11 (drop at s)) _ (true-T _ x)))))
   reason-refuses n (Reason.group-open at m S h z) = against (open-refused s o at m S h z)
   reason-refuses n (Reason.no-group at m S e z) = against (close-refused s o at m S e z)
   reason-refuses n (Reason.too-deep at m i S e h) = against (deep-refused s o at m S i e h)
   reason-refuses n (Reason.unsupported at m S x) =
-      against (rows-refused s o at m S (right-true (row6 (drop at s)) _ (right-true (row7 (drop at s)) _ (right-true (row11 (drop at s)) (row14 (drop at s)) (T-is _ x)))))
+      against (rows-refused s o at m S (right-true (row6 (drop at s)) _ (right-true (row7 (drop at s)) _ (right-true (row11 (drop at s)) (row14 (drop at s)) (true-T _ x)))))
   reason-refuses n (Reason.member-unsupported at M x) =
-      member-against at M (right-true (ofEnd row6 (drop at s)) _ (right-true (ofEnd row7 (drop at s)) _ (right-true (row9 (drop at s)) (ofEnd memberRow14 (drop at s)) (T-is _ x))))
-  reason-refuses n (Reason.matches-nothing u F x) = true-not-false (nullable t) (ap nullable (sym (finished-tree u F)) ∙ T-is _ x) some
+      member-against at M (right-true (ofEnd row6 (drop at s)) _ (right-true (ofEnd row7 (drop at s)) _ (right-true (row9 (drop at s)) (ofEnd memberRow14 (drop at s)) (true-T _ x))))
+  reason-refuses n (Reason.matches-nothing u F x) = true-not-false (nullable t) (ap nullable (sym (finished-tree u F)) ∙ true-T _ x) some
   reason-refuses n (Reason.too-many u F x) = let e : saturating u ≡ saturating t = ap saturating (finished-tree u F) in omega arith
 
 -- ---- the theorem

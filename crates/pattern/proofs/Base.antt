@@ -1,6 +1,6 @@
 -- Small laws that the other files share: tests taken apart, truth values, and one run of stores after another. Assumes nothing.
 use mathlib.Core.Path.{_≡_, refl, ap, _∙_}
-use mathlib.Core.Bool.{Bool, true, false, cond, _||_}
+use mathlib.Core.Bool.{Bool, true, false, _||_}
 use mathlib.Core.List.{List, [], _∷_, _++_}
 use mathlib.Core.Logic.{_⊎_, inl, inr}
 use Prim.Native.Nat.{ℕ, suc, _+_, _≤_, _<_}
@@ -10,6 +10,7 @@ use borrow.Author.Tests.{ltb-true, ltb-false, eqb-true, eqb-false}
 use lib.Dec.{ltb, eqb}
 use lib.ListN.{length, set}
 use lib.Seq.{sets}
+pub use Rattle.tokens.proofs.Sizes.{either}
 
 -- ---- tests
 
@@ -17,11 +18,6 @@ use lib.Seq.{sets}
 pub split : {G : Type 0} (b : Bool) → (b ≡ true → G) → (b ≡ false → G) → G
 split true f g = f refl
 split false f g = g refl
-
--- what holds of both arms of a test, each by what the test says there, holds of the one that it picks
-pub either : {A : Type 0} (P : A → Type 0) (t : Bool) {a b : A} → (t ≡ true → P a) → (t ≡ false → P b) → P (cond t a b)
-either P true f g = f refl
-either P false f g = g refl
 
 pub by-lt : (m n : ℕ) → (m < n) ⊎ (n ≤ m)
 by-lt m n = split (ltb m n) (λ e. inl (ltb-true m n e)) (λ e. inr (ltb-false m n e))

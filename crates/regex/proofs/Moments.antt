@@ -1,9 +1,9 @@
 -- When a pair falls, in the base: with its last byte if some way passes no end assertion, else at the closing, where only the last offset
 -- can. What is settled at a moment is read off the positions reached by the pair's own bytes, and the world that follows them.
 -- Assumes nothing.
-use mathlib.Core.Path.{_≡_, refl, sym, subst, subst₂, ap, ap₂, _∙_}
+use mathlib.Core.Path.{_≡_, sym, subst, subst₂, ap, ap₂, _∙_}
 use mathlib.Core.Logic.{_⊎_, inl, inr, _↔_}
-use mathlib.Core.Bool.{Bool, true, false, _&&_, and-false}
+use mathlib.Core.Bool.{Bool, true, false, _&&_, and-false, and-true}
 use mathlib.Core.List.{List, [], _∷_, _++_}
 use Prim.Native.Nat.{ℕ, zero, suc, _+_, _≤_, _<_}
 use native.Mathlib.Omega.{arith}
@@ -87,10 +87,6 @@ module _ (bytes : List ℕ) (r : Rule) where
   ended-at-closing : (e : ℕ) → Ended (suc n) e ≡ no-bytes (drop e bytes)
   ended-at-closing e =
       ap₂ (λ (l : List ℕ) (b : Bool). no-bytes (drop e l) && b) (take-all (suc n) bytes (omega arith)) (at-closing bytes) ∙ and-true (no-bytes (drop e bytes))
-    where
-      and-true : (b : Bool) → (b && true) ≡ b
-      and-true true = refl
-      and-true false = refl
 
   -- at the closing: the end stands after the last byte and after no other
   pub by-end : Settled bytes r (suc n) n ↔ EndsAt n true

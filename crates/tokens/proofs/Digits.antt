@@ -1,24 +1,18 @@
 -- Digits and the number that they make. The digits at a place are none where the byte there is no digit, and else that byte's and those after it;
 -- once the number has reached the cap, further digits do not change it.
 use mathlib.Core.Path.{_≡_, refl, ap, _∙_}
-use mathlib.Core.Bool.{Bool, true, false, cond, and-eq-true-iff}
+use mathlib.Core.Bool.{Bool, true, false, cond}
 use mathlib.Core.List.{List, [], _∷_}
 use Prim.Native.Nat.{ℕ, suc, _+_, _-_, _*_, _≤_, _<_, min}
 use native.Mathlib.Decide.{decLt}
 use native.Mathlib.Nat.{le-mul-of-pos-right}
 use native.Mathlib.Omega.{arith}
-use borrow.Author.Tests.{lt-ltb, le-ltb, leb-true}
-use lib.Dec.{leb, ltb}
+use borrow.Author.Tests.{lt-ltb, le-ltb}
+use lib.Dec.{ltb}
 use lib.ListN.{length, getD, drop, length-drop, drop-of-length-le}
-use Rattle.kinds.specs.Kind.{within}
 use Rattle.tokens.specs.Number.{digitOf, digits, valueFrom, cap, some, numeralOf}
 use Rattle.tokens.specs.declared.Numeral.{Numeral}
 use Rattle.tokens.proofs.Suffixes.{front, inside}
-
-pub within-true : (lo hi b : ℕ) → within lo hi b ≡ true → (lo ≤ b) × (b ≤ hi)
-within-true lo hi b e =
-    let both = and-eq-true-iff (leb lo b) (leb b hi) .0 e in
-    (leb-true lo b (both .0), leb-true b hi (both .1))
 
 module _ (s : List ℕ) (at : ℕ) where
   -- past the end there is no digit

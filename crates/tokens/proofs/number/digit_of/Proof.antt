@@ -2,7 +2,7 @@
 use mathlib.Core.Path.{sym, _∙_}
 use native.Mathlib.Omega.{arith}
 use Rattle.tokens.specs.Number.{digitOf}
-use Rattle.tokens.proofs.Digits.{within-true}
+use Rattle.kinds.proofs.Case.{within-true}
 use Rattle.tokens.proofs.number.digit_of.Statement.{statement}
 use Rattle.tokens.proofs.number.digit_of.Tie as tie
 
