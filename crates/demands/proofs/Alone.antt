@@ -3,22 +3,20 @@
 use mathlib.Core.Path.{_≡_, refl, sym, subst, ap, _∙_}
 use mathlib.Core.Logic.{_⊎_, inl, inr}
 use mathlib.Core.Bool.{Bool, true, false, cond}
-use mathlib.Core.List.{List, [], _∷_, _++_, map, List·Memᴰ, List·Memᴰ·head, List·Memᴰ·tail, List·Memᴰ·cases-cons, List·Memᴰ·not-nil, List·Memᴰ·append-cases, Memᴰ·map}
+use mathlib.Core.List.{List, [], _∷_, map, List·Memᴰ, List·Memᴰ·head, List·Memᴰ·tail, List·Memᴰ·cases-cons, List·Memᴰ·not-nil, List·Memᴰ·append-cases, Memᴰ·map}
 use Prim.Native.Nat.{ℕ}
 use native.Mathlib.Omega.{arith}
 use lib.Dec.{eqb}
 use borrow.Author.Tests.{eqb-true, eq-eqb}
 use Rattle.table.specs.Automaton.{automaton}
-use Rattle.regex.specs.Rule.{Rule}
-use Rattle.regex.specs.Ordered.{Pair, Ordered, ofId}
+use Rattle.regex.specs.Ordered.{Ordered, ofId}
 use Rattle.regex.proofs.Alone.{alone}
 use Rattle.regex.proofs.OneList.{one-answer}
 use Rattle.pattern.specs.Walk.{Read, tree, refused}
 use Rattle.rules.specs.Additions.{Addition, Accepted, ruleOf, used, readingOf, nextAnswer, withNew, afterNext, acceptedAfter}
 use Rattle.rules.proofs.Additions.{Accepts, accepts}
 use Rattle.rules.proofs.Encodes.{distinct}
-use Rattle.demands.specs.Chain.{Item}
-use Rattle.demands.specs.Demands.{Setting, tableIn, acceptedIn, rulesIn, taken, joined}
+use Rattle.demands.specs.Demands.{tableIn, acceptedIn, rulesIn, taken, joined}
 use Rattle.demands.specs.Alone.{Undisturbed, AcceptedAlone}
 use Rattle.demands.proofs.Theorems.{demand3, built}
 

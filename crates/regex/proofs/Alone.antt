@@ -8,7 +8,7 @@ use Prim.Native.Nat.{ℕ}
 use lib.Dec.{eqb}
 use borrow.Author.Tests.{eqb-true, eq-eqb}
 use Rattle.regex.specs.Rule.{Rule, Distinct}
-use Rattle.regex.specs.Ordered.{Entry, entry, Before, Rising, Owed, IsList, Pair, pair, ofId, Ordered}
+use Rattle.regex.specs.Ordered.{Entry, entry, Rising, Owed, IsList, Pair, pair, ofId, Ordered}
 
 -- the entries of one id
 of : ℕ → Entry → Bool

@@ -1,17 +1,17 @@
 -- The count worked out from the tree is the number of positions of the written-out form; the saturating one is it, capped; and the test
 -- for matching no bytes says what it is to say. A repeat is counted by its copies. Assumes nothing.
 use mathlib.Core.Path.{_≡_, refl, sym, ap, ap₂, subst, _∙_}
-use mathlib.Core.Logic.{_⊎_, inl, inr, _↔_}
-use mathlib.Core.Bool.{Bool, true, false, _&&_, _||_, and-true, and-self, and-self-left}
-use Prim.Native.Nat.{ℕ, zero, suc, _+_, _*_, _≤_, _<_, min, max}
-use native.Mathlib.Nat.{suc-mul, zero-mul, mul-zero, mul-suc, add-assoc, add-mul, mul-le-mul-left}
+use mathlib.Core.Logic.{_↔_}
+use mathlib.Core.Bool.{Bool, true, _&&_, _||_, and-true, and-self, and-self-left}
+use Prim.Native.Nat.{ℕ, zero, suc, _+_, _*_, _≤_, _<_, max}
+use native.Mathlib.Nat.{suc-mul, zero-mul, add-mul}
 use native.Mathlib.Decide.{decLe}
 use native.Mathlib.Omega.{arith}
 use lib.Dec.{T}
-use Rattle.regex.specs.Tree.{Tree, empty, item, assertion, then, or, repeat, Extra, atMost, unbounded, Text}
-use Rattle.regex.specs.Form.{Form, eps, take, check, seq, alt, plus, opt, Match, positions, copies, optionals, repeated, write}
+use Rattle.regex.specs.Tree.{Tree, empty, item, assertion, then, or, repeat, Extra, atMost, unbounded}
+use Rattle.regex.specs.Form.{Form, plus, positions, copies, optionals, repeated, write}
 use Rattle.regex.specs.Count.{copied, exact, limit, capped, saturating, nullable, granting, MatchesEmpty}
-use Rattle.regex.specs.Automaton.{Null, null}
+use Rattle.regex.specs.Automaton.{null}
 use Rattle.regex.proofs.Written.{written, unwritten}
 use Rattle.regex.proofs.Step.{null-is}
 use Rattle.regex.proofs.Computed.{null-T}

@@ -1,11 +1,10 @@
 -- Whether a form matches a span, and whether a way reaches a position, is decided: every part of a match lies within its span, so all
 -- there is to try is finite. Assumes nothing.
-use mathlib.Core.Path.{_≡_, refl, sym, subst}
+use mathlib.Core.Path.{_≡_, refl, subst}
 use mathlib.Core.Logic.{_⊎_, inl, inr}
 use Prim.Native.Nat.{ℕ, zero, suc, _+_, _≤_, _<_}
 use native.Mathlib.Omega.{arith}
 use native.Mathlib.Decide.{ℕ-discrete, decLt, map-dec}
-use lib.Dec.{T}
 use Rattle.regex.specs.Tree.{Tree, Text, Means}
 use Rattle.regex.specs.Form.{Form, eps, take, check, seq, alt, plus, opt, Star, done, more, Match, positions, Reach, write}
 use Rattle.regex.specs.Live.{Reached}

@@ -1,16 +1,16 @@
 -- A worked busy figure: after the bytes `ba`, the rule `ba{0,2}` has one live position. Its optional copies are nested, so the second `a`
 -- can only follow the first; side by side either could have taken the byte, and two would be live. Assumes nothing.
 use mathlib.Core.Path.{_≡_, refl, subst}
-use mathlib.Core.Logic.{_⊎_, inl, inr}
+use mathlib.Core.Logic.{inl, inr}
 use mathlib.Core.Bool.{false}
 use mathlib.Core.List.{List, [], _∷_}
-use Prim.Native.Nat.{ℕ, zero, suc, _+_, _/_, _%_, _^_, _<_}
+use Prim.Native.Nat.{ℕ, _^_}
 use native.Mathlib.Omega.{arith}
 use lib.Dec.{T}
 use Rattle.sets.specs.Set.{has, on}
 use Rattle.regex.specs.Tree.{item, then, repeat, atMost}
 use Rattle.regex.specs.Form.{write, repeated, copies, optionals, positions, Match, Reach}
-use Rattle.regex.specs.Rule.{Rule, ByteSet, Assertion, stream}
+use Rattle.regex.specs.Rule.{Rule, ByteSet, stream}
 use Rattle.regex.specs.Live.{Live, none, one, skip, Busy}
 use Rattle.regex.proofs.Range.{reach-inside}
 

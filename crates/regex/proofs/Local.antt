@@ -1,12 +1,11 @@
 -- A match from s to e looks at the bytes before e and the assertions up to e; a way that has just taken the byte before k looks at the
 -- bytes and the assertions before k. So what a longer text adds changes neither. Assumes nothing.
-use mathlib.Core.Path.{_≡_, refl, sym, subst}
-use mathlib.Core.Logic.{_⊎_, inl, inr}
-use Prim.Native.Nat.{ℕ, zero, suc, _+_, _≤_, _<_}
+use mathlib.Core.Logic.{inl, inr}
+use Prim.Native.Nat.{ℕ, _≤_, _<_}
 use native.Mathlib.Omega.{arith}
 use lib.Dec.{T}
 use Rattle.regex.specs.Tree.{Text}
-use Rattle.regex.specs.Form.{Form, eps, take, check, seq, alt, plus, opt, Star, done, more, Match, positions, Reach}
+use Rattle.regex.specs.Form.{Form, eps, take, check, seq, alt, plus, opt, Star, done, more, Match, Reach}
 
 module _ {C A : Type 0} (t : Text C A) where
   star-up : (f : Form C A) → ((s e : ℕ) → Match t f s e → s ≤ e) → (s e : ℕ) → Star (Match t f) s e → s ≤ e

@@ -4,19 +4,19 @@
 use mathlib.Core.Path.{_≡_, sym, subst, subst₂, ap, ap₂, _∙_}
 use mathlib.Core.Logic.{_⊎_, inl, inr, _↔_}
 use mathlib.Core.Bool.{Bool, true, false, _&&_, and-false, and-true}
-use mathlib.Core.List.{List, [], _∷_, _++_}
-use Prim.Native.Nat.{ℕ, zero, suc, _+_, _≤_, _<_}
+use mathlib.Core.List.{List, [], _++_}
+use Prim.Native.Nat.{ℕ, suc, _+_, _≤_, _<_}
 use native.Mathlib.Omega.{arith}
-use native.Mathlib.Decide.{decLt, decLe, ℕ-discrete}
+use native.Mathlib.Decide.{decLt, decLe}
 use lib.Dec.{T, ltb, ltb→lt, lt→ltb}
-use lib.ListN.{length, getD, take, drop, length-take, length-drop, take-append-drop}
+use lib.ListN.{length, getD, take, drop, length-take, take-append-drop}
 use lib.Seq.{length-take-le, take-all, take-take, drop-cons, drop-length}
 use Rattle.sets.specs.Set.{has}
 use Rattle.regex.specs.Tree.{Means}
 use Rattle.regex.specs.Form.{Form, Match, Reach, write}
 use Rattle.regex.specs.Gap.{no-bytes}
 use Rattle.regex.specs.Rule.{Rule, Assertion, world, holds, ByteSet, stream, MatchEnds}
-use Rattle.regex.specs.Ordered.{closing, end-known, seen, Settled, Falls, Earlier, Stays}
+use Rattle.regex.specs.Ordered.{closing, end-known, seen, Settled, Falls}
 use Rattle.regex.specs.Automaton.{Last}
 use Rattle.regex.proofs.Logic.{and-T, true-T, false-T}
 use Rattle.regex.proofs.Written.{written, unwritten}

@@ -3,16 +3,15 @@
 use mathlib.Core.Path.{_≡_, refl, sym, subst, ap, _∙_}
 use mathlib.Core.Logic.{_⊎_, inl, inr, _↔_}
 use mathlib.Core.List.{List, [], _∷_, map, List·Memᴰ, List·Memᴰ·head, List·Memᴰ·tail, List·Memᴰ·cases-cons, List·Memᴰ·not-nil}
-use Prim.Native.Nat.{ℕ, zero, suc, _+_, _≤_, _<_, max}
+use Prim.Native.Nat.{ℕ, suc, _+_, _≤_, _<_, max}
 use native.Mathlib.Omega.{arith}
 use native.Mathlib.Decide.{decLe, decLt, ℕ-discrete, map-dec}
-use lib.Dec.{T}
 use Rattle.regex.specs.Tree.{Means}
 use Rattle.regex.specs.Rule.{Rule}
 use Rattle.regex.specs.Ordered.{closing, seen, Settled, Falls, Earlier, Hides, Stays, Entry, entry, Before, Rising, Owed, IsList, Pair, pair, Ordered}
 use Rattle.regex.proofs.Logic.{dec-T, dec-both, dec-either, dec-implies, dec-not, dec-some, dec-every}
 use Rattle.regex.proofs.Decidable.{means-dec}
-use Rattle.regex.proofs.Enumerated.{Lists, Listed, all, moment, offset, id}
+use Rattle.regex.proofs.Enumerated.{all, moment, offset, id}
 
 -- at most one
 

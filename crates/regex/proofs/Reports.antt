@@ -4,14 +4,13 @@
 use mathlib.Core.Path.{_≡_, refl, sym, subst, subst₂, ap, _∙_}
 use mathlib.Core.Logic.{_⊎_, inl, inr, _↔_}
 use mathlib.Core.List.{List, [], _∷_, map, List·Memᴰ, List·Memᴰ·head, List·Memᴰ·tail, List·Memᴰ·not-nil}
-use Prim.Native.Nat.{ℕ, zero, suc, _+_, _≤_, _<_}
+use Prim.Native.Nat.{ℕ, _≤_, _<_}
 use native.Mathlib.Omega.{arith}
 use native.Mathlib.Decide.{decLt}
-use lib.Dec.{T}
 use lib.ListN.{length}
 use Rattle.regex.specs.Rule.{Rule, MatchEnds, Reported, Distinct}
-use Rattle.regex.specs.Ordered.{closing, Settled, Falls, Earlier, Stays, Entry, entry, Before, Rising, Owed, IsList, Pair, pair, Ordered, Once}
-use Rattle.regex.proofs.Moments.{within, stays-settled, falls-when, falls-some, settled-whole}
+use Rattle.regex.specs.Ordered.{closing, Falls, Earlier, Stays, Entry, entry, Before, Rising, IsList, Pair, pair, Ordered, Once}
+use Rattle.regex.proofs.Moments.{stays-settled, falls-when, falls-some, settled-whole}
 
 module _ (bytes : List ℕ) (r : Rule) where
   -- A pair that falls matches on the whole stream, and a match falls at some moment.

@@ -1,9 +1,8 @@
 -- Where a form's positions are numbered from makes no difference: numbered from d further on, each set is the same set d further on. So
 -- what is said of a rule by itself holds of it among others in one table. Assumes nothing.
-use mathlib.Core.Path.{_≡_, refl, sym, subst, ap}
-use mathlib.Core.Logic.{_⊎_, inl, inr, _↔_}
+use mathlib.Core.Path.{_≡_, sym, subst, ap}
+use mathlib.Core.Logic.{inl, inr, _↔_}
 use Prim.Native.Nat.{ℕ, _+_}
-use native.Mathlib.Nat.{add-assoc}
 use native.Mathlib.Omega.{arith}
 use Rattle.regex.specs.Tree.{Text}
 use Rattle.regex.specs.Form.{Form, eps, take, check, seq, alt, plus, opt, Reach, positions}

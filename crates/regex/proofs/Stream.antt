@@ -1,10 +1,10 @@
 -- The automaton over a stream of bytes: what is reached up to the bytes so far does not depend on what comes later, what one byte more
 -- reaches, and where a match ends. For any assertions that look one byte ahead (`Near`). Assumes nothing.
-use mathlib.Core.Path.{_≡_, refl, sym, subst, subst₂, ap, ap₂, _∙_, fun-ext}
+use mathlib.Core.Path.{_≡_, sym, subst, ap, ap₂, _∙_, fun-ext}
 use mathlib.Core.Logic.{_⊎_, inl, inr, _↔_}
-use mathlib.Core.Bool.{Bool, true, false, _&&_}
+use mathlib.Core.Bool.{Bool, false}
 use mathlib.Core.List.{List, [], _∷_, _++_}
-use Prim.Native.Nat.{ℕ, zero, suc, _+_, _≤_, _<_}
+use Prim.Native.Nat.{ℕ, suc, _+_, _<_}
 use native.Mathlib.Omega.{arith}
 use lib.Dec.{T, ltb, lt→ltb, ltb→lt}
 use lib.ListN.{length, getD, take, drop, List·getD-append, length-append}

@@ -1,12 +1,12 @@
 -- A tree means what its written-out form matches, both ways. Everything but repeats is the same text; a repeat is taken apart by the
 -- number of copies it used. Assumes nothing.
 use mathlib.Core.Path.{_≡_, refl, sym, subst}
-use mathlib.Core.Logic.{_⊎_, inl, inr, _↔_}
-use Prim.Native.Nat.{ℕ, zero, suc, _+_, _-_, _≤_, _<_}
+use mathlib.Core.Logic.{inl, inr, _↔_}
+use Prim.Native.Nat.{ℕ, zero, suc, _+_, _-_, _≤_}
 use native.Mathlib.Nat.{zero-add, suc-add}
 use native.Mathlib.Omega.{arith}
 use Rattle.regex.specs.Tree.{Tree, empty, item, assertion, then, or, repeat, Extra, atMost, unbounded, Text, Times, Allows, Means}
-use Rattle.regex.specs.Form.{Form, eps, take, check, seq, alt, plus, opt, Star, done, more, Match, copies, optionals, repeated, write}
+use Rattle.regex.specs.Form.{Form, plus, Star, done, more, Match, copies, optionals, repeated, write}
 
 module _ (R : ℕ → ℕ → Type 0) where
   times-snoc : (k s m e : ℕ) → Times R k s m → R m e → Times R (suc k) s e

@@ -2,11 +2,11 @@
 use mathlib.Core.Path.{_≡_}
 use mathlib.Core.Bool.{false}
 use mathlib.Core.List.{List, [], _∷_}
-use Prim.Native.Nat.{ℕ, zero, suc, _+_}
+use Prim.Native.Nat.{ℕ, suc, _+_}
 use lib.ListN.{length}
 use Rattle.regex.specs.Tree.{Text}
 use Rattle.regex.specs.Form.{Form, write, positions, Reach}
-use Rattle.regex.specs.Rule.{Rule, ByteSet, Assertion, stream}
+use Rattle.regex.specs.Rule.{Rule, stream}
 
 -- some way through the form has just taken the byte before k at position q
 abbrev pub Reached : {C A : Type 0} → Text C A → Form C A → (b q k : ℕ) → Type 0
