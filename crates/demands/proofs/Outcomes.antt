@@ -17,7 +17,7 @@ use Rattle.stream.specs.declared.Scanned.{Scanned}
 use Rattle.stream.specs.declared.Closed.{Closed}
 use Rattle.stream.specs.Byte.{stateAfter, idsOf, endsOf, fits, closeIds}
 use Rattle.stream.specs.Valid.{streamLimit, valid}
-use Rattle.stream.specs.Calls.{space, spaceNumber, scanNumber, closeNumber, takenBy, scanned, scannedIds, scannedOffsets, shut, closed, closedIds, closedOffsets}
+use Rattle.stream.specs.Calls.{space, spaceNumber, scanNumber, closeNumber, takenBy, scanned, scannedIds, scannedOffsets, shut, closed, closedIds, closedOffsets, overLimit}
 use Rattle.stream.proofs.Blocks.{fits-le}
 use Rattle.regex.specs.Ordered.{Pair}
 use Rattle.demands.specs.Chain.{Item, scan, close, other, tableAfter, reportsIn, bytesOf, reportsOf, Outcome, by-scan, by-close, outcomesOf, OthersRefused, Closes, Bytes}
@@ -38,7 +38,7 @@ callsIn (other o ∷ l) = callsIn l
 
 -- the numbers that are left once table and state fit
 unfoldable pub scanLeft : (rules : ℕ) → Stream → (len room : ℕ) → ℕ
-scanLeft rules s len room = cond (s .closed) 19 (cond (ltb (streamLimit - s .taken) len) 21 (cond (ltb room rules) 20 0))
+scanLeft rules s len room = cond (s .closed) 19 (cond (overLimit s len) 21 (cond (ltb room rules) 20 0))
 
 unfoldable pub closeLeft : (rules : ℕ) → Stream → (room : ℕ) → ℕ
 closeLeft rules s room = cond (s .closed) 19 (cond (ltb room rules) 20 0)
