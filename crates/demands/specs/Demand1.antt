@@ -1,7 +1,8 @@
 -- Demand 1, over all the public calls: "Whatever rule bytes, rule table, stream state, block or report space it is handed, every call ends and gives one
 -- fixed answer. Bad input is refused by number, and a refusal changes no word of anything lent. Nobody has to check beforehand."
 -- `statement` of a function is the type of its theorem: its code, run on whatever it is handed, is safe, ends, and leaves what the `ensures` lines at its
--- head say. None of these functions has a `requires` line. The theorem is `demand1` of proofs/Demand1.antt.
+-- head say. It is stated for every resource algebra of the program logic, which M stands for. None of these functions has a `requires` line. The theorem is
+-- `demand1` of proofs/Demand1.antt.
 use mathlib.Core.Path.{_≡_}
 use mathlib.Core.Bool.{true}
 use mathlib.Core.List.{List}
