@@ -141,7 +141,7 @@ module _ (w : Automaton) where
     scan-open : (len room : ℕ) → s .taken + len ≤ streamLimit → maxRules ≤ room → scanLeft (w .rules) s len room ≡ 0
     unfolding scanLeft
     scan-open len room short wide =
-        let a : ltb (streamLimit - s .taken) len ≡ false = le-ltb (streamLimit - s .taken) len (omega arith) in
+        let a : ltb streamLimit (s .taken + len) ≡ false = le-ltb streamLimit (s .taken + len) (omega arith) in
         let b : ltb room (w .rules) ≡ false = le-ltb room (w .rules) (omega arith) in
         rw (running, a, b)
 

@@ -16,7 +16,7 @@ use Rattle.stream.specs.declared.Stream.{Stream}
 use Rattle.stream.specs.declared.Scanned.{Scanned}
 use Rattle.stream.specs.declared.Closed.{Closed}
 use Rattle.stream.specs.Byte.{stateAfter, idsOf, endsOf, fits, closeIds}
-use Rattle.stream.specs.Valid.{streamLimit, valid}
+use Rattle.stream.specs.Valid.{valid}
 use Rattle.stream.specs.Calls.{space, spaceNumber, scanNumber, closeNumber, takenBy, scanned, scannedIds, scannedOffsets, shut, closed, closedIds, closedOffsets, overLimit}
 use Rattle.stream.proofs.Blocks.{fits-le}
 use Rattle.regex.specs.Ordered.{Pair}
