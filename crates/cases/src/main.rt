@@ -1,0 +1,78 @@
+// The limits as cases, carried out on the library: full tables, positions, pattern bytes, groups, repeats of repeats. Each addition is a line with its number
+// and place, each stream a line with the reports of its scan and of its closing. The file `stdout` has the answers that the rules give.
+mod show;
+
+use show::add;
+use show::empty;
+use show::log;
+
+// 32 rules are a full table. There an id that is taken comes first.
+fn rules(words: &mut [u64]) {
+    empty(words);
+    let mut id: u32 = 1;
+    while id <= 33 {
+        add(words, id, b"a");
+        id += 1;
+    }
+    add(words, 7, b"a");
+    log(words, b"ba");
+}
+
+// 256 positions in one rule.
+fn positions(words: &mut [u64]) {
+    empty(words);
+    add(words, 1, b"a{257}");
+    add(words, 1, b"(ab){129}");
+    add(words, 1, b"(ab){128}");
+    empty(words);
+    add(words, 1, b"a{256}");
+    log(words, &[b'a'; 258]);
+}
+
+// 256 positions in a table.
+fn positions_in_all(words: &mut [u64]) {
+    empty(words);
+    add(words, 1, b"a{200}");
+    add(words, 2, b"a{57}");
+    add(words, 3, b"a{56}");
+    add(words, 4, b"b");
+    log(words, &[b'a'; 58]);
+}
+
+// 256 bytes of a pattern, one position each.
+fn bytes(words: &mut [u64]) {
+    empty(words);
+    add(words, 1, &[b'a'; 257]);
+    add(words, 1, &[b'a'; 256]);
+    log(words, &[b'a'; 257]);
+}
+
+// 16 groups open at once.
+fn groups(words: &mut [u64]) {
+    empty(words);
+    add(words, 1, b"(((((((((((((((((a)))))))))))))))))");
+    add(words, 1, b"((((((((((((((((a))))))))))))))))");
+    log(words, b"aa");
+}
+
+// Repeats of repeats are counted before anything is written out, so the last two are answered at once.
+fn repeats(words: &mut [u64]) {
+    empty(words);
+    add(words, 1, b"a{65536}");
+    add(words, 1, b"a{3,2}");
+    add(words, 1, b"(a{16}){17}");
+    add(words, 1, b"((((a{65535}){65535}){65535}){65535}){65535}b");
+    add(words, 1, b"((^){65535}){65535}a");
+    log(words, b"aa");
+}
+
+fn main() {
+    let mut words = [0u64; 4096];
+    let table: &mut [u64] = &mut words;
+    rules(table);
+    positions(table);
+    positions_in_all(table);
+    bytes(table);
+    groups(table);
+    repeats(table);
+}
