@@ -1,14 +1,14 @@
 -- A line placed in a buffer. The bytes that a copy has placed are a `paste`; a copy of all of them is the line placed. A text is a buffer of 80 bytes that
 -- ends in zeros, so that what is placed after it stands in place of zeros.
-use mathlib.Core.Path.{_≡_, refl, sym, ap, _∙_}
-use mathlib.Core.List.{List, [], _∷_, _++_, append-assoc}
-use Prim.Native.Nat.{ℕ, zero, suc, _+_, _-_, _≤_, _<_, min}
+use mathlib.Core.Path.{_≡_, ap, _∙_}
+use mathlib.Core.List.{List, [], _++_}
+use Prim.Native.Nat.{ℕ, zero, suc, _+_, _-_, _≤_, _<_}
 use native.Mathlib.Nat.{sub-zero}
 use native.Mathlib.Numerals.{add-one}
 use native.Mathlib.Omega.{arith}
 use borrow.Author.Tests.{le-leb, lt-leb}
-use lib.ListN.{length, getD, set, take, drop, replicate, length-append, length-take, length-drop, length-replicate}
-use lib.Seq.{paste, paste-suc, paste-zero, length-paste, take-all, take-append-seam, drop-append-add}
+use lib.ListN.{length, getD, set, take, drop, replicate, length-append, length-replicate}
+use lib.Seq.{paste, paste-suc, length-paste, take-all, take-append-seam, drop-append-add}
 use Rattle.lines.specs.Numbers.{decimalOf, written}
 use Rattle.lines.specs.Output.{Buffer, buffer, placed}
 use Rattle.lines.specs.Invariants.{textOf, joined}

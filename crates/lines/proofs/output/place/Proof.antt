@@ -1,6 +1,5 @@
 -- `lines::output::place` meets its contract: the loop's invariant is that the bytes passed are pasted.
-use mathlib.Core.Path.{_≡_, _∙_, ap}
-use Prim.Native.Nat.{_-_, _+_, _≤_}
+use Prim.Native.Nat.{_-_}
 use native.Mathlib.Omega.{arith}
 use lib.ListN.{length}
 use lib.Seq.{paste-zero}

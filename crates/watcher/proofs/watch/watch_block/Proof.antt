@@ -1,10 +1,9 @@
 -- `watcher::watch::watch_block` meets its contract: the bytes passed are taken, and every scan of the rest is accepted and takes one.
-use mathlib.Core.Path.{_≡_, refl, sym, ap, subst, _∙_}
+use mathlib.Core.Path.{sym, _∙_}
 use mathlib.Core.Bool.{true≢false}
 use Prim.Native.Nat.{_+_, _-_, _≤_, _<_}
 use native.Mathlib.Omega.{arith}
 use lib.ListN.{length}
-use Rattle.stream.specs.Byte.{stateAfter}
 use Rattle.watcher.proofs.Keeping.{Block, begins, whole, scan-takes, scan-half}
 use borrow.Author.Needs.{needs}
 use Rattle.watcher.proofs.watch.watch_block.Statement.{statement}
