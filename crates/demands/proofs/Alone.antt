@@ -16,6 +16,7 @@ use Rattle.pattern.specs.Walk.{Read, tree, refused}
 use Rattle.rules.specs.Additions.{Addition, Accepted, ruleOf, used, readingOf, nextAnswer, withNew, afterNext, acceptedAfter}
 use Rattle.rules.proofs.Additions.{Accepts, accepts}
 use Rattle.rules.proofs.Encodes.{distinct}
+use Rattle.demands.specs.Chain.{additionsOf}
 use Rattle.demands.specs.Demands.{tableIn, acceptedIn, rulesIn, taken, joined}
 use Rattle.demands.specs.Alone.{Undisturbed, AcceptedAlone}
 use Rattle.demands.proofs.Theorems.{demand3, built}
@@ -24,7 +25,7 @@ pub undisturbed : Undisturbed
 undisturbed c d r there only items others a b ca cb same =
     one-answer (ruleOf r ∷ []) (taken d others) (ofId (r .id) (joined c items)) (joined d others)
     (subst (λ (l : List ℕ). Ordered (ruleOf r ∷ []) l (ofId (r .id) (joined c items))) same
-    (alone (rulesIn c) (distinct (automaton (tableIn c)) (acceptedIn c) (built c .encodes)) (ruleOf r) (Memᴰ·map ruleOf there) (taken c items) (joined c items) (demand3 c items a ca)))
+    (alone (rulesIn c) (distinct (automaton (tableIn c)) (acceptedIn c) (built c (a .0) .encodes)) (ruleOf r) (Memᴰ·map ruleOf there) (taken c items) (joined c items) (demand3 c items a ca)))
     (subst (λ (rs : List Accepted). Ordered (map ruleOf rs) (taken d others) (joined d others)) only (demand3 d others b cb))
 
 -- an addition that some table accepts, and the rule that it gives
@@ -68,7 +69,7 @@ accepts-first rs a h = accepts [] a .1 (record { known = h .known; free = refl; 
 
 pub accepted-alone : AcceptedAlone
 unfolding acceptedAfter afterNext Gives
-accepted-alone c r there = elim (came r (c .additions) [] there) [
+accepted-alone c r there = elim (came r (additionsOf (c .steps)) [] there) [
   | inl n ↦ absurd (List·Memᴰ·not-nil n)
   | inr g ↦ (g .0, g .1, ap (λ (b : Bool). cond b (withNew [] (g .0) (readingOf (g .0))) []) (eq-eqb (nextAnswer [] (g .0) .number) 0 (accepts-first (g .2 .0) (g .0) (g .2 .1))) ∙ g .2 .2)
 ]

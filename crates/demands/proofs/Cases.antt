@@ -24,10 +24,9 @@ use Rattle.pattern.specs.Read.{judged, readOf, optionsOf}
 use Rattle.stream.specs.Byte.{starts, nextLive, ends, endsAtEnd, runIds, runMarks, byteIds, byteState, closeIds}
 use Rattle.rules.specs.declared.Added.{Added}
 use Rattle.rules.specs.Add.{answer, unknownFlag, placed, addWords}
-use Rattle.rules.specs.Additions.{Addition, Accepted, used, taken, nextAnswer, withNew, afterNext, acceptedAfter}
+use Rattle.rules.specs.Additions.{Addition, Accepted, used, taken, nextAnswer, withNew, afterNext, acceptedAfter, addAll}
 use Rattle.rules.proofs.Sorted.{laid, insert, into}
-use Rattle.rules.proofs.Additions.{Built, built-none, built-next, answer-built}
-use Rattle.demands.specs.Demands.{Setting, acceptedIn}
+use Rattle.rules.proofs.Additions.{Built, built-none, built-next, answer-built, words-built}
 use Rattle.demands.specs.Cases.{bytes, Log, Case, Gives, AllGive, answerIn, logsIn, Alone, answersOf, additionsIn, cases, logs, WorkedCases}
 use Rattle.demands.proofs.Computing.{owner, computed, computedOf}
 use Rattle.demands.proofs.Logs.{same, pass, passed, final, follows, startOf, log-gives}
@@ -79,12 +78,12 @@ each {A} test (y ∷ l) e x m = go (test y) refl e m (λ r n. each test l r x n)
     go true f e (List·Memᴰ·tail n) later = later e n
     go false f e n later = absurd (cons-ne-nil y (failing test l) e)
 
-module _ (c : Setting) where
-  all-give : (logs : List Log) → T (allRun (acceptedIn c) logs) → AllGive c logs
+module _ (t : List ℕ) (rs : List Accepted) (built : Built t rs) where
+  all-give : (logs : List Log) → T (allRun rs logs) → AllGive t logs
   unfolding allRun
   all-give [] h log m = absurd (List·Memᴰ·not-nil m)
-  all-give (x ∷ l) h log (List·Memᴰ·head e) = subst (Gives c) (sym e) (log-gives c x (and-T (runs (acceptedIn c) x) (allRun (acceptedIn c) l) .0 h .0))
-  all-give (x ∷ l) h log (List·Memᴰ·tail m) = all-give l (and-T (runs (acceptedIn c) x) (allRun (acceptedIn c) l) .0 h .1) log m
+  all-give (x ∷ l) h log (List·Memᴰ·head e) = subst (Gives t) (sym e) (log-gives t rs built x (and-T (runs rs x) (allRun rs l) .0 h .0))
+  all-give (x ∷ l) h log (List·Memᴰ·tail m) = all-give l (and-T (runs rs x) (allRun rs l) .0 h .1) log m
 
 same-answer : (a b : Added) → T (answers a b) → a ≡ b
 same-answer a b h =
@@ -96,7 +95,7 @@ unfolding right
 right-alone k h words long =
     let x = and-T (answers (nextAnswer [] (k .rule)) (answerIn (k .verdict))) (allRun (acceptedAfter [] (k .rule ∷ [])) (logsIn (k .verdict))) .0 h in (
       answer-built (emptied words) [] (built-none words long) (k .rule) ∙ same-answer (nextAnswer [] (k .rule)) (answerIn (k .verdict)) (x .0),
-      all-give (record { words = words; long = long; additions = k .rule ∷ [] }) (logsIn (k .verdict)) (x .1),
+      all-give (addAll (emptied words) (k .rule ∷ [])) (acceptedAfter [] (k .rule ∷ [])) (words-built words (k .rule ∷ []) long) (logsIn (k .verdict)) (x .1),
     )
 
 answers-built : (l : List Addition) (t : List ℕ) (rs : List Accepted) → Built t rs → answersOf t l ≡ nextAnswers rs l
@@ -111,7 +110,7 @@ worked-cases = (
   λ k m. right-alone k (each right cases (computed-right .0) k m),
   λ words long. (
     answers-built (additionsIn cases) (emptied words) [] (built-none words long) ∙ computed-right .1,
-    λ log m. log-gives (record { words = words; long = long; additions = additionsIn cases }) log
+    λ log m. log-gives (addAll (emptied words) (additionsIn cases)) (acceptedAfter [] (additionsIn cases)) (words-built words (additionsIn cases) long) log
         (each (runs (acceptedAfter [] (additionsIn cases))) logs (computed-right .2) log m),
   ),
 )

@@ -22,8 +22,9 @@ use Rattle.stream.specs.Valid.{valid}
 use Rattle.stream.specs.Calls.{space, spaceNumber, scanNumber, closeNumber, takenBy, written, scanned, scannedIds, scannedOffsets, shut, closed, closedIds, closedOffsets, overLimit}
 use Rattle.pattern.specs.Read.{readOf, optionsOf}
 use Rattle.rules.specs.Add.{addAnswer, withRule, addWords}
+use Rattle.rules.specs.Additions.{addAll}
 use Rattle.regex.specs.Ordered.{Pair}
-use Rattle.demands.specs.Chain.{this, those, Other, emptying, adding, opening, scanning, closing, numberOf, tableAfter, Item, scan, close, other, reportsIn, bytesOf, reportsOf, OthersRefused, Closes, Bytes, Blocks}
+use Rattle.demands.specs.Chain.{this, those, Other, emptying, adding, opening, scanning, closing, numberOf, tableAfter, Step, addition, another, tableOf, additionsOf, OthersRefusedBefore, Item, scan, close, other, reportsIn, bytesOf, reportsOf, OthersRefused, Closes, Bytes, Blocks}
 use Rattle.stream.proofs.Blocks.{fits-le, ends-count, closed-after, two-parts}
 use Rattle.demands.proofs.Bytewise.{pairsOf, pairs-append, state-cut, pairs-cut}
 
@@ -42,6 +43,13 @@ kept t (adding (those u) id flags pattern) h = refl
 kept t (opening l) h = refl
 kept t (scanning l s block ids offsets) h = refl
 kept t (closing l s ids offsets) h = refl
+
+-- before the opening: the table is the one of the additions alone
+pub additions-alone : (l : List Step) (t : List ℕ) → OthersRefusedBefore t l → tableOf t l ≡ addAll t (additionsOf l)
+unfolding tableOf additionsOf OthersRefusedBefore addAll
+additions-alone [] t h = refl
+additions-alone (addition a ∷ l) t h = additions-alone l (addWords t (a .id) (a .flags) (a .pattern)) h
+additions-alone (another o ∷ l) t h = additions-alone l (tableAfter t o) (h .1) ∙ ap (λ (u : List ℕ). addAll u (additionsOf l)) (kept t o (h .0))
 
 -- the other calls of a list, each asked on the same table
 unfoldable pub Refused : List ℕ → List Item → Type 0

@@ -15,7 +15,7 @@ use Rattle.tokens.specs.Option.{lettersOf, openingOf}
 use Rattle.tokens.specs.Quantifier.{bounded, open-ended, bracesOf, formOf, marked, quantifierOf}
 use Rattle.tokens.specs.Token.{escaped, lexemeOf, itemSet}
 use Rattle.table.specs.Layout.{tableWords}
-use Rattle.table.specs.Table.{all, isTable}
+use Rattle.table.specs.Table.{all, isTable, emptied}
 use Rattle.table.specs.Automaton.{automaton}
 use Rattle.regex.specs.Count.{copied, capped, saturating, nullable}
 use Rattle.regex.specs.Form.{write, positions, repeated, copies, optionals}
@@ -25,17 +25,18 @@ use Rattle.pattern.specs.Walk.{chained, chosen, one, repeating, closing, openin
 use Rattle.pattern.specs.Read.{judged, readOf, optionsOf}
 use Rattle.stream.specs.declared.Stream.{Stream}
 use Rattle.stream.specs.Byte.{starts, nextLive, ends, endsAtEnd, runIds, runMarks, byteIds, byteState, stateAfter, idsOf, endsOf, fits, closeIds}
-use Rattle.stream.specs.Calls.{scanNumber}
+use Rattle.stream.specs.Calls.{opened, scanNumber}
 use Rattle.stream.proofs.Results.{opened-valid}
 use Rattle.rules.specs.declared.Added.{Added}
-use Rattle.rules.specs.Add.{unknownFlag, placed}
-use Rattle.rules.specs.Additions.{used, taken, nextAnswer, withNew, afterNext, acceptedAfter}
+use Rattle.rules.specs.Add.{unknownFlag, placed, addWords}
+use Rattle.rules.specs.Additions.{Accepted, used, taken, nextAnswer, withNew, afterNext, acceptedAfter}
 use Rattle.rules.proofs.Sorted.{laid, insert, into}
-use Rattle.demands.specs.Chain.{numberOf, bytesOf, reportsOf, outcomesOf, OthersRefused, Blocks}
-use Rattle.demands.specs.Demands.{Setting, tableIn, acceptedIn, streamIn, rulesIn}
+use Rattle.rules.proofs.Additions.{Built}
+use Rattle.demands.specs.Chain.{numberOf, additionsOf, OthersRefusedBefore, begun, bytesOf, reportsOf, outcomesOf, OthersRefused, Blocks}
+use Rattle.demands.specs.Demands.{Setting, Between, tableIn, acceptedIn, streamIn, rulesIn}
 use Rattle.demands.specs.Cases.{bytes, rule}
-use Rattle.demands.specs.Example.{items, outcomes, list, setting, Instance}
-use Rattle.demands.proofs.Chained.{refused-others, Refused}
+use Rattle.demands.specs.Example.{steps, items, outcomes, list, setting, Instance}
+use Rattle.demands.proofs.Chained.{refused-others, Refused, shut-scan}
 use Rattle.demands.proofs.Computing.{owner, computed, computedOf, built-agrees}
 use Rattle.demands.proofs.Outcomes.{callsIn, scanLeft, closeLeft, gives, moves, run, followed, BytesIn, runs-same, reportsIn-all, reports-joined, bytesIn-all, bytes-joined, Shuts, closes-seen}
 use Rattle.demands.proofs.Logs.{bytes-tested, startOf, opened-is, start-inside}
@@ -50,12 +51,17 @@ module _ (words : List ℕ) (long : tableWords ≤ length words) where
 
   -- by the accepted rule alone: its id is taken, and this is what the calls give
   computes : (nextAnswer (acceptedIn c) (rule 5 0 "a") .number ≡ 3) × (run (computedOf (acceptedIn c)) (startOf (acceptedIn c)) (callsIn items) ≡ outcomes)
-  unfolding callsIn scanLeft closeLeft gives moves run items outcomes on has setOf wordOf any emptySet insertedRange unionOf complementOf inserted fullSet isDigit isLower isUpper otherCase caseClosed digitOf digits valueFrom numeralOf bracedOf shortOf flipped64 raised controlOf typeOf namedOf placedOf hexOf octalOf isAlnum escapeOf lower opensName memberOf rangeFault ranges memberAt membersOf classOf joined settled lettersOf openingOf bounded open-ended bracesOf formOf marked quantifierOf escaped lexemeOf itemSet copied capped saturating nullable write positions repeated copies optionals null first last follow byteSets chained chosen one repeating closing opening act next finish walk judged readOf optionsOf unknownFlag placed used taken nextAnswer withNew afterNext acceptedAfter laid insert into owner computed starts nextLive ends endsAtEnd runIds runMarks byteIds byteState closeIds all bytes stateAfter idsOf endsOf fits zip mathlib.Core.List.zipWith
+  unfolding callsIn scanLeft closeLeft gives moves run items outcomes on has setOf wordOf any emptySet insertedRange unionOf complementOf inserted fullSet isDigit isLower isUpper otherCase caseClosed digitOf digits valueFrom numeralOf bracedOf shortOf flipped64 raised controlOf typeOf namedOf placedOf hexOf octalOf isAlnum escapeOf lower opensName memberOf rangeFault ranges memberAt membersOf classOf joined settled lettersOf openingOf bounded open-ended bracesOf formOf marked quantifierOf escaped lexemeOf itemSet copied capped saturating nullable write positions repeated copies optionals null first last follow byteSets chained chosen one repeating closing opening act next finish walk judged readOf optionsOf unknownFlag placed used taken nextAnswer withNew afterNext acceptedAfter laid insert into owner computed starts nextLive ends endsAtEnd runIds runMarks byteIds byteState closeIds all bytes stateAfter idsOf endsOf fits zip mathlib.Core.List.zipWith additionsOf steps
   computes = (refl, refl)
+
+  -- before the opening: the state is closed
+  between : Between c
+  unfolding OthersRefusedBefore steps numberOf opened isTable
+  between = (shut-scan _ (begun []) (length (bytes "ab")) 1 refl, tt)
 
   refused : Refused t items
   unfolding Refused items numberOf scanNumber isTable
-  refused = (λ e. absurd (omega (arith, sym (computes .0), sym (ap (λ (a : Added). a .number) (acceptance c (rule 5 0 "a"))), e)), (λ e. absurd (omega (arith, e)), tt))
+  refused = (λ e. absurd (omega (arith, sym (computes .0), sym (ap (λ (a : Added). a .number) (acceptance c between (rule 5 0 "a"))), e)), (λ e. absurd (omega (arith, e)), tt))
 
   others : OthersRefused t (streamIn c) items
   others = refused-others t items (streamIn c) refused
@@ -70,9 +76,11 @@ module _ (words : List ℕ) (long : tableWords ≤ length words) where
 
   each : outcomesOf t (streamIn c) items ≡ outcomes
   each =
-      followed t (table c) items (streamIn c) (opened-valid t (table c)) others
-      ∙ ap (λ (s : Stream). run (automaton t) s (callsIn items)) (opened-is c)
-      ∙ runs-same (automaton t) (computedOf (acceptedIn c)) (built-agrees t (acceptedIn c) (built c)) (callsIn items) (startOf (acceptedIn c)) (start-inside c) in-calls
+      let rs : List Accepted = acceptedIn c in
+      let b : Built t rs = built c between in
+      followed t (table c between) items (streamIn c) (opened-valid t (table c between)) others
+      ∙ ap (λ (s : Stream). run (automaton t) s (callsIn items)) (opened-is t rs b)
+      ∙ runs-same (automaton t) (computedOf rs) (built-agrees t rs b) (callsIn items) (startOf rs) (start-inside t rs b) in-calls
       ∙ computes .1
 
   bytes-are : bytesOf t (streamIn c) items ≡ bytes "abbb"
@@ -91,10 +99,10 @@ module _ (words : List ℕ) (long : tableWords ≤ length words) where
   instance =
       let closed = closes-seen t (streamIn c) items (subst Shuts (sym each) shuts) in
       record {
-        calls = (others, blocks);
+        calls = (between, others, blocks);
         closing = closed;
         each = each;
         all-taken = bytes-are;
         all-reports = reports-are;
-        ordered = subst₂ (Ordered (rulesIn c)) bytes-are reports-are (demand3 c items (others, blocks) closed);
+        ordered = subst₂ (Ordered (rulesIn c)) bytes-are reports-are (demand3 c items (between, others, blocks) closed);
       }

@@ -11,27 +11,26 @@ use lib.ListN.{length, getD, replicate}
 use borrow.Author.Tests.{le-ltb}
 use Rattle.sets.proofs.Laws.{has-empty}
 use Rattle.table.specs.Layout.{maxRules}
-use Rattle.table.specs.Table.{all}
+use Rattle.table.specs.Table.{all, isTable}
 use Rattle.table.specs.Automaton.{Automaton, automaton}
-use Rattle.table.proofs.Test.{all-at}
+use Rattle.table.proofs.Test.{all-at, accepted as passing}
 use Rattle.stream.specs.declared.Stream.{Stream}
 use Rattle.stream.specs.Byte.{byteIds, byteState, stateAfter, idsOf, endsOf, fits, closeIds}
 use Rattle.stream.specs.Valid.{streamLimit}
-use Rattle.stream.specs.Calls.{fresh, space}
-use Rattle.stream.proofs.Results.{opened-valid}
+use Rattle.stream.specs.Calls.{fresh, opened, space}
+use Rattle.stream.proofs.Results.{opened-stream, opened-valid}
 use Rattle.stream.proofs.Blocks.{fits-is, ends-count, closed-after, two-parts}
 use Rattle.regex.specs.Ordered.{Pair}
 use Rattle.regex.proofs.Logic.{and-T, true-T}
 use Rattle.rules.specs.Additions.{Accepted, used}
-use Rattle.demands.specs.Chain.{Outcome, by-scan, by-close, outcomesOf, OthersRefused, Bytes}
-use Rattle.demands.specs.Demands.{Setting, tableIn, acceptedIn, streamIn}
+use Rattle.rules.proofs.Additions.{Built}
+use Rattle.demands.specs.Chain.{Outcome, by-scan, by-close, outcomesOf, begun, OthersRefused, Bytes}
 use Rattle.demands.specs.Cases.{bytes, Log, callsOn, expected, Gives}
 use Rattle.demands.proofs.Carried.{rules-at}
 use Rattle.demands.proofs.Bytewise.{pairsOf, pairs-append}
 use Rattle.demands.proofs.Agreeing.{Agree, Inside}
 use Rattle.demands.proofs.Computing.{computedOf, built-agrees}
 use Rattle.demands.proofs.Outcomes.{scans, closes, callsIn, scanLeft, closeLeft, gives, moves, run, followed, BytesIn, runs-same}
-use Rattle.demands.proofs.Theorems.{built, table, opens, begins}
 
 pub zip-length : (a b : List ℕ) → length b ≡ length a → length (zip a b) ≡ length a
 unfolding zip mathlib.Core.List.zipWith
@@ -203,29 +202,32 @@ none-other t (b ∷ bs) lent s = none-other t bs (λ i. lent (suc i)) _
 abbrev pub startOf : List Accepted → Stream
 startOf rs = fresh (length rs) (used rs) false
 
-module _ (c : Setting) where
-  abbrev rs : List Accepted
-  rs = acceptedIn c
+module _ (t : List ℕ) (rs : List Accepted) (built : Built t rs) where
+  table : isTable t ≡ true
+  table = passing t (built .passed)
 
-  pub opened-is : streamIn c ≡ startOf rs
-  opened-is = begins c ∙ ap₂ (λ (n m : ℕ). fresh n m false) (built c .rules) (built c .positions)
+  opens : opened t .number ≡ 0
+  unfolding opened
+  opens = rw table
 
-  pub start-inside : Inside (automaton (tableIn c)) (computedOf rs) (built-agrees (tableIn c) rs (built c)) (startOf rs)
+  pub opened-is : begun t ≡ startOf rs
+  opened-is = opened-stream t table ∙ ap₂ (λ (n m : ℕ). fresh n m false) (built .rules) (built .positions)
+
+  pub start-inside : Inside (automaton t) (computedOf rs) (built-agrees t rs built) (startOf rs)
   start-inside q lt h = absurd (true≢false (sym h ∙ has-empty q lt))
 
   few-rules : computedOf rs .rules ≤ maxRules
-  few-rules = omega (arith, sym (built-agrees (tableIn c) rs (built c) .rules), rules-at (tableIn c), built c .passed .rules)
+  few-rules = omega (arith, sym (built-agrees t rs built .rules), rules-at t, built .passed .rules)
 
-  pub log-gives : (log : Log) → T (follows (computedOf rs) (startOf rs) (log .blocks) (log .closing)) → Gives c log
-  log-gives log h = (opens c, λ lent wide. calls-give lent wide)
+  pub log-gives : (log : Log) → T (follows (computedOf rs) (startOf rs) (log .blocks) (log .closing)) → Gives t log
+  log-gives log h = (opens, λ lent wide. calls-give lent wide)
     where
       calls-give : (lent : ℕ → List ℕ × List ℕ) → ((i : ℕ) → maxRules ≤ space (lent i .0) (lent i .1))
-          → outcomesOf (tableIn c) (streamIn c) (callsOn (log .blocks) lent) ≡ expected (log .blocks) (log .closing)
+          → outcomesOf t (begun t) (callsOn (log .blocks) lent) ≡ expected (log .blocks) (log .closing)
       calls-give lent wide =
-          let t : List ℕ = tableIn c in
           let v : Automaton = computedOf rs in
-          let agree : Agree (automaton t) v = built-agrees t rs (built c) in
-          followed t (table c) (callsOn (log .blocks) lent) (streamIn c) (opened-valid t (table c)) (none-other t (log .blocks) lent (streamIn c))
+          let agree : Agree (automaton t) v = built-agrees t rs built in
+          followed t table (callsOn (log .blocks) lent) (begun t) (opened-valid t table) (none-other t (log .blocks) lent (begun t))
           ∙ ap (λ (s : Stream). run (automaton t) s (callsIn (callsOn (log .blocks) lent))) opened-is
           ∙ runs-same (automaton t) v agree (callsIn (callsOn (log .blocks) lent)) (startOf rs) start-inside (bytes-in v (log .blocks) (log .closing) lent (startOf rs) h)
           ∙ roomy v few-rules (log .blocks) (log .closing) lent wide (startOf rs) refl h

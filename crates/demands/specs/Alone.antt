@@ -3,7 +3,7 @@ use mathlib.Core.Path.{_≡_}
 use mathlib.Core.List.{List, [], _∷_, List·Memᴰ}
 use Rattle.regex.specs.Ordered.{ofId}
 use Rattle.rules.specs.Additions.{Addition, Accepted, acceptedAfter}
-use Rattle.demands.specs.Chain.{Item}
+use Rattle.demands.specs.Chain.{additionsOf, Item}
 use Rattle.demands.specs.Demands.{Setting, acceptedIn, Calls, closes, taken, joined}
 
 -- "the joined list, kept to one id, is the list of a table with that rule alone, on the same stream. Both are lists of calls as demand 3 takes them;
@@ -16,4 +16,4 @@ Undisturbed = (c d : Setting) (r : Accepted) → List·Memᴰ r (acceptedIn c) �
 -- There is such a table: the addition by which a rule came is accepted by an emptied table too, and gives the same rule.
 abbrev pub AcceptedAlone : Type 0
 AcceptedAlone = (c : Setting) (r : Accepted) → List·Memᴰ r (acceptedIn c)
-    → (a : Addition) × List·Memᴰ a (c .additions) × (acceptedAfter [] (a ∷ []) ≡ r ∷ [])
+    → (a : Addition) × List·Memᴰ a (additionsOf (c .steps)) × (acceptedAfter [] (a ∷ []) ≡ r ∷ [])

@@ -14,9 +14,8 @@ use Rattle.stream.specs.Calls.{opened, space}
 use Rattle.regex.specs.Ordered.{Pair}
 use Rattle.rules.specs.declared.Added.{Added}
 use Rattle.rules.specs.Add.{answer, addAnswer, addWords}
-use Rattle.rules.specs.Additions.{Addition}
-use Rattle.demands.specs.Chain.{Item, scan, close, Outcome, by-scan, by-close, outcomesOf}
-use Rattle.demands.specs.Demands.{Setting, tableIn, streamIn}
+use Rattle.rules.specs.Additions.{Addition, addAll}
+use Rattle.demands.specs.Chain.{Item, scan, close, Outcome, by-scan, by-close, outcomesOf, begun}
 
 -- the bytes of a text
 unfoldable pub bytes : String → List ℕ
@@ -51,14 +50,14 @@ unfoldable pub expected : List (String × List Pair) → List Pair → List Outc
 expected [] closing = by-close 0 closing ∷ []
 expected (b ∷ bs) closing = by-scan 0 (length (bytes (b .0))) (b .1) ∷ expected bs closing
 
--- the opening is accepted, and the calls after it give this, whatever the lists hold before, if both have 32 slots
-abbrev pub Gives : Setting → Log → Type 0
-Gives c log = (opened (tableIn c) .number ≡ 0)
+-- the opening on a table is accepted, and the calls after it give this, whatever the lists hold before, if both have 32 slots
+abbrev pub Gives : List ℕ → Log → Type 0
+Gives t log = (opened t .number ≡ 0)
     × ((lent : ℕ → List ℕ × List ℕ) → ((i : ℕ) → maxRules ≤ space (lent i .0) (lent i .1))
-    → outcomesOf (tableIn c) (streamIn c) (callsOn (log .blocks) lent) ≡ expected (log .blocks) (log .closing))
+    → outcomesOf t (begun t) (callsOn (log .blocks) lent) ≡ expected (log .blocks) (log .closing))
 
-abbrev pub AllGive : Setting → List Log → Type 0
-AllGive c logs = (log : Log) → List·Memᴰ log logs → Gives c log
+abbrev pub AllGive : List ℕ → List Log → Type 0
+AllGive t logs = (log : Log) → List·Memᴰ log logs → Gives t log
 
 abbrev pub answerIn : Verdict → Added
 answerIn (refused number place) = answer number place
@@ -70,9 +69,9 @@ logsIn (accepted logs) = logs
 
 -- the rule alone, added to any words that were emptied
 abbrev pub Alone : Case → Type 0
-Alone k = (words : List ℕ) (long : tableWords ≤ length words)
+Alone k = (words : List ℕ) → tableWords ≤ length words
     → (addAnswer (emptied words) (k .rule .id) (k .rule .flags) (k .rule .pattern) ≡ answerIn (k .verdict))
-    × AllGive (record { words = words; long = long; additions = k .rule ∷ [] }) (logsIn (k .verdict))
+    × AllGive (addAll (emptied words) (k .rule ∷ [])) (logsIn (k .verdict))
 
 -- the answers of a list of additions, one after the other
 unfoldable pub answersOf : List ℕ → List Addition → List Added
@@ -84,9 +83,9 @@ additionsIn cases = map (λ (k : Case). k .rule) cases
 
 -- the rules of all cases, one after the other in one table: each answer is as for the rule alone, and each log gives the pairs of all the accepted rules
 abbrev pub Together : List Case → List Log → Type 0
-Together cases logs = (words : List ℕ) (long : tableWords ≤ length words)
+Together cases logs = (words : List ℕ) → tableWords ≤ length words
     → (answersOf (emptied words) (additionsIn cases) ≡ map (λ (k : Case). answerIn (k .verdict)) cases)
-    × AllGive (record { words = words; long = long; additions = additionsIn cases }) logs
+    × AllGive (addAll (emptied words) (additionsIn cases)) logs
 
 -- ---- the table
 

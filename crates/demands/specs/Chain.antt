@@ -1,5 +1,5 @@
--- Lists of calls on one table and one state, as demand 3 takes them. Every call is one of the real ones: its answer, its lists and its words are those
--- that its own promise cites. Assumes nothing: these are definitions.
+-- Lists of calls on one table, before a stream is opened on it and after, as demand 3 takes them. Every call is one of the real ones: its answer, its lists
+-- and its words are those that its own promise cites. Assumes nothing: these are definitions.
 use mathlib.Core.Path.{_≡_}
 use mathlib.Core.Logic.{_⊎_}
 use mathlib.Core.List.{List, [], _∷_, _++_, zip}
@@ -9,6 +9,7 @@ use Rattle.table.specs.Table.{emptyNumber, emptied}
 use Rattle.stream.specs.declared.Stream.{Stream}
 use Rattle.stream.specs.Calls.{opened, space, scanNumber, closeNumber, scanned, scannedIds, scannedOffsets, closed, closedIds, closedOffsets}
 use Rattle.rules.specs.Add.{addAnswer, addWords}
+use Rattle.rules.specs.Additions.{Addition}
 use Rattle.regex.specs.Ordered.{Pair}
 
 -- the words that a call is lent: the table in hand, or other words
@@ -45,6 +46,32 @@ tableAfter t (adding (those u) id flags pattern) = t
 tableAfter t (opening l) = t
 tableAfter t (scanning l s block ids offsets) = t
 tableAfter t (closing l s ids offsets) = t
+
+-- ---- before the opening
+
+-- a call before the opening: an addition, accepted or refused, or another call
+pub data Step : Type 0 where
+  addition : Addition → Step
+  another : Other → Step
+
+-- the table in hand after these calls, and the additions among them
+unfoldable pub tableOf : List ℕ → List Step → List ℕ
+tableOf t [] = t
+tableOf t (addition a ∷ l) = tableOf (addWords t (a .id) (a .flags) (a .pattern)) l
+tableOf t (another o ∷ l) = tableOf (tableAfter t o) l
+
+unfoldable pub additionsOf : List Step → List Addition
+additionsOf [] = []
+additionsOf (addition a ∷ l) = a ∷ additionsOf l
+additionsOf (another o ∷ l) = additionsOf l
+
+-- every other call is refused where it stands
+unfoldable pub OthersRefusedBefore : List ℕ → List Step → Type 0
+OthersRefusedBefore t [] = Unit {0}
+OthersRefusedBefore t (addition a ∷ l) = OthersRefusedBefore (addWords t (a .id) (a .flags) (a .pattern)) l
+OthersRefusedBefore t (another o ∷ l) = (¬ (numberOf t o ≡ 0)) × OthersRefusedBefore (tableAfter t o) l
+
+-- ---- after the opening
 
 -- a call of the list: a scan or a closing of the stream with its block and its two lent lists, or another call
 pub data Item : Type 0 where

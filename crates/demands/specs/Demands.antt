@@ -12,7 +12,7 @@ use Rattle.table.specs.Table.{knownFlags, emptied}
 use Rattle.table.specs.Automaton.{automaton}
 use Rattle.stream.specs.declared.Stream.{Stream}
 use Rattle.stream.specs.Valid.{streamLimit, valid}
-use Rattle.stream.specs.Calls.{space, scanNumber, closeNumber, scanned, busyOf}
+use Rattle.stream.specs.Calls.{space, scanned, closed, busyOf}
 use Rattle.regex.specs.Form.{write, positions}
 use Rattle.regex.specs.Rule.{Rule, Reported}
 use Rattle.regex.specs.Ordered.{Pair, Ordered, Once}
@@ -22,23 +22,28 @@ use Rattle.pattern.specs.Walk.{tree}
 use Rattle.pattern.specs.Read.{longest, optionsOf}
 use Rattle.pattern.specs.Reasons.{Reason}
 use Rattle.rules.specs.Add.{addAnswer, addWords}
-use Rattle.rules.specs.Additions.{Addition, Accepted, ruleOf, used, readingOf, nextAnswer, acceptedAfter, addAll}
-use Rattle.demands.specs.Chain.{Item, Bytes, AllFit, Roomy, offering, begun, bytesOf, reportsOf, stateOf, OthersRefused, Closes, Blocks}
+use Rattle.rules.specs.Additions.{Addition, Accepted, ruleOf, used, readingOf, nextAnswer, acceptedAfter}
+use Rattle.demands.specs.Chain.{Step, tableOf, additionsOf, OthersRefusedBefore, Item, Bytes, AllFit, Roomy, offering, begun, bytesOf, reportsOf, stateOf, OthersRefused, Closes, Blocks}
 
 -- ---- the table and the calls
 
--- "every list of additions, in any order, refused ones included, from an emptied table": any words that emptying accepts, emptied, then any additions
+-- "every list of additions, in any order, refused ones included, from an emptied table": any words that emptying accepts, emptied, then any additions, and
+-- other calls between
 pub record Setting : Type 0 where
   pub words : List ℕ
   pub long : tableWords ≤ length words
-  pub additions : List Addition
+  pub steps : List Step
+
+-- "Other refused calls, of any kind and on any table or state, may stand anywhere between": before the opening each is refused where it stands
+abbrev pub Between : Setting → Type 0
+Between c = OthersRefusedBefore (emptied (c .words)) (c .steps)
 
 -- the table, the rules that were accepted and what they mean, and the stream that is opened
 abbrev pub tableIn : Setting → List ℕ
-tableIn c = addAll (emptied (c .words)) (c .additions)
+tableIn c = tableOf (emptied (c .words)) (c .steps)
 
 abbrev pub acceptedIn : Setting → List Accepted
-acceptedIn c = acceptedAfter [] (c .additions)
+acceptedIn c = acceptedAfter [] (additionsOf (c .steps))
 
 abbrev pub rulesIn : Setting → List Rule
 rulesIn c = map ruleOf (acceptedIn c)
@@ -48,9 +53,9 @@ streamIn c = begun (tableIn c)
 
 -- a list of calls after the opening
 module _ (c : Setting) (items : List Item) where
-  -- every call that is no scan or closing of the stream is refused, and blocks are of bytes
+  -- every other call is refused where it stands, before the opening and after it, and blocks are of bytes
   abbrev pub Calls : Type 0
-  Calls = OthersRefused (tableIn c) (streamIn c) items × Blocks items
+  Calls = Between c × OthersRefused (tableIn c) (streamIn c) items × Blocks items
 
   -- "The stream is the bytes that these scans took, joined"
   abbrev pub taken : List ℕ
@@ -72,7 +77,7 @@ module _ (c : Setting) (items : List Item) where
 
 -- Number and place of the next addition, by a definition over the accepted rules that mentions no table word.
 abbrev pub Acceptance : Type 0
-Acceptance = (c : Setting) (a : Addition) → addAnswer (tableIn c) (a .id) (a .flags) (a .pattern) ≡ nextAnswer (acceptedIn c) a
+Acceptance = (c : Setting) → Between c → (a : Addition) → addAnswer (tableIn c) (a .id) (a .flags) (a .pattern) ≡ nextAnswer (acceptedIn c) a
 
 -- The reasons to refuse an addition to some accepted rules, by their numbers. (1 does not arise: the words are a table.)
 pub data Refusal (rules : List Accepted) (a : Addition) : Type 0 where
@@ -91,7 +96,8 @@ pub data Refusal (rules : List Accepted) (a : Addition) : Type 0 where
 
 -- "A rule is accepted exactly when none of the listed reasons to refuse holds."
 abbrev pub AcceptedExactly : Type 0
-AcceptedExactly = (c : Setting) (a : Addition) → (addAnswer (tableIn c) (a .id) (a .flags) (a .pattern) .number ≡ 0) ↔ (¬ Refusal (acceptedIn c) a)
+AcceptedExactly = (c : Setting) → Between c → (a : Addition)
+    → (addAnswer (tableIn c) (a .id) (a .flags) (a .pattern) .number ≡ 0) ↔ (¬ Refusal (acceptedIn c) a)
 
 -- ---- demand 2, meaning
 
@@ -99,7 +105,8 @@ AcceptedExactly = (c : Setting) (a : Addition) → (addAnswer (tableIn c) (a .id
 -- its flags. A single-match rule reports only its smallest such offset."
 abbrev pub Meaning : Type 0
 Meaning = (c : Setting) (items : List Item) → Calls c items → closes c items
-    → ((r : Rule) → List·Memᴰ r (rulesIn c) → (e : ℕ) → List·Memᴰ (r .id, e) (joined c items) ↔ Reported r (taken c items) e) × Once (joined c items)
+    → ((i e : ℕ) → List·Memᴰ (i, e) (joined c items) ↔ ((r : Rule) × List·Memᴰ r (rulesIn c) × (r .id ≡ i) × Reported r (taken c items) e))
+    × Once (joined c items)
 
 -- ---- demand 3
 
@@ -114,7 +121,7 @@ Progress = (t : List ℕ) (s : Stream) (block ids offsets : List ℕ) → scanne
 
 -- "unused bytes may be offered again": as many scans as the log has bytes, each with room for one report of each rule, give the whole log's list.
 abbrev pub OfferedAgain : Type 0
-OfferedAgain = (c : Setting) (log : List ℕ) → Bytes log → length log ≤ streamLimit → (lists : List (List ℕ × List ℕ)) (ids offsets : List ℕ)
+OfferedAgain = (c : Setting) → Between c → (log : List ℕ) → Bytes log → length log ≤ streamLimit → (lists : List (List ℕ × List ℕ)) (ids offsets : List ℕ)
     → length log ≤ length lists → Roomy (length (acceptedIn c)) lists → length (acceptedIn c) ≤ space ids offsets
     → Ordered (rulesIn c) log (joined c (offering (tableIn c) (streamIn c) log lists ids offsets))
 
@@ -137,9 +144,18 @@ Total = (c : Setting) (items : List Item) → Calls c items → last c items .ta
 abbrev pub BusyFigure : Type 0
 BusyFigure = (c : Setting) (items : List Item) → Calls c items → Busy (rulesIn c) (taken c items) (busyOf (last c items))
 
--- "So an accepted addition ends all open streams": every state that was valid is refused with 18.
+-- ---- on any table and any state
+
+-- "So an accepted addition ends all open streams": every state that was valid is refused with 18, whatever block and space.
 abbrev pub AdditionEndsStreams : Type 0
-AdditionEndsStreams = (c : Setting) (a : Addition) → nextAnswer (acceptedIn c) a .number ≡ 0
-    → (s : Stream) → valid (automaton (tableIn c)) s ≡ true → (len room : ℕ)
-    → (scanNumber (addWords (tableIn c) (a .id) (a .flags) (a .pattern)) s len room ≡ 18)
-    × (closeNumber (addWords (tableIn c) (a .id) (a .flags) (a .pattern)) s room ≡ 18)
+AdditionEndsStreams = (t : List ℕ) (a : Addition) → addAnswer t (a .id) (a .flags) (a .pattern) .number ≡ 0
+    → (s : Stream) → valid (automaton t) s ≡ true → (block ids offsets : List ℕ)
+    → (scanned (addWords t (a .id) (a .flags) (a .pattern)) s block ids offsets .number ≡ 18)
+    × (closed (addWords t (a .id) (a .flags) (a .pattern)) s ids offsets .number ≡ 18)
+
+-- after an accepted closing, "Later calls get 19": every scan and closing of the state that it handed back
+abbrev pub ClosingEndsStream : Type 0
+ClosingEndsStream = (t : List ℕ) (s : Stream) (ids offsets : List ℕ) → closed t s ids offsets .number ≡ 0
+    → (block laterIds laterOffsets : List ℕ)
+    → (scanned t (closed t s ids offsets .stream) block laterIds laterOffsets .number ≡ 19)
+    × (closed t (closed t s ids offsets .stream) laterIds laterOffsets .number ≡ 19)

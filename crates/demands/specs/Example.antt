@@ -1,5 +1,5 @@
--- One list of calls that meets what demand 3 asks for, so that the theorem is seen to speak of something: refused additions, report space for one report
--- only, refused scans and closings, other refused calls between, an empty block, and calls after the closing. The theorem is `instance` of
+-- One list of calls that meets what demand 3 asks for, so that the theorem is seen to speak of something: refused additions, other refused calls before the
+-- opening and after it, report space for one report only, refused scans and closings, an empty block, and calls after the closing. The theorem is `instance` of
 -- proofs/Example.antt. Assumes nothing: these are definitions.
 use mathlib.Core.Path.{_≡_}
 use mathlib.Core.List.{List, [], _∷_}
@@ -7,13 +7,22 @@ use Prim.Native.Nat.{ℕ, _≤_}
 use lib.ListN.{length}
 use Rattle.table.specs.Layout.{tableWords}
 use Rattle.regex.specs.Ordered.{Pair, Ordered}
-use Rattle.demands.specs.Chain.{this, those, adding, scanning, Item, scan, close, other, Outcome, by-scan, by-close, outcomesOf, begun}
+use Rattle.demands.specs.Chain.{this, those, adding, scanning, Step, addition, another, Item, scan, close, other, Outcome, by-scan, by-close, outcomesOf, begun}
 use Rattle.demands.specs.Demands.{Setting, tableIn, streamIn, rulesIn, Calls, closes, taken, joined}
 use Rattle.demands.specs.Cases.{bytes, rule}
 
 -- two lists with one slot each
 abbrev slot : List ℕ
 slot = 0 ∷ []
+
+unfoldable pub steps : List Step
+steps =
+    addition (rule 5 0 "ab+")
+    -- refused: the state that a refused opening hands back is closed
+    ∷ another (scanning this (begun []) (bytes "ab") slot slot)
+    -- refused, 10 at 2
+    ∷ addition (rule 8 0 "a**")
+    ∷ []
 
 unfoldable pub items : List Item
 items =
@@ -55,9 +64,8 @@ abbrev pub list : List Pair
 list = (5, 2) ∷ (5, 3) ∷ (5, 4) ∷ []
 
 module _ (words : List ℕ) (long : tableWords ≤ length words) where
-  -- the second rule is refused, 10 at 2
   abbrev pub setting : Setting
-  setting = record { words = words; long = long; additions = rule 5 0 "ab+" ∷ rule 8 0 "a**" ∷ [] }
+  setting = record { words = words; long = long; steps = steps }
 
   pub record Instance : Type 0 where
     -- demand 3's hypotheses hold
