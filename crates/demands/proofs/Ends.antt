@@ -1,7 +1,7 @@
 -- What ends a stream, on any table and any state. An accepted addition leaves words that pass the test again with one rule more, so the counts that a state carries
 -- differ; an accepted closing hands back a valid state with the closed mark.
 use mathlib.Core.Path.{_≡_, refl, sym, ap, ap₂, _∙_}
-use mathlib.Core.Bool.{Bool, true, false, cond, true≢false, _&&_}
+use mathlib.Core.Bool.{Bool, true, false, cond, _&&_}
 use mathlib.Core.List.{List}
 use Prim.Native.Nat.{ℕ, _+_, _≤_, _<_}
 use native.Mathlib.Omega.{arith}
@@ -19,7 +19,7 @@ use Rattle.regex.specs.Form.{write}
 use Rattle.regex.proofs.Counted.{within-limit}
 use Rattle.pattern.specs.Nodes.{Syntax}
 use Rattle.pattern.specs.Walk.{Read, tree, refused}
-use Rattle.pattern.specs.Read.{readOf, optionsOf}
+use Rattle.pattern.specs.Read.{optionsOf}
 use Rattle.automaton.specs.Parts.{partsOf}
 use Rattle.automaton.specs.declared.Parts.{Parts}
 use Rattle.automaton.proofs.Padded.{parts-whole}
@@ -34,7 +34,7 @@ use Rattle.rules.proofs.Regions.{added-rules}
 use Rattle.stream.specs.declared.Stream.{Stream}
 use Rattle.stream.specs.declared.Closed.{Closed}
 use Rattle.stream.specs.Valid.{sameCounts, liveInside, marksSingle, underLimit, valid}
-use Rattle.stream.specs.Calls.{space, spaceNumber, scanNumber, closeNumber, scanned, closed, overLimit}
+use Rattle.stream.specs.Calls.{space, spaceNumber, scanNumber, closeNumber, closed, overLimit}
 use Rattle.stream.proofs.Results.{scan-number, close-number-is, closed-valid}
 use Rattle.demands.specs.Demands.{AdditionEndsStreams, ClosingEndsStream}
 use Rattle.demands.proofs.Carried.{rules-at}

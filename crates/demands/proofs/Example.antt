@@ -15,7 +15,7 @@ use Rattle.tokens.specs.Option.{lettersOf, openingOf}
 use Rattle.tokens.specs.Quantifier.{bounded, open-ended, bracesOf, formOf, marked, quantifierOf}
 use Rattle.tokens.specs.Token.{escaped, lexemeOf, itemSet}
 use Rattle.table.specs.Layout.{tableWords}
-use Rattle.table.specs.Table.{all, isTable, emptied}
+use Rattle.table.specs.Table.{all, isTable}
 use Rattle.table.specs.Automaton.{automaton}
 use Rattle.regex.specs.Count.{copied, capped, saturating, nullable}
 use Rattle.regex.specs.Form.{write, positions, repeated, copies, optionals}
@@ -28,7 +28,7 @@ use Rattle.stream.specs.Byte.{starts, nextLive, ends, endsAtEnd, runIds, runMar
 use Rattle.stream.specs.Calls.{opened, scanNumber}
 use Rattle.stream.proofs.Results.{opened-valid}
 use Rattle.rules.specs.declared.Added.{Added}
-use Rattle.rules.specs.Add.{unknownFlag, placed, addWords}
+use Rattle.rules.specs.Add.{unknownFlag, placed}
 use Rattle.rules.specs.Additions.{Accepted, used, taken, nextAnswer, withNew, afterNext, acceptedAfter}
 use Rattle.rules.proofs.Sorted.{laid, insert, into}
 use Rattle.rules.proofs.Additions.{Built}

@@ -1,5 +1,6 @@
--- Demands 2 and 3, and what follows for whole lists of calls. Each statement is a type here and a theorem of its name in proofs/Theorems.antt. (Demand 1 stands
--- in Demand1.antt, the worked cases in Cases.antt, one instance of demand 3 in Example.antt.) Assumes nothing: these are definitions.
+-- Demands 2 and 3, and what follows for whole lists of calls. Each statement is a type here and a theorem of its name in proofs/Theorems.antt, the last two in
+-- proofs/Ends.antt. (Demand 1 stands in Demand1.antt, the worked cases in Cases.antt, one instance of demand 3 in Example.antt, that one rule does not disturb
+-- another in Alone.antt.) Assumes nothing: these are definitions.
 use mathlib.Core.Path.{_≡_}
 use mathlib.Core.Logic.{_↔_}
 use mathlib.Core.List.{List, [], map, List·Memᴰ}
@@ -94,7 +95,7 @@ pub data Refusal (rules : List Accepted) (a : Addition) : Type 0 where
   -- 17: "over 256 positions with those in the table"
   no-room : (x : Syntax) → readingOf a ≡ tree x → maxPositions < used rules + positions (write x) → Refusal rules a
 
--- "A rule is accepted exactly when none of the listed reasons to refuse holds."
+-- "A rule is accepted exactly when none of the listed reasons to refuse holds"
 abbrev pub AcceptedExactly : Type 0
 AcceptedExactly = (c : Setting) → Between c → (a : Addition)
     → (addAnswer (tableIn c) (a .id) (a .flags) (a .pattern) .number ≡ 0) ↔ (¬ Refusal (acceptedIn c) a)
