@@ -19,8 +19,8 @@
  * same call.
  *
  * Numbers other than WATCHER_SUCCESS are refusals. A refused call changes
- * nothing but *place, *taken and *reports; a refused opening also closes the
- * state. docs/EMBEDDING.md tells more.
+ * nothing but *place, *taken and *reports; an opening refused with
+ * WATCHER_NO_TABLE also closes the state. docs/EMBEDDING.md tells more.
  */
 #ifndef WATCHER_H
 #define WATCHER_H
@@ -72,7 +72,8 @@ typedef uint32_t watcher_error_t;
 #define WATCHER_CLOSED 19u          /* the stream is closed */
 #define WATCHER_SMALL_SPACE 20u     /* fewer report slots than the table has rules */
 #define WATCHER_LONG_STREAM 21u     /* the bytes taken and this block are over WATCHER_MAX_STREAM */
-#define WATCHER_SHORT_STATE 23u     /* fewer than 9 words for the state */
+/* Numbers from 100 on are this interface's own. */
+#define WATCHER_SHORT_STATE 100u    /* fewer than 9 words for the state */
 
 /* Makes the words an empty table, whatever they held. Refuses only too few words. */
 watcher_error_t watcher_empty(uint64_t *table, size_t table_words);
@@ -84,7 +85,8 @@ watcher_error_t watcher_test(const uint64_t *table, size_t table_words);
  * Adds a rule. *place is 0, or for a refusal from 6 on where the fault lies in
  * the pattern: the first byte of the faulty token, or the pattern's length for a
  * fault known only at its end. An accepted rule ends all open streams of the
- * table: their states are refused with WATCHER_BAD_STATE from then on.
+ * table: a state is refused with WATCHER_BAD_STATE while the counts of rules and
+ * positions differ, its own and the table's.
  */
 watcher_error_t watcher_add(uint64_t *table, size_t table_words, uint32_t id,
                             uint32_t flags, const uint8_t *pattern,
@@ -102,8 +104,9 @@ watcher_error_t watcher_open(const uint64_t *table, size_t table_words,
  * offsets[i], by rising offset and for one offset by rising id; slots past
  * *reports keep what they held. The scan stops before the first byte whose
  * reports do not all fit, so *taken may be less than the length: take the reports
- * out and call again with the rest of the block. With WATCHER_MAX_RULES slots or
- * more each call takes at least one byte.
+ * out and call again with the rest of the block. Each accepted call with a byte
+ * in its block takes at least one; with WATCHER_MAX_RULES slots or more no call is
+ * refused for its space.
  */
 watcher_error_t watcher_scan(const uint64_t *table, size_t table_words,
                              uint64_t *state, size_t state_words,

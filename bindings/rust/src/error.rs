@@ -84,7 +84,7 @@ impl Error {
             19 => Error::Closed,
             20 => Error::SmallSpace,
             21 => Error::LongStream,
-            23 => Error::ShortState,
+            100 => Error::ShortState,
             _ => Error::Other { number, place },
         })
     }
@@ -112,7 +112,7 @@ impl Error {
             Error::Closed => 19,
             Error::SmallSpace => 20,
             Error::LongStream => 21,
-            Error::ShortState => 23,
+            Error::ShortState => 100,
             Error::Other { number, .. } => *number,
         }
     }

@@ -1,5 +1,5 @@
 -- Each function for C: its number, and every lent word afterwards, for any words. The calls themselves are those of the crates table and stream; this adds
--- the state as words, and number 23 for a state of fewer than nine words, which changes nothing. Assumes nothing: these are definitions.
+-- the state as words, and number 100 for a state of fewer than nine words, which changes nothing. Assumes nothing: these are definitions.
 use mathlib.Core.Bool.{cond}
 use mathlib.Core.List.{List}
 use Prim.Native.Nat.{ℕ}
@@ -10,9 +10,9 @@ use Rattle.stream.specs.declared.Closed.{Closed}
 use Rattle.stream.specs.Calls.{opened, scanned, scannedIds, scannedOffsets, closed, closedIds, closedOffsets, busyOf}
 use Rattle.watcher_c.specs.State.{short, stateOf, stored}
 
--- fewer than nine words lent for the state
+-- fewer than nine words lent for the state; numbers from 100 on are the interface's own, not the rules'
 abbrev pub shortState : ℕ
-shortState = 23
+shortState = 100
 
 -- the test of words: 0 for a table, 1 for anything else
 unfoldable pub testNumber : List ℕ → ℕ

@@ -11,8 +11,8 @@ ghost use Rattle.table.specs.Table.{emptyNumber, emptied};
 ghost use Rattle.rules.specs.Add.{addAnswer, addWords};
 ghost use Rattle.watcher_c.specs.Interface.{testNumber, openNumber, openState, scanAnswer, scanState, scanIds, scanOffsets, closeAnswer, closeState, closeIds, closeOffsets, busyFigure};
 
-// The number for a state of fewer than nine words.
-const SHORT_STATE: u32 = 23;
+// The number for a state of fewer than nine words. Numbers from 100 on are the interface's own, not the rules'.
+const SHORT_STATE: u32 = 100;
 
 // Writes the empty table.
 #[no_mangle]

@@ -3,6 +3,8 @@
 //! afterwards. States start anywhere in a stream, also past 65,535 and 4,294,967,296 bytes and at its
 //! limit. Case i of a run depends on the seed and on i alone.
 
+use std::collections::BTreeMap;
+
 use words::calls::{Answer, Calls};
 use words::interpreter::Interpreter;
 use words::layout::*;
@@ -17,7 +19,7 @@ pub struct Count {
     pub reports: u64,
     pub taken: u64,
     /// Calls by their number.
-    pub by_number: [u64; 24],
+    pub by_number: BTreeMap<u32, u64>,
 }
 
 /// Everything that a call is lent.
@@ -80,7 +82,7 @@ fn one_case<C: Calls>(calls: &C, rng: &mut Rng, count: &mut Count) -> Result<(),
             return Err(format!("{}: a refusal changed a word", what()));
         }
         count.calls += 1;
-        count.by_number[answer.number as usize] += 1;
+        *count.by_number.entry(answer.number).or_default() += 1;
         count.reports += answer.count as u64;
         count.taken += answer.taken as u64;
     }

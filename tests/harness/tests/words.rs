@@ -144,8 +144,8 @@ impl Calls for Slip {
 #[test]
 fn the_interpreter_agrees_with_itself() {
     let count = run(&Interpreter, 1, 0, 3_000).unwrap();
-    for number in [0, 1, 18, 19, 20, 21, 23] {
-        assert!(count.by_number[number] > 20, "number {number} is too rare");
+    for number in [0, 1, 18, 19, 20, 21, 100] {
+        assert!(count.by_number.get(&number).is_some_and(|&n| n > 20), "number {number} is too rare");
     }
 }
 

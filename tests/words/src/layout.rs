@@ -55,4 +55,4 @@ pub const STATE_POSITIONS: usize = 7;
 pub const CLOSED: usize = 8;
 pub const STATE_WORDS: usize = 9;
 /// The number for fewer words than a state has.
-pub const SHORT_STATE: u32 = 23;
+pub const SHORT_STATE: u32 = 100;
