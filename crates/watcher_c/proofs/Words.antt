@@ -12,7 +12,7 @@ use Rattle.stream.specs.declared.Stream.{Stream}
 use Rattle.watcher_c.specs.State.{stateWords, wordsOf, stored}
 
 -- a state has nine words
-length-words : (s : Stream) → length (wordsOf s) ≡ stateWords
+pub length-words : (s : Stream) → length (wordsOf s) ≡ stateWords
 unfolding wordsOf
 length-words s = refl
 

@@ -1,0 +1,121 @@
+-- A stored state is read back as the same state: each field comes from the word that it was put in, so the next call on the words goes on from the state
+-- that the last one handed back.
+use mathlib.Core.Path.{_≡_, refl, sym, ap, _∙_}
+use mathlib.Core.Bool.{Bool, true, false, cond, not}
+use mathlib.Core.List.{List, [], _∷_}
+use Prim.Native.Nat.{ℕ, zero, suc}
+use lib.Dec.{eqb}
+use lib.ListN.{length, getD, drop}
+use lib.Seq.{drop-at, ext-getD}
+use Rattle.sets.specs.Set.{emptySet}
+use Rattle.sets.proofs.Laws.{words-setOf, below-four}
+use Rattle.table.specs.Layout.{rulesOf, positionsOf}
+use Rattle.table.specs.Table.{isTable}
+use Rattle.table.specs.Automaton.{Automaton, automaton}
+use Rattle.stream.specs.declared.Stream.{Stream}
+use Rattle.stream.specs.declared.Opened.{Opened}
+use Rattle.stream.specs.declared.Scanned.{Scanned}
+use Rattle.stream.specs.declared.Closed.{Closed}
+use Rattle.stream.specs.Byte.{nextLive, byteState, stateAfter, idsOf, closeIds}
+use Rattle.stream.specs.Calls.{fresh, space, opened, takenBy, scanNumber, scanned, closeNumber, closed, shut}
+use Rattle.watcher_c.specs.State.{stateWords, short, stateOf, wordsOf, stored}
+use Rattle.watcher_c.specs.Interface.{shortState, openState, scanAnswer, scanState, closeAnswer, closeState}
+use Rattle.watcher_c.proofs.Words.{length-words}
+
+-- every state that a call can have: the live set is four words
+abbrev pub FourWords : Stream → Type 0
+FourWords s = length (s .live) ≡ 4
+
+four : (l : List ℕ) → length l ≡ 4 → getD l 0 0 ∷ getD l 1 0 ∷ getD l 2 0 ∷ getD l 3 0 ∷ [] ≡ l
+four l e =
+    let words : List ℕ = getD l 0 0 ∷ getD l 1 0 ∷ getD l 2 0 ∷ getD l 3 0 ∷ [] in
+    ext-getD 0 words l (sym e) (below-four (λ (i : ℕ). getD words i 0 ≡ getD l i 0) refl refl refl refl)
+
+mark : (b : Bool) → not (eqb (cond b 1 0) 0) ≡ b
+mark true = refl
+mark false = refl
+
+module _ (s : Stream) (t : List ℕ) where
+  pub read-back : FourWords s → stateOf (stored s t) ≡ s
+  unfolding stateOf wordsOf
+  read-back e = λ i. record {
+    live = four (s .live) e i;
+    reported = s .reported;
+    taken = s .taken;
+    rules = s .rules;
+    positions = s .positions;
+    closed = mark (s .closed) i;
+  }
+
+  -- the words past the ninth stay
+  pub stored-past : drop stateWords (stored s t) ≡ drop stateWords t
+  stored-past = drop-at (wordsOf s) (drop stateWords t) stateWords (length-words s)
+
+-- ---- what the next call reads is what the last one handed back
+
+-- the live set after some bytes is four words again
+after-four : (w : Automaton) (s : Stream) (block : List ℕ) (k : ℕ) → FourWords s → FourWords (stateAfter w s block k)
+unfolding stateAfter byteState nextLive
+after-four w s block zero e = e
+after-four w s block (suc k) e = words-setOf _ .four
+
+-- the state that words hold has four
+words-four : (state : List ℕ) → FourWords (stateOf state)
+unfolding stateOf
+words-four state = refl
+
+pub open-back : (t state : List ℕ) → short state ≡ false → stateOf (openState t state) ≡ opened t .stream
+unfolding openState opened emptySet
+open-back t state e =
+    ap (λ (b : Bool). stateOf (cond b state (stored (opened t .stream) state))) e
+    ∙ read-back (opened t .stream) state (go (isTable t))
+  where
+    go : (b : Bool) → FourWords (cond {A = Opened} b (record { number = 0; stream = fresh (rulesOf t) (positionsOf t) false }) (record { number = 1; stream = fresh 0 0 true }) .stream)
+    go true = words-setOf (λ q. false) .four
+    go false = words-setOf (λ q. false) .four
+
+-- ---- any scan and any closing: accepted, the new state was stored; refused, the old one stays and is what was handed back
+
+module _ (t state block ids offsets : List ℕ) where
+  pub scan-back : stateOf (scanState t state block ids offsets) ≡ scanAnswer t state block ids offsets .stream
+  unfolding scanState scanAnswer scanned
+  scan-back = go (short state) (eqb number 0) refl
+    where
+      number : ℕ
+      number = scanNumber t (stateOf state) (length block) (space ids offsets)
+
+      k : ℕ
+      k = takenBy t (stateOf state) block (space ids offsets)
+
+      after : Stream
+      after = stateAfter (automaton t) (stateOf state) block k
+
+      answer : (a b : Bool) → Scanned
+      answer a b =
+          cond a (record { number = shortState; taken = 0; reports = 0; stream = stateOf state })
+          (cond b (record { number = 0; taken = k; reports = length (idsOf (automaton t) (stateOf state) block k); stream = after })
+          (record { number = number; taken = 0; reports = 0; stream = stateOf state }))
+
+      go : (a b : Bool) → eqb number 0 ≡ b → stateOf (cond (eqb (answer a b .number) 0) (stored (answer a b .stream) state) state) ≡ answer a b .stream
+      go true b z = refl
+      go false true z = read-back after state (after-four (automaton t) (stateOf state) block k (words-four state))
+      go false false z = ap (λ (c : Bool). stateOf (cond c (stored (stateOf state) state) state)) z
+
+module _ (t state ids offsets : List ℕ) where
+  pub close-back : stateOf (closeState t state ids offsets) ≡ closeAnswer t state ids offsets .stream
+  unfolding closeState closeAnswer closed
+  close-back = go (short state) (eqb number 0) refl
+    where
+      number : ℕ
+      number = closeNumber t (stateOf state) (space ids offsets)
+
+      answer : (a b : Bool) → Closed
+      answer a b =
+          cond a (record { number = shortState; reports = 0; stream = stateOf state })
+          (cond b (record { number = 0; reports = length (closeIds (automaton t) (stateOf state)); stream = shut (stateOf state) })
+          (record { number = number; reports = 0; stream = stateOf state }))
+
+      go : (a b : Bool) → eqb number 0 ≡ b → stateOf (cond (eqb (answer a b .number) 0) (stored (answer a b .stream) state) state) ≡ answer a b .stream
+      go true b z = refl
+      go false true z = read-back (shut (stateOf state)) state (words-four state)
+      go false false z = ap (λ (c : Bool). stateOf (cond c (stored (stateOf state) state) state)) z
