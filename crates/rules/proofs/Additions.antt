@@ -29,7 +29,8 @@ use Rattle.automaton.specs.declared.Parts.{Parts}
 use Rattle.automaton.proofs.Padded.{parts-whole}
 use Rattle.rules.specs.Words.{placeOf, added}
 use Rattle.rules.specs.Add.{answer, unknownFlag, hasId, placed, addAnswer, withRule, addWords}
-use Rattle.rules.specs.Additions.{Addition, Accepted, size, used, taken, readingOf, nextAnswer, withNew, afterNext, acceptedAfter, addAll, encode}
+use Rattle.rules.specs.Additions.{Addition, Accepted, size, used, taken, readingOf, nextAnswer, withNew, afterNext, acceptedAfter}
+use Rattle.rules.specs.Encoded.{addAll, encode}
 use Rattle.rules.specs.declared.Added.{Added}
 use Rattle.rules.proofs.Place.{count-to}
 use Rattle.rules.proofs.Kept.{passes-added, has-id-added}
@@ -56,6 +57,22 @@ encode-more : (t : List ℕ) (rs : List Accepted) (r : Accepted) → encode t (r
 unfolding encode
 encode-more t [] r = refl
 encode-more t (x ∷ xs) r = encode-more (added t (x .id) (x .flags) (partsOf (x .tree) (positionsOf t))) xs r
+
+-- ---- a rule that was read
+
+module _ (a : Addition) (x : Syntax) (reading : readingOf a ≡ tree x) where
+  -- its tree has as many positions as its count says
+  counted : saturating x ≡ positions (write x)
+  counted = within-limit x (reads (a .pattern) (optionsOf (a .flags)) x .0 reading .fits)
+
+  -- and its parts have as many, where they fit
+  sized-parts : (n : ℕ) → n + saturating x ≤ limit → partsOf x n .positions ≡ positions (write x)
+  sized-parts n room = ap (λ (p : Parts). p .positions) (sym (parts-whole x n room)) ∙ parts-positions (write x) n
+
+-- no record has an id that the words have not
+no-record : (t : List ℕ) (id : ℕ) → hasId t id ≡ false → (c : ℕ) → c < rulesOf t → recordWord t c 0 ≡ id → ⊥
+unfolding hasId
+no-record t id e c h = eqb-false (recordWord t c 0) id (any-none (rulesOf t) (λ c. eqb (recordWord t c 0) id) e c h)
 
 -- ---- what a list leaves
 
@@ -104,18 +121,17 @@ module _ (t : List ℕ) (rs : List Accepted) (b : Built t rs) (a : Addition) (x 
   read = reads (a .pattern) (optionsOf (a .flags)) x .0 reading
 
   sized : saturating x ≡ positions (write x)
-  sized = within-limit x (read .fits)
+  sized = counted a x reading
 
   are : parts ≡ formParts (write x) n
   are = sym (parts-whole x n (omega (arith, b .positions)))
 
   more : parts .positions ≡ positions (write x)
-  more = ap (λ (p : Parts). p .positions) are ∙ parts-positions (write x) n
+  more = sized-parts a x reading n (omega (arith, b .positions))
 
   -- the table has none with this id
   fresh : (c : ℕ) → c < rulesOf t → recordWord t c 0 ≡ a .id → ⊥
-  unfolding hasId
-  fresh c h = eqb-false (recordWord t c 0) (a .id) (any-none (rulesOf t) (λ c. eqb (recordWord t c 0) (a .id)) (b .ids (a .id) ∙ free) c h)
+  fresh = no-record t (a .id) (b .ids (a .id) ∙ free)
 
   -- the ids of the records are those of the rules
   word-id : (c : ℕ) → c < rulesOf t → recordWord t c 0 ≡ at ps c .rule .id
@@ -176,59 +192,78 @@ pub record Accepts (rs : List Accepted) (a : Addition) : Type 0 where
   pub reading : readingOf a ≡ tree read
   pub room : used rs + positions (write read) ≤ maxPositions
 
+-- what the checks tell that an accepted addition has passed
+abbrev chain : Bool → Bool → Bool → Added → Added
+chain u k f d = cond u (answer 2 0) (cond k (answer 3 0) (cond f (answer 4 0) d))
+
+passed-chain : (u k f : Bool) (d : Added) → chain u k f d .number ≡ 0 → (u ≡ false) × (k ≡ false) × (f ≡ false) × (d .number ≡ 0)
+passed-chain true k f d h = absurd (omega (arith, h))
+passed-chain false true f d h = absurd (omega (arith, h))
+passed-chain false false true d h = absurd (omega (arith, h))
+passed-chain false false false d h = (refl, refl, refl, h)
+
+fits : (n k : ℕ) (x : Syntax) → placed n k (tree x) .number ≡ 0 → n + saturating x ≤ limit
+unfolding placed
+fits n k x h = test (ltb limit (n + saturating x)) refl h
+  where
+    test : (c : Bool) → ltb limit (n + saturating x) ≡ c → cond c (answer 17 k) (answer 0 0) .number ≡ 0 → n + saturating x ≤ limit
+    test true e h = absurd (omega (arith, h))
+    test false e h = ltb-false limit (n + saturating x) e
+
+known-flags : (flags : ℕ) → unknownFlag flags ≡ false → bitAnd flags knownFlags ≡ flags
+unfolding unknownFlag
+known-flags flags e = eqb-true (bitAnd flags knownFlags) flags (not-false (eqb (bitAnd flags knownFlags) flags) e)
+
 module _ (rs : List Accepted) (a : Addition) where
-  abbrev chain : Bool → Bool → Bool → Added → Added
-  chain u k f d = cond u (answer 2 0) (cond k (answer 3 0) (cond f (answer 4 0) d))
-
-  passed-chain : (u k f : Bool) (d : Added) → chain u k f d .number ≡ 0 → (u ≡ false) × (k ≡ false) × (f ≡ false) × (d .number ≡ 0)
-  passed-chain true k f d h = absurd (omega (arith, h))
-  passed-chain false true f d h = absurd (omega (arith, h))
-  passed-chain false false true d h = absurd (omega (arith, h))
-  passed-chain false false false d h = (refl, refl, refl, h)
-
-  fits : (n k : ℕ) (x : Syntax) → placed n k (tree x) .number ≡ 0 → n + saturating x ≤ limit
-  unfolding placed
-  fits n k x h = test (ltb limit (n + saturating x)) refl h
-    where
-      test : (c : Bool) → ltb limit (n + saturating x) ≡ c → cond c (answer 17 k) (answer 0 0) .number ≡ 0 → n + saturating x ≤ limit
-      test true e h = absurd (omega (arith, h))
-      test false e h = ltb-false limit (n + saturating x) e
-
-  known-flags : unknownFlag (a .flags) ≡ false → bitAnd (a .flags) knownFlags ≡ a .flags
-  unfolding unknownFlag
-  known-flags e = eqb-true (bitAnd (a .flags) knownFlags) (a .flags) (not-false (eqb (bitAnd (a .flags) knownFlags) (a .flags)) e)
-
   -- what an accepted addition has passed
   let-in : (x : Syntax) → readingOf a ≡ tree x → nextAnswer rs a .number ≡ 0
       → (bitAnd (a .flags) knownFlags ≡ a .flags) × (taken rs (a .id) ≡ false) × (length rs < maxRules) × (used rs + saturating x ≤ limit)
   unfolding nextAnswer
   let-in x e h =
       let c = passed-chain (unknownFlag (a .flags)) (taken rs (a .id)) (leb maxRules (length rs)) (placed (used rs) (length (a .pattern)) (readingOf a)) h in (
-        known-flags (c .0),
+        known-flags (a .flags) (c .0),
         c .1,
         leb-false maxRules (length rs) (c .2),
         fits (used rs) (length (a .pattern)) x (ap (λ (d : Read). placed (used rs) (length (a .pattern)) d .number) (sym e) ∙ c .3),
       )
-
-  -- a tree that was read has as many positions as its count says
-  counted : (x : Syntax) → readingOf a ≡ tree x → saturating x ≡ positions (write x)
-  counted x e = within-limit x (reads (a .pattern) (optionsOf (a .flags)) x .0 e .fits)
 
   -- accepted exactly where each reason to refuse fails
   pub accepts : (nextAnswer rs a .number ≡ 0) ↔ Accepts rs a
   unfolding nextAnswer placed unknownFlag
   accepts = (
     λ h. by-reading (readingOf a) refl h,
-    λ c. rw (eq-eqb (bitAnd (a .flags) knownFlags) (a .flags) (c .known), c .free, lt-leb maxRules (length rs) (c .few), c .reading, le-ltb limit (used rs + saturating (c .read)) (omega (arith, c .room, counted (c .read) (c .reading)))),
+    λ c. rw (eq-eqb (bitAnd (a .flags) knownFlags) (a .flags) (c .known), c .free, lt-leb maxRules (length rs) (c .few), c .reading, le-ltb limit (used rs + saturating (c .read)) (omega (arith, c .room, counted a (c .read) (c .reading)))),
   )
     where
       by-reading : (d : Read) → readingOf a ≡ d → nextAnswer rs a .number ≡ 0 → Accepts rs a
       by-reading (tree x) e h =
           let c = let-in x e h in
-          record { known = c .0; free = c .1; few = c .2; read = x; reading = e; room = omega (arith, c .3, counted x e) }
+          record { known = c .0; free = c .1; few = c .2; read = x; reading = e; room = omega (arith, c .3, counted a x e) }
       by-reading (refused number place) e h =
           let c = passed-chain (unknownFlag (a .flags)) (taken rs (a .id)) (leb maxRules (length rs)) (placed (used rs) (length (a .pattern)) (readingOf a)) h in
           absurd (refusal-numbered (a .pattern) (optionsOf (a .flags)) number place e (ap (λ (d : Read). placed (used rs) (length (a .pattern)) d .number) (sym e) ∙ c .3))
+
+-- ---- each addition keeps the test, from any words that pass
+
+pub addition-passes : (t : List ℕ) → isTable t ≡ true → (a : Addition) → isTable (addWords t (a .id) (a .flags) (a .pattern)) ≡ true
+unfolding addWords withRule addAnswer
+addition-passes t passed a = go (eqb (addAnswer t (a .id) (a .flags) (a .pattern) .number) 0) (readingOf a) refl refl
+  where
+    checks : Read → Added
+    checks d = chain (unknownFlag (a .flags)) (hasId t (a .id)) (leb maxRules (rulesOf t)) (placed (positionsOf t) (length (a .pattern)) d)
+
+    go : (c : Bool) (d : Read) → eqb (addAnswer t (a .id) (a .flags) (a .pattern) .number) 0 ≡ c → readingOf a ≡ d → isTable (cond c (withRule t (a .id) (a .flags) d) t) ≡ true
+    go false d e f = passed
+    go true (refused number place) e f = passed
+    go true (tree x) e f =
+        let zero : checks (tree x) .number ≡ 0 =
+        ap (λ (d : Read). checks d .number) (sym f) ∙ sym (ap (λ (b : Bool). cond b (checks (readingOf a)) (answer 1 0) .number) passed)
+        ∙ eqb-true (addAnswer t (a .id) (a .flags) (a .pattern) .number) 0 e in
+        let c = passed-chain (unknownFlag (a .flags)) (hasId t (a .id)) (leb maxRules (rulesOf t)) (placed (positionsOf t) (length (a .pattern)) (tree x)) zero in
+        let room = fits (positionsOf t) (length (a .pattern)) x (c .3) in
+        accepted (added t (a .id) (a .flags) (partsOf x (positionsOf t)))
+        (passes-added t (a .id) (a .flags) (partsOf x (positionsOf t)) (passes t passed) (leb-false maxRules (rulesOf t) (c .2))
+        (omega (arith, room, counted a x f, sized-parts a x f (positionsOf t) room)) (a .narrow) (known-flags (a .flags) (c .0)) (no-record t (a .id) (c .1)))
 
 -- ---- each addition keeps what is built
 

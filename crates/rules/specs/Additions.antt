@@ -1,19 +1,16 @@
--- Lists of additions: which rules they leave accepted, what the next answer is, and the words. What is accepted is said without a word of the table.
--- Assumes nothing: these are definitions.
+-- Lists of additions: which rules they leave accepted, and what the next answer is, without a word of the table. Assumes nothing: these are definitions.
 use mathlib.Core.Bool.{Bool, false, cond, _||_}
 use mathlib.Core.List.{List, [], _∷_, _++_}
 use Prim.Native.Nat.{ℕ, _+_, _/_, _%_, _^_, _<_}
 use lib.Dec.{eqb, leb}
 use lib.ListN.{length}
-use Rattle.table.specs.Layout.{maxRules, positionsOf}
+use Rattle.table.specs.Layout.{maxRules}
 use Rattle.regex.specs.Form.{write, positions}
 use Rattle.regex.specs.Rule.{Rule}
 use Rattle.pattern.specs.Nodes.{Syntax}
 use Rattle.pattern.specs.Walk.{Read, tree, refused}
 use Rattle.pattern.specs.Read.{readOf, optionsOf}
-use Rattle.automaton.specs.Parts.{partsOf}
-use Rattle.rules.specs.Words.{added}
-use Rattle.rules.specs.Add.{answer, unknownFlag, placed, addWords}
+use Rattle.rules.specs.Add.{answer, unknownFlag, placed}
 use Rattle.rules.specs.declared.Added.{Added}
 
 -- an addition: "Ids: any 32-bit number", flags, pattern bytes
@@ -70,13 +67,3 @@ afterNext rs a = cond (eqb (nextAnswer rs a .number) 0) (withNew rs a (readingOf
 unfoldable pub acceptedAfter : List Accepted → List Addition → List Accepted
 acceptedAfter rs [] = rs
 acceptedAfter rs (a ∷ l) = acceptedAfter (afterNext rs a) l
-
--- the words after a list of additions, each as its call leaves them
-unfoldable pub addAll : List ℕ → List Addition → List ℕ
-addAll t [] = t
-addAll t (a ∷ l) = addAll (addWords t (a .id) (a .flags) (a .pattern)) l
-
--- the words of some rules, each added to those before it
-unfoldable pub encode : List ℕ → List Accepted → List ℕ
-encode t [] = t
-encode t (r ∷ rs) = encode (added t (r .id) (r .flags) (partsOf (r .tree) (positionsOf t))) rs

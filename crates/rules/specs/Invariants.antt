@@ -7,8 +7,7 @@ use lib.ListN.{getD}
 use Rattle.sets.specs.Set.{has, setOf, emptySet, count}
 use Rattle.table.specs.Layout.{maxRules, bytes, rulesOf, firstAt, firstAtStartAt, recordAt, followAt, takersAt, recordWord, rowHas, from-to}
 use Rattle.table.specs.Table.{isTable}
-use Rattle.table.proofs.Over.{over}
-use Rattle.table.proofs.Writes.{copied, movedUp}
+use Rattle.table.specs.Invariants.{over, copied, movedUp}
 use Rattle.rules.specs.Add.{unknownFlag, hasId}
 
 -- ---- the checks before the pattern is read

@@ -1,6 +1,7 @@
--- What an addition gives: Words (the table with one rule more), Add (the answer), Additions (lists of additions). Apart from these, Invariants has what the
--- private functions promise one another.
+-- What an addition gives: Words (the table with one rule more), Add (the answer), Additions (lists of additions), Encoded (the words that these leave). Apart
+-- from these, Invariants has what the private functions promise one another.
 pub mod Words
 pub mod Add
 pub mod Additions
+pub mod Encoded
 pub mod Invariants

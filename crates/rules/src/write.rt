@@ -17,8 +17,8 @@ ghost use Prim.Native.Nat.{_+_, _*_, _≤_, _<_};
 ghost use lib.ListN.{length};
 ghost use Rattle.sets.specs.Set.{count};
 ghost use Rattle.table.specs.Layout.{tableWords, maxRules, maxPositions, rulesOf, positionsOf};
+ghost use Rattle.table.specs.Invariants.{copied, movedUp};
 ghost use Rattle.rules.specs.Words.{added};
-ghost use Rattle.table.proofs.Writes.{copied, movedUp};
 ghost use Rattle.rules.specs.Invariants.{merged, maskedRows, maskedRecords, smaller, newTakers, takersPut, recordOf, recordPut, startsPut, followPut, countsPut};
 
 // n words of src at `at`.
@@ -192,7 +192,7 @@ fn put_counts(words: &mut [u64], rules: u64, positions: u64)
 }
 
 // The table with one rule more, whose parts have their positions after those that the table has.
-pub fn add_rule(words: &mut [u64], id: u32, flags: u32, parts: Parts)
+pub(super) fn add_rule(words: &mut [u64], id: u32, flags: u32, parts: Parts)
     requires { ⌜ (tableWords ≤ length (now words)) × (rulesOf (now words) < maxRules) × (positionsOf (now words) + parts .positions ≤ maxPositions) ⌝ }
     ensures { λ r. ⌜ now (words .exit) ≡ added (now (words .entry)) id flags parts ⌝ }
 {

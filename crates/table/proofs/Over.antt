@@ -1,5 +1,4 @@
--- A word list with some words given by their index: `over lo hi g t` is t with g w at each place w from lo on and below hi. What a loop writes into a table
--- is such a list, and `Written` is the invariant of the loop. Every law goes word by word: a list is an `over` where each of its words is (`over-is`).
+-- Laws of `over`: a word list with some words given by their index. What a loop writes into a table is such a list, and `Written` is the invariant of the loop. Every law goes word by word: a list is an `over` where each of its words is (`over-is`).
 use mathlib.Core.Path.{_≡_, refl, sym, ap, ap₂, _∙_}
 use mathlib.Core.Bool.{Bool, true, false, cond, _&&_, and-false}
 use mathlib.Core.List.{List, [], _∷_}
@@ -12,6 +11,8 @@ use lib.ListN.{length, getD, set, take, drop, length-set, length-take, length-dr
 use lib.Seq.{getD-set-same, getD-set-other, getD-take, getD-drop, ext-getD}
 use borrow.Author.Tests.{lt-ltb, le-ltb, le-leb, lt-leb}
 use Rattle.table.specs.Layout.{from-to}
+use Rattle.table.specs.Invariants.{overFrom}
+pub use Rattle.table.specs.Invariants.{over}
 
 -- ---- the places from lo on and below hi
 
@@ -23,14 +24,6 @@ from-to-below lo hi w a = ap (λ (x : Bool). x && ltb w hi) (lt-leb lo w a)
 
 pub from-to-above : (lo hi w : ℕ) → hi ≤ w → from-to lo hi w ≡ false
 from-to-above lo hi w a = ap (λ (x : Bool). leb lo w && x) (le-ltb w hi a) ∙ and-false (leb lo w)
-
--- the same for the part of a list that begins at place i
-unfoldable pub overFrom : (i lo hi : ℕ) → (ℕ → ℕ) → List ℕ → List ℕ
-overFrom i lo hi g [] = []
-overFrom i lo hi g (x ∷ t) = cond (from-to lo hi i) (g i) x ∷ overFrom (suc i) lo hi g t
-
-unfoldable pub over : (lo hi : ℕ) → (ℕ → ℕ) → List ℕ → List ℕ
-over lo hi g t = overFrom 0 lo hi g t
 
 -- ---- its length and its words
 

@@ -11,20 +11,13 @@ use lib.ListN.{length, getD}
 use Rattle.sets.specs.Set.{has}
 use Rattle.sets.proofs.Laws.{below-four}
 use Rattle.table.specs.Layout.{maxPositions, recordAt, lastAt, lastAtEndAt, recordWord, rowHas}
+pub use Rattle.table.specs.Invariants.{copied, movedUp}
 use Rattle.table.proofs.Over.{over, over-in, over-ext, Written, written-block, written-above}
 use Rattle.table.proofs.Rows.{row-same, row-or}
-
--- n words of s, from its first on, at `at`
-abbrev pub copied : (at n : ℕ) → (s t : List ℕ) → List ℕ
-copied at n s t = over at (at + n) (λ w. getD s (w - at) 0) t
 
 -- the set in the four words at `at` gains the members of s
 abbrev pub joined : (at : ℕ) → (s t : List ℕ) → List ℕ
 joined at s t = over at (at + 4) (λ w. bitOr (getD t w 0) (getD s (w - at) 0)) t
-
--- the m words from base on, a record's length up
-abbrev pub movedUp : (base m : ℕ) → List ℕ → List ℕ
-movedUp base m t = over (base + 16) (base + 16 + m) (λ w. getD t (w - 16) 0) t
 
 -- ---- words copied in
 

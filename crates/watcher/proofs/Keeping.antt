@@ -18,7 +18,8 @@ use Rattle.table.specs.Automaton.{automaton}
 use Rattle.table.proofs.Test.{passes}
 use Rattle.rules.specs.declared.Added.{Added}
 use Rattle.rules.specs.Add.{answer, addAnswer, addWords}
-use Rattle.rules.specs.Additions.{Addition, addAll}
+use Rattle.rules.specs.Additions.{Addition}
+use Rattle.rules.specs.Encoded.{addAll}
 use Rattle.rules.proofs.Additions.{words-pass}
 use Rattle.stream.specs.declared.Stream.{Stream}
 use Rattle.stream.specs.declared.Scanned.{Scanned}

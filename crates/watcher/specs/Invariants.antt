@@ -8,7 +8,8 @@ use lib.ListN.{length}
 use Rattle.table.specs.Layout.{tableWords, maxRules}
 use Rattle.table.specs.Table.{isTable, emptied}
 use Rattle.table.specs.Automaton.{automaton}
-use Rattle.rules.specs.Additions.{Addition, addAll}
+use Rattle.rules.specs.Additions.{Addition}
+use Rattle.rules.specs.Encoded.{addAll}
 use Rattle.stream.specs.declared.Stream.{Stream}
 use Rattle.stream.specs.Byte.{stateAfter}
 use Rattle.stream.specs.Valid.{valid}

@@ -1,0 +1,23 @@
+-- What the private functions that write a table promise, those of the crate rules too: a list with some words given by their index. No public contract cites it.
+use mathlib.Core.Bool.{cond}
+use mathlib.Core.List.{List, [], _∷_}
+use Prim.Native.Nat.{ℕ, suc, _+_, _-_}
+use lib.ListN.{getD}
+use Rattle.table.specs.Layout.{from-to}
+
+-- t with g w at each place w from lo on and below hi, where t is the part of a list that begins at place i
+unfoldable pub overFrom : (i lo hi : ℕ) → (ℕ → ℕ) → List ℕ → List ℕ
+overFrom i lo hi g [] = []
+overFrom i lo hi g (x ∷ t) = cond (from-to lo hi i) (g i) x ∷ overFrom (suc i) lo hi g t
+
+-- the same for a whole list
+unfoldable pub over : (lo hi : ℕ) → (ℕ → ℕ) → List ℕ → List ℕ
+over lo hi g t = overFrom 0 lo hi g t
+
+-- n words of s, from its first on, at `at`
+abbrev pub copied : (at n : ℕ) → (s t : List ℕ) → List ℕ
+copied at n s t = over at (at + n) (λ w. getD s (w - at) 0) t
+
+-- the m words from base on, a record's length up
+abbrev pub movedUp : (base m : ℕ) → List ℕ → List ℕ
+movedUp base m t = over (base + 16) (base + 16 + m) (λ w. getD t (w - 16) 0) t
