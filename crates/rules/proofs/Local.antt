@@ -1,0 +1,193 @@
+-- Words beyond the first 4,096 count for nothing in an addition either: lists that agree up to there get the same answer and agree up to there afterwards, and
+-- each keeps its own words beyond. Every word that the definitions read stands at a place below 4,096, and words too few for a table are all there is.
+use mathlib.Core.Path.{_≡_, refl, sym, ap, ap₂, _∙_}
+use mathlib.Core.Bool.{Bool, true, false, true≢false, cond, _&&_, _||_}
+use mathlib.Core.List.{List, [], _∷_, _++_}
+use Prim.Native.Nat.{ℕ, zero, suc, _+_, _-_, _*_, _/_, _%_, _≤_, _<_, min}
+use native.Mathlib.Decide.{decLt}
+use native.Mathlib.Omega.{arith}
+use lib.Dec.{eqb, leb, ltb}
+use lib.ListN.{length, getD, take, drop, length-take}
+use lib.Seq.{take-all, take-at, drop-at}
+use borrow.Author.Tests.{leb-true, ltb-true}
+use Rattle.sets.specs.Set.{has, setOf, any, count}
+use Rattle.sets.proofs.Laws.{any-ext, count-ext}
+use Rattle.table.specs.Layout.{tableWords, maxRules, maxPositions, bytes, rulesOf, positionsOf, firstAt, firstAtStartAt, recordAt, lastAt, lastAtEndAt, followAt, takersAt, recordWord, rowHas, from-to}
+use Rattle.table.specs.Table.{isTable}
+use Rattle.table.proofs.Rows.{row-same}
+use Rattle.table.proofs.Test.{passes}
+use Rattle.table.proofs.Local.{same-word, isTable-local}
+use Rattle.pattern.specs.Walk.{Read, tree, refused}
+use Rattle.pattern.specs.Read.{readOf, optionsOf}
+use Rattle.automaton.specs.Parts.{partsOf}
+use Rattle.automaton.specs.declared.Parts.{Parts}
+use Rattle.rules.specs.Words.{wordsOf, oldRow, joinedRow, placeOf, newRecord, oldRecord, recordWords, followWords, newTaker, takersWords, addedWord, added}
+use Rattle.rules.specs.Add.{hasId, addAnswer, withRule, addWords}
+use Rattle.rules.specs.declared.Added.{Added}
+use Rattle.rules.proofs.Regions.{length-wordsOf}
+
+-- what is asked in a range only is settled there
+within : (lo hi w : ℕ) (x y z u : ℕ) → (lo ≤ w → w < hi → x ≡ y) → z ≡ u → cond (from-to lo hi w) x z ≡ cond (from-to lo hi w) y u
+within lo hi w x y z u inside outside = go (leb lo w) (ltb w hi) refl refl
+  where
+    go : (a b : Bool) → leb lo w ≡ a → ltb w hi ≡ b → cond (a && b) x z ≡ cond (a && b) y u
+    go true true e f = inside (leb-true lo w e) (ltb-true w hi f)
+    go true false e f = outside
+    go false b e f = outside
+
+words-ext : (n : ℕ) (f g : ℕ → ℕ) → ((w : ℕ) → w < n → f w ≡ g w) → wordsOf n f ≡ wordsOf n g
+unfolding wordsOf
+words-ext zero f g e = refl
+words-ext (suc n) f g e = ap₂ (λ (l : List ℕ) (x : ℕ). l ++ (x ∷ [])) (words-ext n f g (λ w h. e w (omega arith))) (e n (omega arith))
+
+-- ---- the words with one rule more
+
+module _ (t u : List ℕ) (same : take tableWords t ≡ take tableWords u) where
+  rules : rulesOf t ≡ rulesOf u
+  rules = same-word t u same 1 (omega arith)
+
+  positions : positionsOf t ≡ positionsOf u
+  positions = same-word t u same 2 (omega arith)
+
+  field : (a i : ℕ) → a < maxRules → i < 16 → recordWord t a i ≡ recordWord u a i
+  field a i h l = same-word t u same (recordAt a + i) (omega arith)
+
+  old-row : (at : ℕ) → at + 4 ≤ tableWords → oldRow t at ≡ oldRow u at
+  unfolding oldRow
+  old-row at h = λ i q. ltb q (positions i) && row-same t u at at (λ k l. same-word t u same (at + k) (omega arith)) q i
+
+  module _ (few : rulesOf t ≤ maxRules) where
+    has-id : (id : ℕ) → hasId t id ≡ hasId u id
+    unfolding hasId
+    has-id id =
+        any-ext (rulesOf t) (λ a. eqb (recordWord t a 0) id) (λ a. eqb (recordWord u a 0) id) (λ a h. ap (λ (x : ℕ). eqb x id) (field a 0 (omega arith) (omega arith)))
+        ∙ ap (λ (n : ℕ). any n (λ a. eqb (recordWord u a 0) id)) rules
+
+    module _ (id flags : ℕ) (parts : Parts) where
+      place : placeOf t id ≡ placeOf u id
+      unfolding placeOf
+      place =
+          count-ext (rulesOf t) (λ a. ltb (recordWord t a 0) id) (λ a. ltb (recordWord u a 0) id) (λ a h. ap (λ (x : ℕ). ltb x id) (field a 0 (omega arith) (omega arith)))
+          ∙ ap (λ (n : ℕ). count n (λ a. ltb (recordWord u a 0) id)) rules
+
+      new-record : (i : ℕ) → newRecord t id flags parts i ≡ newRecord u id flags parts i
+      unfolding newRecord
+      new-record i =
+          ap (λ (n : ℕ). cond (eqb i 0) id (cond (eqb i 1) flags (cond (eqb i 2) n (cond (eqb i 3) (n + parts .positions)
+          (cond (from-to 4 8 i) (getD (parts .last) (i - 4) 0) (cond (from-to 8 12 i) (getD (parts .«end») (i - 8) 0) 0)))))) positions
+
+      old-record : (a i : ℕ) → a < maxRules → i < 16 → oldRecord t id flags parts a i ≡ oldRecord u id flags parts a i
+      unfolding oldRecord
+      old-record a i h l = λ j.
+          cond (from-to 4 8 i) (getD (setOf (old-row (lastAt a) (omega arith) j)) (i - 4) 0)
+          (cond (from-to 8 12 i) (getD (setOf (old-row (lastAtEndAt a) (omega arith) j)) (i - 8) 0)
+          (field a i h l j))
+
+      record-words : (a i : ℕ) → a < maxRules → i < 16 → recordWords t id flags parts a i ≡ recordWords u id flags parts a i
+      unfolding recordWords
+      record-words a i h l = λ j.
+          cond (ltb a (place j)) (old-record a i h l j)
+          (cond (eqb a (place j)) (new-record i j)
+          (cond (leb a (rules j)) (old-record (a - 1) i (omega arith) l j)
+          (field a i h l j)))
+
+      follow-words : (p i : ℕ) → p < maxPositions → i < 4 → followWords t id flags parts p i ≡ followWords u id flags parts p i
+      unfolding followWords
+      follow-words p i h l = λ j.
+          cond (ltb p (positions j)) (getD (setOf (old-row (followAt p) (omega arith) j)) i 0)
+          (cond (ltb p (positions j + parts .positions)) (getD (parts .follow) ((p - positions j) * 4 + i) 0)
+          (same-word t u same (followAt p + i) (omega arith) j))
+
+      takers-words : (x i : ℕ) → x < bytes → takersWords t id flags parts x i ≡ takersWords u id flags parts x i
+      unfolding takersWords newTaker
+      takers-words x i h = λ j.
+          getD (setOf (λ q. old-row (takersAt x) (omega arith) j q
+          || (from-to (positions j) (positions j + parts .positions) q && rowHas (parts .takes) ((q - positions j) * 4) x))) i 0
+
+      word : (w : ℕ) → w < tableWords → addedWord t id flags parts w ≡ addedWord u id flags parts w
+      unfolding addedWord joinedRow
+      word w h =
+          header _ _ _ _ _ _ rules positions
+          (within firstAt (firstAt + 4) w _ _ _ _ (λ a b. λ j. getD (setOf (λ q. old-row firstAt (omega arith) j q || has (parts .first) q)) (w - firstAt) 0)
+          (within firstAtStartAt (firstAtStartAt + 4) w _ _ _ _ (λ a b. λ j. getD (setOf (λ q. old-row firstAtStartAt (omega arith) j q || has (parts .start) q)) (w - firstAtStartAt) 0)
+          (within (recordAt 0) (recordAt maxRules) w _ _ _ _ (λ a b. record-words ((w - recordAt 0) / 16) ((w - recordAt 0) % 16) (omega arith) (omega arith))
+          (within (followAt 0) (followAt maxPositions) w _ _ _ _ (λ a b. follow-words ((w - followAt 0) / 4) ((w - followAt 0) % 4) (omega arith) (omega arith))
+          (within (takersAt 0) (takersAt bytes) w _ _ _ _ (λ a b. takers-words ((w - takersAt 0) / 4) ((w - takersAt 0) % 4) (omega arith))
+          (same-word t u same w h))))))
+        where
+          header : (r r' p p' x x' : ℕ) → r ≡ r' → p ≡ p' → x ≡ x'
+              → cond (eqb w 1) (r + 1) (cond (eqb w 2) (p + parts .positions) x) ≡ cond (eqb w 1) (r' + 1) (cond (eqb w 2) (p' + parts .positions) x')
+          header r r' p p' x x' e f g = λ j. cond (eqb w 1) (e j + 1) (cond (eqb w 2) (f j + parts .positions) (g j))
+
+      added-local : take tableWords (added t id flags parts) ≡ take tableWords (added u id flags parts)
+      unfolding added
+      added-local =
+          take-at (wordsOf tableWords (addedWord t id flags parts)) (drop tableWords t) tableWords (length-wordsOf tableWords (addedWord t id flags parts))
+          ∙ words-ext tableWords (addedWord t id flags parts) (addedWord u id flags parts) word
+          ∙ sym (take-at (wordsOf tableWords (addedWord u id flags parts)) (drop tableWords u) tableWords (length-wordsOf tableWords (addedWord u id flags parts)))
+
+-- ---- an addition
+
+-- lists that agree up to 4,096 are long enough together, or equal
+module _ (t u : List ℕ) (same : take tableWords t ≡ take tableWords u) where
+  lengths : min tableWords (length t) ≡ min tableWords (length u)
+  lengths = sym (length-take tableWords t) ∙ ap length same ∙ length-take tableWords u
+
+  long-too : tableWords ≤ length t → tableWords ≤ length u
+  long-too h = omega (arith, lengths)
+
+  short-same : length t < tableWords → t ≡ u
+  short-same h = sym (take-all tableWords t (omega arith)) ∙ same ∙ take-all tableWords u (omega (arith, lengths))
+
+  pub table-local : isTable t ≡ isTable u
+  table-local = go (decLt (length t) tableWords)
+    where
+      go : Dec (length t < tableWords) → isTable t ≡ isTable u
+      go (yes h) = ap isTable (short-same h)
+      go (no h) = isTable-local t u same (omega arith) (long-too (omega arith))
+
+  module _ (id flags : ℕ) (s : List ℕ) where
+    -- the answer depends on the first 4,096 words alone
+    pub addAnswer-local : addAnswer t id flags s ≡ addAnswer u id flags s
+    unfolding addAnswer
+    addAnswer-local = go (isTable t) refl
+      where
+        go : (b : Bool) → isTable t ≡ b → addAnswer t id flags s ≡ addAnswer u id flags s
+        go false e = rw (e, sym table-local ∙ e)
+        go true e = rw (e, sym table-local ∙ e, has-id t u same (passes t e .rules) id, rules t u same, positions t u same)
+
+    -- an accepted addition has found a table
+    few-rules : eqb (addAnswer t id flags s .number) 0 ≡ true → rulesOf t ≤ maxRules
+    unfolding addAnswer
+    few-rules = go (isTable t) refl
+      where
+        go : (b : Bool) → isTable t ≡ b → eqb (addAnswer t id flags s .number) 0 ≡ true → rulesOf t ≤ maxRules
+        go true e h = passes t e .rules
+        go false e h = absurd (true≢false (sym h ∙ rw e))
+
+    -- so do the first 4,096 words afterwards
+    pub addWords-local : take tableWords (addWords t id flags s) ≡ take tableWords (addWords u id flags s)
+    unfolding addWords withRule
+    addWords-local =
+        go (eqb (addAnswer t id flags s .number) 0) (readOf s (optionsOf flags)) few-rules
+        ∙ ap (λ (a : Added). take tableWords (cond (eqb (a .number) 0) (withRule u id flags (readOf s (optionsOf flags))) u)) addAnswer-local
+      where
+        go : (c : Bool) (d : Read) → (c ≡ true → rulesOf t ≤ maxRules)
+            → take tableWords (cond c (withRule t id flags d) t) ≡ take tableWords (cond c (withRule u id flags d) u)
+        go false d few = same
+        go true (refused number place) few = same
+        go true (tree x) few =
+            added-local t u same (few refl) id flags (partsOf x (positionsOf t))
+            ∙ ap (λ (n : ℕ). take tableWords (added u id flags (partsOf x n))) (positions t u same)
+
+-- "words beyond are never touched"
+pub addWords-beyond : (t : List ℕ) (id flags : ℕ) (s : List ℕ) → drop tableWords (addWords t id flags s) ≡ drop tableWords t
+unfolding addWords withRule added
+addWords-beyond t id flags s = go (eqb (addAnswer t id flags s .number) 0) (readOf s (optionsOf flags))
+  where
+    go : (c : Bool) (d : Read) → drop tableWords (cond c (withRule t id flags d) t) ≡ drop tableWords t
+    go false d = refl
+    go true (refused number place) = refl
+    go true (tree x) =
+        drop-at (wordsOf tableWords (addedWord t id flags (partsOf x (positionsOf t)))) (drop tableWords t) tableWords
+        (length-wordsOf tableWords (addedWord t id flags (partsOf x (positionsOf t))))
