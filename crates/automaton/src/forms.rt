@@ -118,7 +118,7 @@ fn repeat(
 }
 
 // Node k.
-pub fn node(
+pub(super) fn node(
     a: &[u64],
     k: usize,
     b: usize,

@@ -5,7 +5,7 @@ ghost use Rattle.automaton.specs.Invariants.{bareOf, oneOf, also, inTurn
 
 // `null`, `opens` and `closes` say whether it matches nothing inside the stream, at its start and at its end. `first` and `starts` are the positions
 // that can come first inside and at the start; `last` and `ends` those that can come last inside and at the end.
-pub struct Fragment {
+pub(super) struct Fragment {
     pub size: usize,
     pub null: bool,
     pub opens: bool,
@@ -17,7 +17,7 @@ pub struct Fragment {
 }
 
 // No positions.
-pub fn bare(null: bool, opens: bool, closes: bool) -> Fragment
+pub(super) fn bare(null: bool, opens: bool, closes: bool) -> Fragment
     ensures { λ r. ⌜ r ≡ bareOf null opens closes ⌝ }
 {
     let s = sets::empty();
@@ -34,7 +34,7 @@ pub fn bare(null: bool, opens: bool, closes: bool) -> Fragment
 }
 
 // The one position b.
-pub fn one(b: usize) -> Fragment
+pub(super) fn one(b: usize) -> Fragment
     requires { ⌜ b < 256 ⌝ }
     ensures { λ r. ⌜ r ≡ oneOf b ⌝ }
 {
@@ -59,7 +59,7 @@ fn with_if(b: bool, s: [u64; 4], t: [u64; 4]) -> [u64; 4]
 }
 
 // f, then g.
-pub fn in_turn(f: Fragment, g: Fragment) -> Fragment
+pub(super) fn in_turn(f: Fragment, g: Fragment) -> Fragment
     requires { ⌜ f .size + g .size ≤ 256 ⌝ }
     ensures { λ r. ⌜ r ≡ inTurn f g ⌝ }
 {
@@ -88,7 +88,7 @@ pub fn in_turn(f: Fragment, g: Fragment) -> Fragment
 }
 
 // f, or g.
-pub fn choice(f: Fragment, g: Fragment) -> Fragment
+pub(super) fn choice(f: Fragment, g: Fragment) -> Fragment
     requires { ⌜ f .size + g .size ≤ 256 ⌝ }
     ensures { λ r. ⌜ r ≡ choiceOf f g ⌝ }
 {
@@ -117,7 +117,7 @@ pub fn choice(f: Fragment, g: Fragment) -> Fragment
 }
 
 // f, or nothing.
-pub fn optional(f: Fragment) -> Fragment
+pub(super) fn optional(f: Fragment) -> Fragment
     ensures { λ r. ⌜ r ≡ optionalOf f ⌝ }
 {
     let first = f.first;

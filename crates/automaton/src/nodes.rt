@@ -6,7 +6,7 @@ ghost use lib.ListN.{take, drop};
 ghost use Rattle.automaton.specs.Parts.{fourWords};
 
 // The byte set of item k.
-pub fn set_of(a: &[u64], k: usize) -> [u64; 4]
+pub(super) fn set_of(a: &[u64], k: usize) -> [u64; 4]
     ensures { λ r. ⌜ r ≡ fourWords (take 4 (drop (k - 4) (now (a .entry)))) ⌝ }
 {
     if k < 4 {

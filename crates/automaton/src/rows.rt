@@ -7,7 +7,7 @@ ghost use Rattle.automaton.specs.Parts.{fourWords, padded};
 ghost use Rattle.automaton.specs.Invariants.{addedTo, Joined};
 
 // Writes row p.
-pub fn put(rows: &mut [u64; 1024], p: usize, s: [u64; 4])
+pub(super) fn put(rows: &mut [u64; 1024], p: usize, s: [u64; 4])
     requires { ⌜ p < 256 ⌝ }
     ensures { λ _. ⌜ now (rows .exit) ≡ sets (now (rows .entry)) (p * 4) (fourWords s) ⌝ }
 {
@@ -29,7 +29,7 @@ fn add(rows: &mut [u64; 1024], p: usize, s: [u64; 4])
 }
 
 // Adds `first` to the row of each position in `last`.
-pub fn join(rows: &mut [u64; 1024], last: [u64; 4], first: [u64; 4])
+pub(super) fn join(rows: &mut [u64; 1024], last: [u64; 4], first: [u64; 4])
     ensures { λ _. ⌜ Joined last first 256 (now (rows .entry)) (now (rows .exit)) ⌝ }
 {
     let mut p: usize = 0;
@@ -42,7 +42,7 @@ pub fn join(rows: &mut [u64; 1024], last: [u64; 4], first: [u64; 4])
 }
 
 // The words from `at` on, moved to the front, and zeros.
-pub fn front(rows: [u64; 1024], at: usize) -> [u64; 1024]
+pub(super) fn front(rows: [u64; 1024], at: usize) -> [u64; 1024]
     requires { ⌜ at ≤ 1024 ⌝ }
     ensures { λ r. ⌜ r ≡ padded (drop at rows) ⌝ }
 {
