@@ -26,11 +26,13 @@ use Rattle.watcher_c.proofs.Words.{length-words}
 abbrev pub FourWords : Stream → Type 0
 FourWords s = length (s .live) ≡ 4
 
+-- a list of four words, read word by word
 four : (l : List ℕ) → length l ≡ 4 → getD l 0 0 ∷ getD l 1 0 ∷ getD l 2 0 ∷ getD l 3 0 ∷ [] ≡ l
 four l e =
     let words : List ℕ = getD l 0 0 ∷ getD l 1 0 ∷ getD l 2 0 ∷ getD l 3 0 ∷ [] in
     ext-getD 0 words l (sym e) (below-four (λ (i : ℕ). getD words i 0 ≡ getD l i 0) refl refl refl refl)
 
+-- the closed mark, written as 1 or 0
 mark : (b : Bool) → not (eqb (cond b 1 0) 0) ≡ b
 mark true = refl
 mark false = refl
