@@ -56,16 +56,16 @@ module _ (rs : List Accepted) (a : Addition) where
   none-left c (id-there r m e) = true≢false (sym (taken-at rs (a .id) r m e) ∙ c .free)
   none-left c (all-there h) = omega (arith, c .few)
   none-left c (too-long h) = omega (arith, reads (a .pattern) (optionsOf (a .flags)) (c .read) .0 (c .reading) .short)
-  none-left c (in-pattern n r) =
+  none-left c (in-pattern n p r) =
       accepted (a .pattern) (optionsOf (a .flags)) (reads (a .pattern) (optionsOf (a .flags)) (c .read) .0 (c .reading) .short) .0
-      (ap (λ (r : Read). answerOf r .number) (c .reading)) n r
+      (ap (λ (r : Read). answerOf r .number) (c .reading)) n p r
   none-left c (no-room x e h) =
       let same : positions (write (c .read)) ≡ positions (write x) = ap (λ (t : Syntax). positions (write t)) (one-tree (c .read) x (sym (c .reading) ∙ e)) in
       omega (arith, c .room)
 
   let-in : ¬ Refusal rs a → Accepts rs a
   let-in none =
-      let x = accepted-tree (a .pattern) (optionsOf (a .flags)) (answerOf (readingOf a)) refl (accepted (a .pattern) (optionsOf (a .flags)) short .1 (λ n r. none (in-pattern n r))) in
+      let x = accepted-tree (a .pattern) (optionsOf (a .flags)) (answerOf (readingOf a)) refl (accepted (a .pattern) (optionsOf (a .flags)) short .1 (λ n p r. none (in-pattern n p r))) in
       record {
         known = known (ℕ-discrete (bitAnd (a .flags) knownFlags) (a .flags));
         free = free (taken rs (a .id)) refl;

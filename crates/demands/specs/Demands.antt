@@ -91,7 +91,7 @@ pub data Refusal (rules : List Accepted) (a : Addition) : Type 0 where
   -- 5: "pattern over 256 bytes"
   too-long : longest < length (a .pattern) → Refusal rules a
   -- 6 to 16, each a predicate of its own: crates/pattern/specs/Reasons.antt
-  in-pattern : (number : ℕ) → Reason (a .pattern) (optionsOf (a .flags)) number → Refusal rules a
+  in-pattern : (number place : ℕ) → Reason (a .pattern) (optionsOf (a .flags)) number place → Refusal rules a
   -- 17: "over 256 positions with those in the table"
   no-room : (x : Syntax) → readingOf a ≡ tree x → maxPositions < used rules + positions (write x) → Refusal rules a
 

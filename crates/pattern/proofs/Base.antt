@@ -1,6 +1,6 @@
 -- Small laws that the other files share: tests taken apart, truth values, and one run of stores after another. Assumes nothing.
 use mathlib.Core.Path.{_≡_, refl, ap, _∙_}
-use mathlib.Core.Bool.{Bool, true, false, _||_}
+use mathlib.Core.Bool.{Bool, true, false}
 use mathlib.Core.List.{List, [], _∷_, _++_}
 use mathlib.Core.Logic.{_⊎_, inl, inr}
 use Prim.Native.Nat.{ℕ, suc, _+_, _≤_, _<_}
@@ -27,14 +27,6 @@ by-eq m n = split (eqb m n) (λ e. inl (eqb-true m n e)) (λ e. inr (eqb-false m
 
 pub true-not-false : {A : Type 0} (b : Bool) → b ≡ true → b ≡ false → A
 true-not-false b p q = absurd (let z : _≡_ {A = ℕ} 0 1 = cc in omega arith)
-
-pub left-true : (a b : Bool) → a ≡ true → (a || b) ≡ true
-left-true true b e = refl
-left-true false b e = true-not-false false e refl
-
-pub right-true : (a b : Bool) → b ≡ true → (a || b) ≡ true
-right-true true b e = refl
-right-true false b e = e
 
 -- ---- stores
 

@@ -1,5 +1,8 @@
 -- Why a pattern is refused: the rows of the table "When the watcher says no" from 6 to 16, each as a predicate of its own: on the bytes of one token and
--- what stands before it, on the finished tree, or on the pattern's end. Assumes nothing: these are definitions.
+-- what stands before it, on the finished tree, or on the pattern's end. Taken over from the reading: where the tokens and members stand (`Stands`, `InClass`),
+-- what stands before a token (the open groups, and what a quantifier would repeat), which token it is, what a member stands for, which braces are a
+-- quantifier, and the finished tree. Said anew: everything that makes one of them faulty. The theorems are `decided` and `accepted` of
+-- proofs/Accepted.antt. Assumes nothing: these are definitions.
 use mathlib.Core.Path.{_≡_}
 use mathlib.Core.Bool.{Bool, true, false, cond, not, _&&_, _||_}
 use mathlib.Core.List.{List, [], _∷_}
@@ -16,7 +19,8 @@ use Rattle.tokens.specs.Escape.{isAlnum}
 use Rattle.tokens.specs.Class.{opensName, memberOf, isType, byteOf, ranges, memberAt}
 use Rattle.tokens.specs.Quantifier.{formOf}
 use Rattle.tokens.specs.Token.{lexemeOf}
-use Rattle.regex.specs.Count.{limit, saturating, nullable}
+use Rattle.regex.specs.Form.{write, positions}
+use Rattle.regex.specs.Count.{limit, MatchesEmpty}
 use Rattle.pattern.specs.Nodes.{Syntax}
 use Rattle.pattern.specs.Walk.{Target, nothing, single, repeated, State, go, groupOf, deepest, next, begin}
 
@@ -78,17 +82,19 @@ badOpening v = eqb (getD v 0 0) 42 || (eqb (getD v 0 0) 63 && not (eqb (getD v 1
 
 -- ---- quantifiers: v is the pattern from the quantifier on
 
--- 11: "lower repeat above upper, or a number above 65,535": `{n}`, and then `{n,}`, `{n,m}` or `{,m}`
-abbrev pub numberOf10 : List ℕ → ℕ
-numberOf10 v = valueFrom 10 0 (digits 10 v)
+-- the number in decimal digits at the front, 0 where there are none; and what follows it and one byte more
+abbrev pub decimalOf : List ℕ → ℕ
+decimalOf v = valueFrom 10 0 (digits 10 v)
 
 abbrev pub second : List ℕ → List ℕ
 second v = drop (length (digits 10 v) + 1) v
 
+-- 11: "lower repeat above upper, or a number above 65,535": v is the pattern after the brace of `{n}`, `{n,}`, `{n,m}` or `{,m}`. `{n}` has no second
+-- number and `{n,}` no upper one; the lower one of `{,m}` is 0.
 unfoldable pub badBounds : List ℕ → Bool
 badBounds v =
-    ltb 65535 (numberOf10 v)
-    || (not (eqb (getD v (length (digits 10 v)) 0) 125) && (some (digits 10 (second v)) && (ltb 65535 (numberOf10 (second v)) || ltb (numberOf10 (second v)) (numberOf10 v))))
+    ltb 65535 (decimalOf v)
+    || (not (eqb (getD v (length (digits 10 v)) 0) 125) && (some (digits 10 (second v)) && (ltb 65535 (decimalOf (second v)) || ltb (decimalOf (second v)) (decimalOf v))))
 
 -- ---- one token outside a class: v is the pattern from its first byte on
 
@@ -107,7 +113,8 @@ row14 v =
     (eqb (getD v 0 0) 92 && unknown false (drop 1 v))
     || ((eqb (getD v 0 0) 40 && badOpening (drop 1 v)) || (formOf v .is && eqb (getD v (formOf v .size) 0) 43))
 
--- 10: "quantifier at the start of a pattern, group or branch, or after an assertion, an option setting or another quantifier"
+-- 10: "quantifier at the start of a pattern, group or branch, or after an assertion, an option setting or another quantifier". What stands before is the
+-- walk's: `nothing` at a start, after an assertion and after a setting, `repeated` after a quantifier, `single` after an item or a group.
 abbrev pub row10 : Target → Token → Bool
 row10 t Finish = false
 row10 t Bar = false
@@ -147,7 +154,7 @@ row9 v =
 
 -- ---- where tokens stand
 
--- A token stands at place `at` with m before it: the first at 0, and each next one after a token that is not refused.
+-- A token, or the pattern's end, stands at place `at` with m before it: the first at 0, and each next one after a token that is not refused.
 pub data Stands (s : List ℕ) (o : Options) : ℕ → State → Type 0 where
   begins : Stands s o 0 (begin o)
   onward : (at k : ℕ) (m n : State) → Stands s o at m → at < length s → next at (drop at s) m ≡ go k n → Stands s o (at + 1 + k) n
@@ -160,7 +167,7 @@ membersAt s at = cond (eqb (getD s at 0) 94) (at + 1) at
 abbrev pub closes : List ℕ → ℕ → Bool → Bool
 closes s at isFirst = eqb (getD s at 0) 93 && not isFirst
 
--- A member, a range or the closing bracket stands at a place of the class that begins at `from`, the first one or a later one.
+-- A member, a range, the closing bracket or the pattern's end stands at a place of the class whose `[` is before `from`, the first one or a later one.
 pub data InClass (s : List ℕ) (from : ℕ) : ℕ → Bool → Type 0 where
   begins : InClass s from (membersAt s from) true
   onward : (at : ℕ) (isFirst : Bool)
@@ -185,7 +192,7 @@ pub record MemberAt (s : List ℕ) (o : Options) (at : ℕ) : Type 0 where
   pub inside : at < length s
   pub member : closes s at isFirst ≡ false
 
--- the finished tree
+-- the tree t is finished: the walk stands at the pattern's end and no group is open
 pub record Finished (s : List ℕ) (o : Options) (t : Syntax) : Type 0 where
   pub place : ℕ
   pub state : State
@@ -194,26 +201,33 @@ pub record Finished (s : List ℕ) (o : Options) (t : Syntax) : Type 0 where
   pub closed : state .stack ≡ []
   pub tree : t ≡ groupOf state
 
--- ---- the reasons, by their number
+-- ---- the reasons, each with its number and place: "The place is the token's first byte. Faults known only at the end (8, 12 for an open group, 15, 16, ..)
+-- have the pattern's length as place"
 
-pub data Reason (s : List ℕ) (o : Options) : ℕ → Type 0 where
-  escape-cut : (at : ℕ) (m : State) → Stands s o at m → T (row6 (drop at s)) → Reason s o 6
-  member-cut : (at : ℕ) → MemberAt s o at → T (ofEnd row6 (drop at s)) → Reason s o 6
-  escape-large : (at : ℕ) (m : State) → Stands s o at m → T (row7 (drop at s)) → Reason s o 7
-  member-large : (at : ℕ) → MemberAt s o at → T (ofEnd row7 (drop at s)) → Reason s o 7
+pub data Reason (s : List ℕ) (o : Options) : (number place : ℕ) → Type 0 where
+  escape-cut : (at : ℕ) (m : State) → Stands s o at m → T (row6 (drop at s)) → Reason s o 6 at
+  member-cut : (at : ℕ) → MemberAt s o at → T (ofEnd row6 (drop at s)) → Reason s o 6 at
+  escape-large : (at : ℕ) (m : State) → Stands s o at m → T (row7 (drop at s)) → Reason s o 7 at
+  member-large : (at : ℕ) → MemberAt s o at → T (ofEnd row7 (drop at s)) → Reason s o 7 at
   -- "class not closed"
-  class-open : (at bracket : ℕ) (isFirst : Bool) → ClassAt s o bracket → InClass s (bracket + 1) at isFirst → length s ≤ at → Reason s o 8
-  bad-range : (at : ℕ) → MemberAt s o at → T (row9 (drop at s)) → Reason s o 9
-  nothing-repeated : (at : ℕ) (m : State) → Stands s o at m → T (row10 (m .target) (tokenAt s at m)) → Reason s o 10
-  bad-bounds : (at : ℕ) (m : State) → Stands s o at m → T (row11 (drop at s)) → Reason s o 11
+  class-open : (at bracket : ℕ) (isFirst : Bool) → ClassAt s o bracket → InClass s (bracket + 1) at isFirst → length s ≤ at → Reason s o 8 (length s)
+  bad-range : (at : ℕ) → MemberAt s o at → T (row9 (drop at s)) → Reason s o 9 at
+  nothing-repeated : (at : ℕ) (m : State) → Stands s o at m → T (row10 (m .target) (tokenAt s at m)) → Reason s o 10 at
+  bad-bounds : (at : ℕ) (m : State) → Stands s o at m → T (row11 (drop at s)) → Reason s o 11 at
   -- "group not closed, or `)` without one"
-  group-open : (at : ℕ) (m : State) → Stands s o at m → length s ≤ at → 0 < length (m .stack) → Reason s o 12
-  no-group : (at : ℕ) (m : State) → Stands s o at m → tokenAt s at m ≡ Close → m .stack ≡ [] → Reason s o 12
+  group-open : (at : ℕ) (m : State) → Stands s o at m → length s ≤ at → 0 < length (m .stack) → Reason s o 12 (length s)
+  no-group : (at : ℕ) (m : State) → Stands s o at m → tokenAt s at m ≡ Close → m .stack ≡ [] → Reason s o 12 at
   -- "a 17th group open (only `(`, `(?:` and option groups count)"
-  too-deep : (at : ℕ) (m : State) (inside : Options) → Stands s o at m → tokenAt s at m ≡ Open inside → deepest ≤ length (m .stack) → Reason s o 13
-  unsupported : (at : ℕ) (m : State) → Stands s o at m → T (row14 (drop at s)) → Reason s o 14
-  member-unsupported : (at : ℕ) → MemberAt s o at → T (ofEnd memberRow14 (drop at s)) → Reason s o 14
+  too-deep : (at : ℕ) (m : State) (inside : Options) → Stands s o at m → tokenAt s at m ≡ Open inside → deepest ≤ length (m .stack) → Reason s o 13 at
+  unsupported : (at : ℕ) (m : State) → Stands s o at m → T (row14 (drop at s)) → Reason s o 14 at
+  member-unsupported : (at : ℕ) → MemberAt s o at → T (ofEnd memberRow14 (drop at s)) → Reason s o 14 at
   -- "the rule could match no bytes, were all its assertions true"
-  matches-nothing : (t : Syntax) → Finished s o t → T (nullable t) → Reason s o 15
+  matches-nothing : (t : Syntax) → Finished s o t → MatchesEmpty t → Reason s o 15 (length s)
   -- "over 256 positions in this rule"
-  too-many : (t : Syntax) → Finished s o t → limit < saturating t → Reason s o 16
+  too-many : (t : Syntax) → Finished s o t → limit < positions (write t) → Reason s o 16 (length s)
+
+-- "the first faulty token decides, the lower number first within it": a reason with this number and place is there, and every reason that is there has this
+-- place and no lower number. (Tokens stand up to the first faulty one, so no other place has a reason.)
+pub record Decides (s : List ℕ) (o : Options) (number place : ℕ) : Type 0 where
+  pub reason : Reason s o number place
+  pub lowest : (n p : ℕ) → Reason s o n p → (number ≤ n) × (p ≡ place)
