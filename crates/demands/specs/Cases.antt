@@ -4,7 +4,6 @@
 use mathlib.Core.Path.{_≡_}
 use mathlib.Core.List.{List, [], _∷_, map, List·Memᴰ}
 use Prim.Native.Nat.{ℕ, suc, _≤_, _%_, _^_}
-use Prim.Native.Char.{code}
 use Prim.Native.String.{String}
 use native.Mathlib.Omega.{arith}
 use lib.ListN.{length}
@@ -12,15 +11,11 @@ use Rattle.table.specs.Layout.{tableWords, maxRules}
 use Rattle.table.specs.Table.{emptied}
 use Rattle.stream.specs.Calls.{opened, space}
 use Rattle.regex.specs.Ordered.{Pair}
+unfoldable pub use Rattle.pattern.specs.Cases.{bytes}
 use Rattle.rules.specs.declared.Added.{Added}
 use Rattle.rules.specs.Add.{answer, addAnswer, addWords}
 use Rattle.rules.specs.Additions.{Addition, addAll}
 use Rattle.demands.specs.Chain.{Item, scan, close, Outcome, by-scan, by-close, outcomesOf, begun}
-
--- the bytes of a text
-unfoldable pub bytes : String → List ℕ
-bytes Prim.Native.String.[] = []
-bytes (Prim.Native.String._∷_ c text) = code c ∷ bytes text
 
 -- ---- what a case says
 

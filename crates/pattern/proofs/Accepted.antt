@@ -17,7 +17,8 @@ use Rattle.tokens.specs.declared.Member.{Member}
 use Rattle.tokens.specs.declared.Token.{Token}
 use Rattle.tokens.specs.declared.Token.the-variants.{Finish, Bar, Close, Class, One, Open, Set, Repeat, Bad}
 use Rattle.tokens.specs.declared.Lexeme.{Lexeme}
-use Rattle.tokens.specs.Class.{lower, memberAt, joined, membersOf, classOf}
+use Rattle.tokens.specs.Fault.{lower}
+use Rattle.tokens.specs.Class.{memberAt, joined, membersOf, classOf}
 use Rattle.tokens.specs.Quantifier.{formOf}
 use Rattle.tokens.specs.Token.{lexemeOf}
 use Rattle.regex.specs.Form.{write, positions}

@@ -6,7 +6,8 @@ use Rattle.kinds.specs.Kind.{isDigit, isLower, isUpper, isWord, isSpace, isHori
 use Rattle.kinds.specs.Case.{otherCase, caseClosed}
 use Rattle.tokens.specs.Number.{digitOf, digits, valueFrom, numeralOf}
 use Rattle.tokens.specs.Escape.{bracedOf, shortOf, flipped64, raised, controlOf, typeOf, namedOf, placedOf, hexOf, octalOf, isAlnum, escapeOf}
-use Rattle.tokens.specs.Class.{lower, opensName, memberOf, rangeFault, ranges, memberAt, joined, settled, membersOf, classOf}
+use Rattle.tokens.specs.Fault.{lower}
+use Rattle.tokens.specs.Class.{opensName, memberOf, rangeFault, ranges, memberAt, joined, settled, membersOf, classOf}
 use Rattle.tokens.specs.Option.{lettersOf, openingOf}
 use Rattle.tokens.specs.Quantifier.{bounded, open-ended, bracesOf, formOf, marked, quantifierOf}
 use Rattle.tokens.specs.Token.{escaped, lexemeOf, itemSet}

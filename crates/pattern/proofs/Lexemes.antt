@@ -17,7 +17,7 @@ use Rattle.tokens.specs.declared.Token.the-variants.{Finish, Bar, Close, Class,
 use Rattle.tokens.specs.declared.Lexeme.{Lexeme}
 use Rattle.tokens.specs.Number.{cap, numeralOf}
 use Rattle.tokens.specs.Escape.{escapeOf}
-use Rattle.tokens.specs.Class.{lower}
+use Rattle.tokens.specs.Fault.{lower}
 use Rattle.tokens.specs.Option.{faulty, withCaseless, withDotAll, lettersOf, openingOf}
 use Rattle.tokens.specs.Quantifier.{noForm, form, bounded, open-ended, bracesOf, formOf, marked, quantifierOf}
 use Rattle.tokens.specs.Token.{escaped, lexemeOf}

@@ -19,7 +19,8 @@ use Rattle.tokens.specs.declared.Form.{Form}
 use Rattle.tokens.specs.declared.Lexeme.{Lexeme}
 use Rattle.tokens.specs.Number.{cap, some, digits, valueFrom, numeralOf}
 use Rattle.tokens.specs.Escape.{good, bracedOf, shortOf, controlOf, typeOf, namedOf, placedOf, hexOf, octalOf, isAlnum, escapeOf}
-use Rattle.tokens.specs.Class.{lower, opensName, memberOf, rangeFault, isType, byteOf, ranges, memberAt}
+use Rattle.tokens.specs.Fault.{lower}
+use Rattle.tokens.specs.Class.{opensName, memberOf, rangeFault, isType, byteOf, ranges, memberAt}
 use Rattle.tokens.specs.Option.{withCaseless, withDotAll, lettersOf, openingOf}
 use Rattle.tokens.specs.Quantifier.{bounded, open-ended, bracesOf, formOf, marked, quantifierOf}
 use Rattle.tokens.specs.Token.{escaped, lexemeOf}
@@ -300,18 +301,6 @@ once-bool false = refl
 same-fault : (size n : ℕ) → bounded size (min cap n) (min cap n) .fault ≡ cond (small n || false) 11 0
 same-fault size n = bounded-fault size n n ∙ rw (le-ltb n n (omega arith)) (once-bool (small n))
 
-none-value : 0 ≡ min cap (valueFrom 10 0 [])
-unfolding valueFrom
-none-value = refl
-
--- the lower number of a form that may lack it
-low-number : (v : List ℕ) → cond (some (digits 10 v)) (min cap (decimalOf v)) 0 ≡ min cap (decimalOf v)
-low-number v = by-digits (digits 10 v)
-  where
-    by-digits : (ds : List ℕ) → cond (some ds) (min cap (valueFrom 10 0 ds)) 0 ≡ min cap (valueFrom 10 0 ds)
-    by-digits [] = none-value
-    by-digits (d ∷ ds) = refl
-
 braces-fault : (v : List ℕ) → bracesOf v .is ≡ true → bracesOf v .fault ≡ cond (badBounds v) 11 0
 unfolding bracesOf numeralOf badBounds
 braces-fault v =
@@ -322,7 +311,7 @@ braces-fault v =
     (λ e. rw e (split (some (digits 10 v)) (λ f. rw f (λ z. same-fault (2 + k) (decimalOf v))) (λ f. rw f (λ z. true-not-false false z refl))))
     (λ e. rw e (split (eqb (getD v k 0) 44 && eqb (getD v (k + (1 + j)) 0) 125)
     (λ f. rw f (split (some (digits 10 w))
-    (λ g. rw (g, low-number v) (λ z. bounded-fault (3 + (k + j)) (decimalOf v) (decimalOf w)))
+    (λ g. rw g (λ z. bounded-fault (3 + (k + j)) (decimalOf v) (decimalOf w)))
     (λ g. rw g (split (some (digits 10 v)) (λ h. rw h (λ z. open-fault (3 + (k + j)) (decimalOf v))) (λ h. rw h (λ z. true-not-false false z refl))))))
     (λ f. rw f (λ z. true-not-false false z refl))))
 

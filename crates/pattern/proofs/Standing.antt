@@ -17,7 +17,8 @@ use Rattle.tokens.specs.declared.Form.{Form}
 use Rattle.tokens.specs.declared.Token.{Token}
 use Rattle.tokens.specs.declared.Token.the-variants.{Finish, Bar, Close, Class, One, Open, Set, Repeat, Bad}
 use Rattle.tokens.specs.declared.Lexeme.{Lexeme}
-use Rattle.tokens.specs.Class.{lower, memberAt, joined, membersOf, classOf}
+use Rattle.tokens.specs.Fault.{lower}
+use Rattle.tokens.specs.Class.{memberAt, joined, membersOf, classOf}
 use Rattle.tokens.specs.Option.{withCaseless, withDotAll, lettersOf, openingOf}
 use Rattle.tokens.specs.Quantifier.{formOf, marked, quantifierOf}
 use Rattle.tokens.specs.Token.{escaped, lexemeOf}

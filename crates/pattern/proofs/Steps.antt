@@ -17,7 +17,8 @@ use Rattle.tokens.specs.declared.Atom.the-variants.{Byte, OfKind, NotOfKind, Do
 use Rattle.tokens.specs.declared.Token.{Token}
 use Rattle.tokens.specs.declared.Token.the-variants.{Finish, Bar, Close, Class, One, Open, Set, Repeat, Bad}
 use Rattle.tokens.specs.declared.Lexeme.{Lexeme}
-use Rattle.tokens.specs.Class.{lower, classOf}
+use Rattle.tokens.specs.Fault.{lower}
+use Rattle.tokens.specs.Class.{classOf}
 use Rattle.tokens.specs.Token.{lexemeOf}
 use Rattle.tokens.proofs.Suffixes.{front}
 use Rattle.regex.specs.Tree.{empty, item, repeat}

@@ -28,7 +28,7 @@ yOf w = w / 2 ^ 14 % 2 ^ 17
 abbrev pub zOf : ℕ → ℕ
 zOf w = w / 2 ^ 31
 
--- how many copies more, as a number: `cap` is any number
+-- how many copies more, as a number: `cap` stands for any number more
 abbrev pub extraOf : ℕ → Extra
 extraOf z = cond (eqb z cap) unbounded (atMost z)
 

@@ -24,7 +24,7 @@ judged n (tree t) = cond (nullable t) (refused 15 n) (cond (ltb limit (saturatin
 unfoldable pub readOf : List ℕ → Options → Read
 readOf s o = cond (ltb longest (length s)) (refused 5 0) (judged (length s) (walk s 0 0 (begin o)))
 
--- "Flags: 1 caseless, 2 dot matches all": other bits mean nothing here
+-- "Flags, .. 1 caseless, 2 dot matches all": other bits mean nothing here
 unfoldable pub optionsOf : ℕ → Options
 optionsOf flags = record { caseless = eqb (flags % 2) 1; dotall = eqb (flags / 2 % 2) 1 }
 

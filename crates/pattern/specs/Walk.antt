@@ -1,4 +1,4 @@
--- Reading a pattern: a walk over its bytes from left to right with the open groups on a stack. "The first faulty token decides." Assumes nothing:
+-- Reading a pattern: a walk over its bytes from left to right with the open groups on a stack. "the first faulty token decides". Assumes nothing:
 -- these are definitions.
 use mathlib.Core.Bool.{cond}
 use mathlib.Core.List.{List, [], _∷_}
@@ -11,7 +11,8 @@ use Rattle.tokens.specs.declared.Options.{Options}
 use Rattle.tokens.specs.declared.Token.{Token}
 use Rattle.tokens.specs.declared.Token.the-variants.{Finish, Bar, Close, Class, One, Open, Set, Repeat, Bad}
 use Rattle.tokens.specs.declared.Lexeme.{Lexeme}
-use Rattle.tokens.specs.Class.{lower, classOf}
+use Rattle.tokens.specs.Fault.{lower}
+use Rattle.tokens.specs.Class.{classOf}
 use Rattle.tokens.specs.Token.{lexemeOf, itemSet}
 use Rattle.regex.specs.Tree.{empty, item, assertion, then, or, repeat}
 use Rattle.regex.specs.Rule.{at-start, at-end}
@@ -84,7 +85,7 @@ one m End = with-item m (assertion at-end) nothing
 abbrev pub deepest : ℕ
 deepest = 16
 
--- the last item repeated
+-- the last item repeated; where there is none, a quantifier has fault 10 and this is not asked
 unfoldable pub repeating : List Syntax → ℕ → ℕ → List Syntax
 repeating [] least extra = []
 repeating (x ∷ xs) least extra = repeat x least (extraOf extra) ∷ xs
@@ -95,7 +96,8 @@ targetFault nothing = 10
 targetFault single = 0
 targetFault repeated = 10
 
--- "`)` without" an open group is 12; else the group becomes an item of the one around it, whose options hold again
+-- 12: "`)` without one". Else the group becomes an item of the one around it, whose options hold again: "A setting lasts to the end of its group, later
+-- branches included."
 unfoldable pub closing : ℕ → List Frame → Syntax → Next
 closing at [] t = stop 12 at
 closing at (f ∷ fs) t = go 0 (record { stack = fs; branches = f .branches; items = t ∷ f .items; options = f .options; target = single })
@@ -106,7 +108,8 @@ opening at skip m o =
     cond (leb deepest (length (m .stack))) (stop 13 at)
     (go skip (record { stack = record { branches = m .branches; items = m .items; options = m .options } ∷ m .stack; branches = []; items = []; options = o; target = nothing }))
 
--- a token without a fault of its own at place `at`, with v from there on: what it does
+-- What a token without a fault does, at place `at` with v from there on. A `|` keeps the options: "later branches included". `Finish` is no token of a
+-- byte and `Bad` has a fault, so these two do not occur.
 unfoldable pub act : (at : ℕ) → List ℕ → State → (size : ℕ) → Token → Next
 act at v m size Finish = go 0 m
 act at v m size Bar = go 0 (record { stack = m .stack; branches = branchOf m ∷ m .branches; items = []; options = m .options; target = nothing })

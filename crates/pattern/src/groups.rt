@@ -19,7 +19,7 @@ ghost use Prim.Native.Nat.{_≤_};
 ghost use Rattle.pattern.specs.Invariants.{Room, Here, SaidBranches, SaidSequence, SaidItem};
 
 // The branches of a group or of the pattern, up to its end.
-pub fn branches(
+pub(super) fn branches(
     s: &[u8],
     at: usize,
     depth: usize,

@@ -27,7 +27,7 @@ pub struct Got {
 }
 
 // A refusal.
-pub fn refuse(fault: u32, at: usize) -> Got
+pub(super) fn refuse(fault: u32, at: usize) -> Got
     ensures { λ r. ⌜ r ≡ refusal fault at ⌝ }
 {
     Got {
@@ -43,7 +43,14 @@ pub fn refuse(fault: u32, at: usize) -> Got
 }
 
 // A node without children.
-pub fn leaf(a: &mut [u64; 2048], n: usize, op: u64, x: u64, at: usize, options: Options) -> Got
+pub(super) fn leaf(
+    a: &mut [u64; 2048],
+    n: usize,
+    op: u64,
+    x: u64,
+    at: usize,
+    options: Options,
+) -> Got
     requires { ⌜ (n < lent) × (op < 8) × (x < 2) ⌝ }
     ensures { λ r. ⌜ (r ≡ got at (n + 1) n options) × (now (a .exit) ≡ set (now (a .entry)) n (word op x 0 0)) ⌝ }
 {
@@ -58,7 +65,7 @@ pub fn leaf(a: &mut [u64; 2048], n: usize, op: u64, x: u64, at: usize, options: 
 }
 
 // A node with two children, of which h was read after g.
-pub fn join(a: &mut [u64; 2048], op: u64, g: Got, h: Got) -> Got
+pub(super) fn join(a: &mut [u64; 2048], op: u64, g: Got, h: Got) -> Got
     requires { ⌜ (h .n < lent) × (op < 8) × (g .root < h .n) × (h .root < h .n) ⌝ }
     ensures { λ r. ⌜ (r ≡ got (h .at) (h .n + 1) (h .n) (h .options)) × (now (a .exit) ≡ set (now (a .entry)) (h .n) (word op (g .root) (h .root) 0)) ⌝ }
 {
@@ -75,7 +82,7 @@ pub fn join(a: &mut [u64; 2048], op: u64, g: Got, h: Got) -> Got
 }
 
 // The quantifier that may follow an item or a group, which was read up to `at`.
-pub fn quantified(
+pub(super) fn quantified(
     s: &[u8],
     at: usize,
     options: Options,
@@ -112,7 +119,7 @@ pub fn quantified(
 }
 
 // What one atom stands for, which was read up to `at`: an assertion, or an item with the quantifier that may follow it.
-pub fn single(
+pub(super) fn single(
     s: &[u8],
     at: usize,
     options: Options,
@@ -135,7 +142,7 @@ pub fn single(
 }
 
 // The class whose members begin at `at`, with the quantifier that may follow it.
-pub fn class(s: &[u8], at: usize, options: Options, a: &mut [u64; 2048], n: usize) -> Got
+pub(super) fn class(s: &[u8], at: usize, options: Options, a: &mut [u64; 2048], n: usize) -> Got
     requires { ⌜ Room (now s) (now a) at n 5 ⌝ }
     ensures { λ r. ⌜ SaidClass (now (s .entry)) (now (a .entry)) (now (a .exit)) at options n r ⌝ }
 {
@@ -149,7 +156,7 @@ pub fn class(s: &[u8], at: usize, options: Options, a: &mut [u64; 2048], n: usiz
 }
 
 // The fault of a token that begins an item, 0 for none: a quantifier has nothing to repeat there.
-pub fn fault_of(l: Lexeme) -> u32
+pub(super) fn fault_of(l: Lexeme) -> u32
     ensures { λ r. ⌜ r ≡ faultOf l ⌝ }
 {
     let token = l.token;

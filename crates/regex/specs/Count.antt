@@ -4,12 +4,12 @@ use mathlib.Core.Bool.{Bool, true, false, _&&_, _||_}
 use Prim.Native.Nat.{ℕ, zero, suc, _+_, _*_, min, max}
 use Rattle.regex.specs.Tree.{Tree, empty, item, assertion, then, or, repeat, Extra, atMost, unbounded, Text, Means}
 
--- how many copies a repeat has in the written-out form
+-- how many copies of its inside a repeat has in the written-out form: `X+` is one
 unfoldable pub copied : ℕ → Extra → ℕ
 copied n (atMost j) = n + j
 copied n unbounded = max n 1
 
--- "A repeat inside a repeat multiplies."
+-- the number of positions: "A repeat inside a repeat multiplies, so whether the count passes 256 is worked out exactly"
 unfoldable pub exact : {C A : Type 0} → Tree C A → ℕ
 exact empty = 0
 exact (item c) = 1

@@ -13,7 +13,7 @@ pub record Gap : Type 0 where
   pub after : List ℕ
   pub ended : Bool
 
--- The gap before offset k of these bytes. A match passes no gap past the last byte: it takes a byte behind every gap but its last.
+-- The gap before offset k of these bytes. Only k up to their number matter: a match with a byte in it lies between offset 0 and the length.
 abbrev pub gap : List ℕ → Bool → ℕ → Gap
 gap bytes ended k = record { before = take k bytes; after = drop k bytes; ended = ended }
 

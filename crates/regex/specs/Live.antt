@@ -23,7 +23,7 @@ pub data Counts (Q : ℕ → Type 0) : (n k : ℕ) → Type 0 where
   one : {n k : ℕ} → Q n → Counts Q n k → Counts Q (suc n) (suc k)
   skip : {n k : ℕ} → ¬ Q n → Counts Q n k → Counts Q (suc n) k
 
--- "The number of live positions", all rules together: "This counts rules that have already reported too."
+-- "the number of live positions", all rules together: "This counts rules that have already reported too."
 unfoldable pub Busy : List Rule → List ℕ → ℕ → Type 0
 Busy [] bytes n = n ≡ 0
 Busy (r ∷ rules) bytes n = (k m : ℕ) × Counts (Live r bytes) (positions (write (r .tree))) k × Busy rules bytes m × (n ≡ k + m)

@@ -1,28 +1,18 @@
 -- Quantifiers, as the functions read them: each law says a definition of specs/Quantifier.antt at the bytes from a place on by what the code has in
 -- hand there.
-use mathlib.Core.Path.{_≡_, refl}
+use mathlib.Core.Path.{_≡_}
 use mathlib.Core.Bool.{true, cond, _&&_, and-eq-true-iff}
-use mathlib.Core.List.{List, [], _∷_}
-use Prim.Native.Nat.{ℕ, _+_, _≤_, min}
+use mathlib.Core.List.{List}
+use Prim.Native.Nat.{ℕ, _+_, _≤_}
 use native.Mathlib.Omega.{arith}
 use borrow.Author.Tests.{ne-eqb, leb-true}
 use lib.Dec.{eqb, leb, ltb}
 use lib.ListN.{getD, drop}
 use lib.Seq.{getD-drop, drop-drop}
-use Rattle.tokens.specs.Number.{digits, valueFrom, cap, some, numeralOf}
+use Rattle.tokens.specs.Number.{cap, numeralOf}
 use Rattle.tokens.specs.Quantifier.{noForm, form, bounded, open-ended, bracesOf, formOf}
 use Rattle.tokens.specs.declared.Numeral.{Numeral}
 use Rattle.tokens.proofs.Suffixes.{first}
-
--- a number without digits is 0
-none-zero : (base : ℕ) (ds : List ℕ) → cond (some ds) (min cap (valueFrom base 0 ds)) 0 ≡ min cap (valueFrom base 0 ds)
-unfolding valueFrom
-none-zero base [] = refl
-none-zero base (d ∷ ds) = refl
-
-low-is : (n : Numeral) (base : ℕ) (v : List ℕ) → n ≡ numeralOf base v → cond (n .some) (n .value) 0 ≡ n .value
-unfolding numeralOf
-low-is n base v e = rw e (none-zero base (digits base v))
 
 -- what the test of two bounds says of them
 pub bounds-rise : (lo hi : ℕ) → (ltb lo cap && (ltb hi cap && leb lo hi)) ≡ true → lo ≤ hi
@@ -56,7 +46,6 @@ module _ (s : List ℕ) (at : ℕ) (a : Numeral) (c : ℕ) (ea : a ≡ numeralOf
         getD-drop at s (a .size + (1 + b .size)) 0,
         end,
         ← ed,
-        low-is a 10 (drop at s) ea,
       )
 
 -- the byte c at the place

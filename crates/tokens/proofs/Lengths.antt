@@ -10,7 +10,8 @@ use lib.Dec.{eqb, leb, ltb}
 use lib.ListN.{length, getD, drop, length-drop}
 use Rattle.sets.specs.Set.{emptySet}
 use Rattle.tokens.specs.Number.{cap, numeralOf}
-use Rattle.tokens.specs.Class.{lower, joined, membersOf, classOf, memberAt}
+use Rattle.tokens.specs.Fault.{lower}
+use Rattle.tokens.specs.Class.{joined, membersOf, classOf, memberAt}
 use Rattle.tokens.specs.Option.{plain, faulty, withCaseless, withDotAll, lettersOf, openingOf}
 use Rattle.tokens.specs.Quantifier.{noForm, bounded, open-ended, bracesOf, formOf, marked, quantifierOf}
 use Rattle.tokens.specs.Token.{escaped, lexemeOf}

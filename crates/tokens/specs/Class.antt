@@ -1,7 +1,7 @@
 -- Classes: members, ranges, and the whole class. Assumes nothing: these are definitions.
 use mathlib.Core.Bool.{Bool, true, false, cond, not, _&&_, _||_}
 use mathlib.Core.List.{List, [], _∷_}
-use Prim.Native.Nat.{ℕ, zero, suc, pred, _+_, min}
+use Prim.Native.Nat.{ℕ, zero, suc, pred, _+_}
 use lib.Dec.{eqb, ltb}
 use lib.ListN.{length, getD, drop}
 use Rattle.sets.specs.Set.{setOf, emptySet, insertedRange, unionOf, complementOf}
@@ -12,17 +12,14 @@ use Rattle.tokens.specs.declared.Atom.the-variants.{Byte, OfKind, NotOfK
 use Rattle.tokens.specs.declared.Part.{Part}
 use Rattle.tokens.specs.declared.Member.{Member}
 use Rattle.tokens.specs.declared.Class.{Class}
+use Rattle.tokens.specs.Fault.{lower}
 use Rattle.tokens.specs.Escape.{good, bad, escapeOf}
-
--- "the lower number first within it": the lower of two faults, where 0 is none
-unfoldable pub lower : ℕ → ℕ → ℕ
-lower f g = cond (eqb f 0) g (cond (eqb g 0) f (min f g))
 
 -- "`[:`, `[.`, `[=` in a class" are 14: the second byte of such an opening
 unfoldable pub opensName : ℕ → Bool
 opensName c = eqb c 58 || eqb c 46 || eqb c 61
 
--- the member at the front of v, or an end of a range: an escape, or a byte that stands for itself
+-- The member at the front of v, or an end of a range: an escape, or a byte that stands for itself. (At the pattern's end there is none: nothing asks.)
 unfoldable pub memberOf : List ℕ → Part
 memberOf [] = bad 6 0
 memberOf (c ∷ v) =
@@ -50,13 +47,16 @@ byteOf NotNewline = 0
 byteOf Start = 0
 byteOf End = 0
 
--- 9, "range falling, or with a type such as `\d` at either end": the fault of the two ends as a range. A faulty end is no type and has no byte.
+-- 9, "range falling, or with a type such as `\d` at either end": the fault of the two ends as a range. A faulty end is no type, and its byte is
+-- not compared.
 unfoldable pub rangeFault : Part → Part → ℕ
 rangeFault m n =
     cond (isType (m .atom) || isType (n .atom)) 9
     (cond (eqb (m .fault) 0 && (eqb (n .fault) 0 && ltb (byteOf (n .atom)) (byteOf (m .atom)))) 9 0)
 
--- "any other hyphen makes a range from the member before it": a hyphen follows, and something other than `]` follows the hyphen
+-- "Hyphen is literal first (or after `^`), last, or right after a range; any other hyphen makes a range from the member before it, a literal hyphen
+-- included.": v is what follows a member; it makes a range where a hyphen follows, and then something other than `]`. A hyphen that is first, or right after
+-- a range, follows no member: it is read as a member itself.
 unfoldable pub ranges : List ℕ → Bool
 ranges v = eqb (getD v 0 0) 45 && (ltb 1 (length v) && not (eqb (getD v 1 0) 93))
 
@@ -73,14 +73,15 @@ asRange m n = record {
   high = n .atom;
 }
 
--- the member or range at the front of v: "a class member, a range with both its ends"
+-- The member or range at the front of v: "a class member, a range with both its ends". A member with fault 6 is all there is: it has no end after which a
+-- hyphen could stand, and no fault of a second end would be lower.
 unfoldable pub memberAt : List ℕ → Member
 memberAt v =
     let m : Part = memberOf v in
     cond (eqb (m .fault) 6) (asMember m)
     (cond (ranges (drop (m .size) v)) (asRange m (memberOf (drop (m .size + 1) v))) (asMember m))
 
--- the set with what a member adds
+-- the set with what a member adds; a member is a byte or a type, so the other atoms do not occur
 unfoldable pub joined : List ℕ → Atom → Atom → List ℕ
 joined set (Byte lo) high = insertedRange set lo (byteOf high)
 joined set (OfKind k) high = unionOf set (setOf (isKind k))

@@ -17,7 +17,7 @@ use Rattle.tokens.specs.Number.{digits, valueFrom, numeralOf}
 abbrev pub good : ℕ → Atom → Part
 good size atom = record { fault = 0; size = size; atom = atom }
 
--- a faulty part
+-- A faulty part. Its size, 0 for 6, says where a hyphen of a range would stand; its atom, `Byte 0`, stands for nothing.
 abbrev pub bad : ℕ → ℕ → Part
 bad fault size = record { fault = fault; size = size; atom = Byte 0 }
 

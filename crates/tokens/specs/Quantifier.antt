@@ -9,13 +9,13 @@ use Rattle.tokens.specs.declared.Form.{Form}
 use Rattle.tokens.specs.declared.Token.the-variants.{Repeat}
 use Rattle.tokens.specs.declared.Lexeme.{Lexeme}
 use Rattle.tokens.specs.Number.{numeralOf, cap}
-use Rattle.tokens.specs.Class.{lower}
+use Rattle.tokens.specs.Fault.{lower}
 
 -- no quantifier stands here
 abbrev pub noForm : Form
 noForm = record { is = false; size = 0; fault = 0; least = 0; extra = 0 }
 
--- `extra` is how many copies more than `least`; `cap` is any number
+-- `extra` is how many copies more than `least`; extra = `cap` stands for any number more
 abbrev pub form : ℕ → ℕ → ℕ → Form
 form size least extra = record { is = true; size = size; fault = 0; least = least; extra = extra }
 
@@ -29,7 +29,8 @@ bounded size lo hi =
 unfoldable pub open-ended : ℕ → ℕ → Form
 open-ended size lo = cond (ltb lo cap) (form size lo cap) (record { is = true; size = size; fault = 11; least = 0; extra = 0 })
 
--- "`{n}`, `{n,}`, `{n,m}`, `{,m}`. A brace that isn't one of these forms is literal, so `{,}` is three bytes." v is the pattern after the brace.
+-- "`{n}`, `{n,}`, `{n,m}`, `{,m}`. .. A brace that isn't one of these forms is literal, so `{,}` is three bytes": v is the pattern after the brace. The
+-- lower number of `{,m}` is 0, as no digits have the value 0.
 unfoldable pub bracesOf : List ℕ → Form
 bracesOf v =
     let a : Numeral = numeralOf 10 v in
@@ -38,12 +39,9 @@ bracesOf v =
     let d : ℕ = getD v (a .size + (1 + b .size)) 0 in
     cond (eqb c 125) (cond (a .some) (bounded (2 + a .size) (a .value) (a .value)) noForm)
     (cond (eqb c 44 && eqb d 125)
-    (cond (b .some) (bounded (3 + (a .size + b .size)) (lowOf a) (b .value))
+    (cond (b .some) (bounded (3 + (a .size + b .size)) (a .value) (b .value))
     (cond (a .some) (open-ended (3 + (a .size + b .size)) (a .value)) noForm))
     noForm)
-  where
-    lowOf : Numeral → ℕ
-    lowOf a = cond (a .some) (a .value) 0
 
 -- "Quantifiers `?`, `*`, `+`", or a brace form: the one at the front of v
 unfoldable pub formOf : List ℕ → Form

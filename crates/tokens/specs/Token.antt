@@ -21,7 +21,7 @@ unfoldable pub escaped : Part → Lexeme
 escaped p = cond (eqb (p .fault) 0) (plain (p .size) (One (p .atom))) (faulty (p .fault))
 
 -- "A token is a byte, an escape, a quantifier with its mark, .. an opening, an option setting." What the byte at the front of v starts, where o are
--- the options there. "A byte stands for itself. `]` and `}` outside a class are literal."
+-- the options there. "A byte stands for itself. .. `]` and `}` outside a class are literal."
 unfoldable pub lexemeOf : Options → List ℕ → Lexeme
 lexemeOf o [] = plain 0 Finish
 lexemeOf o (c ∷ v) =

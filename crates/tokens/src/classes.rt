@@ -27,7 +27,7 @@ fn join(set: [u64; 4], low: Atom, high: Atom) -> [u64; 4]
 }
 
 // A set, with the other case of each member if caseless.
-pub fn cased(caseless: bool, set: [u64; 4]) -> [u64; 4]
+pub(super) fn cased(caseless: bool, set: [u64; 4]) -> [u64; 4]
     ensures { λ r. ⌜ r ≡ cond caseless (caseClosed set) set ⌝ }
 {
     if caseless {

@@ -14,7 +14,7 @@ ghost use Rattle.tokens.specs.Escape.{good, bad, bracedOf, shortOf, flip
 ghost use Rattle.tokens.specs.Escape.{typeOf, namedOf, placedOf, hexOf, octalOf, isAlnum, escapeOf};
 
 // A part of so many bytes that stands for an atom.
-pub fn sound(size: usize, atom: Atom) -> Part
+pub(super) fn sound(size: usize, atom: Atom) -> Part
     ensures { λ r. ⌜ r ≡ good size atom ⌝ }
 {
     Part {
@@ -25,7 +25,7 @@ pub fn sound(size: usize, atom: Atom) -> Part
 }
 
 // A faulty part.
-pub fn faulty(fault: u32, size: usize) -> Part
+pub(super) fn faulty(fault: u32, size: usize) -> Part
     ensures { λ r. ⌜ r ≡ bad fault size ⌝ }
 {
     Part {
@@ -178,7 +178,7 @@ fn is_alnum(c: u8) -> bool
 }
 
 // After a backslash.
-pub fn escape_at(s: &[u8], at: usize, inside: bool) -> Part
+pub(super) fn escape_at(s: &[u8], at: usize, inside: bool) -> Part
     ensures { λ r. ⌜ r ≡ escapeOf inside (drop at (now (s .entry))) ⌝ }
 {
     if s.len() <= at {

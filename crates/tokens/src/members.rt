@@ -9,10 +9,11 @@ use crate::number::peek;
 ghost use mathlib.Core.Path.{_≡_};
 ghost use Prim.Native.Nat.{_≤_, _<_, _^_};
 ghost use lib.ListN.{length, drop};
-ghost use Rattle.tokens.specs.Class.{lower, opensName, memberOf, isType, byteOf, rangeFault, ranges, asMember, asRange, memberAt};
+ghost use Rattle.tokens.specs.Fault.{lower};
+ghost use Rattle.tokens.specs.Class.{opensName, memberOf, isType, byteOf, rangeFault, ranges, asMember, asRange, memberAt};
 
 // The lower of two faults, where 0 is none.
-pub fn lower(f: u32, g: u32) -> u32
+pub(super) fn lower(f: u32, g: u32) -> u32
     ensures { λ r. ⌜ r ≡ lower f g ⌝ }
 {
     if f == 0 {
@@ -64,7 +65,7 @@ fn is_type(atom: Atom) -> bool
 }
 
 // The byte that an atom stands for, else 0.
-pub fn byte_of(atom: Atom) -> u8
+pub(super) fn byte_of(atom: Atom) -> u8
     ensures { λ r. ⌜ r ≡ byteOf atom ⌝ }
 {
     match atom {
@@ -130,7 +131,7 @@ fn range(m: Part, n: Part) -> Member
 }
 
 // The member or range at a place.
-pub fn member_at(s: &[u8], at: usize) -> Member
+pub(super) fn member_at(s: &[u8], at: usize) -> Member
     ensures { λ r. ⌜ r ≡ memberAt (drop at (now (s .entry))) ⌝ }
 {
     let m = member_part(s, at);

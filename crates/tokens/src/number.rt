@@ -11,14 +11,14 @@ ghost use Rattle.tokens.specs.Number.{digitOf, cap, numeralOf};
 pub const CAP: u32 = 65536;
 
 // The byte at a place; 0 past the end.
-pub fn peek(s: &[u8], at: usize) -> u8
+pub(super) fn peek(s: &[u8], at: usize) -> u8
     ensures { λ r. ⌜ r ≡ getD (now (s .entry)) at 0 ⌝ }
 {
     if at < s.len() { s[at] } else { 0 }
 }
 
 // Whether b is one of lo up to hi.
-pub fn is_within(lo: u8, hi: u8, b: u8) -> bool
+pub(super) fn is_within(lo: u8, hi: u8, b: u8) -> bool
     ensures { λ r. ⌜ r ≡ within lo hi b ⌝ }
 {
     (lo <= b) & (b <= hi)
@@ -41,7 +41,7 @@ fn digit_of(b: u8) -> u32
 }
 
 // The digit at a place.
-pub fn digit_at(s: &[u8], at: usize) -> u32
+pub(super) fn digit_at(s: &[u8], at: usize) -> u32
     ensures { λ r. ⌜ r ≡ digitOf (getD (now (s .entry)) at 0) ⌝ }
 {
     digit_of(peek(s, at))
@@ -55,7 +55,7 @@ fn capped(x: u32) -> u32
 }
 
 // The number at a place, as it stands between braces.
-pub fn numeral_at(s: &[u8], at: usize, base: u32) -> Numeral
+pub(super) fn numeral_at(s: &[u8], at: usize, base: u32) -> Numeral
     requires { ⌜ (0 < base) × (base ≤ 16) ⌝ }
     ensures { λ r. ⌜ r ≡ numeralOf base (drop at (now (s .entry))) ⌝ }
 {

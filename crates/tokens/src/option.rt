@@ -10,7 +10,7 @@ ghost use lib.ListN.{length, drop};
 ghost use Rattle.tokens.specs.Option.{plain, faulty, lettersOf, openingOf};
 
 // A token of so many bytes.
-pub fn plain(size: usize, token: Token) -> Lexeme
+pub(super) fn plain(size: usize, token: Token) -> Lexeme
     ensures { λ r. ⌜ r ≡ plain size token ⌝ }
 {
     Lexeme {
@@ -21,7 +21,7 @@ pub fn plain(size: usize, token: Token) -> Lexeme
 }
 
 // A faulty token.
-pub fn refused(fault: u32) -> Lexeme
+pub(super) fn refused(fault: u32) -> Lexeme
     ensures { λ r. ⌜ r ≡ faulty fault ⌝ }
 {
     Lexeme {
@@ -79,7 +79,7 @@ fn letters(s: &[u8], at: usize, options: Options) -> Lexeme
 }
 
 // After `(`.
-pub fn opening_at(s: &[u8], at: usize, options: Options) -> Lexeme
+pub(super) fn opening_at(s: &[u8], at: usize, options: Options) -> Lexeme
     ensures { λ r. ⌜ r ≡ openingOf options (drop at (now (s .entry))) ⌝ }
 {
     let c = peek(s, at);

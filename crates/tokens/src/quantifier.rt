@@ -106,7 +106,7 @@ fn brace_form(s: &[u8], at: usize) -> Form
 }
 
 // The quantifier at a place, without its mark.
-pub fn form_at(s: &[u8], at: usize) -> Form
+pub(super) fn form_at(s: &[u8], at: usize) -> Form
     ensures { λ r. ⌜ r ≡ formOf (drop at (now (s .entry))) ⌝ }
 {
     let c = peek(s, at);
@@ -120,7 +120,7 @@ pub fn form_at(s: &[u8], at: usize) -> Form
 }
 
 // A quantifier with the byte after it, which may be its mark: a `?` is taken, a `+` is refused.
-pub fn marked_form(q: Form, mark: u8) -> Lexeme
+pub(super) fn marked_form(q: Form, mark: u8) -> Lexeme
     requires { ⌜ q .size < 2 ^ 63 ⌝ }
     ensures { λ r. ⌜ r ≡ marked q mark ⌝ }
 {

@@ -1,7 +1,7 @@
 -- `tokens::members::lower` meets its contract: it asks what the definition asks, and of two faults gives the smaller.
 use native.Mathlib.Omega.{arith}
 use borrow.Author.Tests.{eq-eqb, ne-eqb}
-use Rattle.tokens.specs.Class.{lower}
+use Rattle.tokens.specs.Fault.{lower}
 use Rattle.tokens.proofs.members.lower.Statement.{statement}
 use Rattle.tokens.proofs.members.lower.Tie as tie
 
