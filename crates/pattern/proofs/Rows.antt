@@ -24,7 +24,7 @@ use Rattle.tokens.specs.Class.{opensName, memberOf, rangeFault, isType, byteOf,
 use Rattle.tokens.specs.Option.{withCaseless, withDotAll, lettersOf, openingOf}
 use Rattle.tokens.specs.Quantifier.{bounded, open-ended, bracesOf, formOf, marked, quantifierOf}
 use Rattle.tokens.specs.Token.{escaped, lexemeOf}
-use Rattle.pattern.specs.Reasons.{among, braced, cutShort, tooLarge, unknown, optionBytes, hyphens, setting, badOpening, decimalOf, badBounds, row6, row7, row9, row11, row14, memberRow14, isRange, farEnd, ofEnd}
+use Rattle.pattern.specs.Reasons.{among, braced, cutShort, tooLarge, unknown, optionBytes, hyphens, setting, badOpening, decimalOf, badBounds, row6, row7, row9, row11, row14, memberRow14, faultyEnd, isRange, farEnd, ofEnd}
 use Rattle.pattern.proofs.Base.{either, split, true-not-false}
 use Rattle.pattern.proofs.Lowest.{lowest, both}
 
@@ -444,13 +444,23 @@ end-fault (c ∷ v) h = member-fault v c
 abbrev pub memberFault : List ℕ → ℕ
 memberFault v = lowest (ofEnd row6 v) (ofEnd row7 v) (row9 v) false false (ofEnd memberRow14 v)
 
--- the two ends m and n as a range
-abbrev badRange : Part → Part → Bool
-badRange m n = isType (m .atom) || isType (n .atom) || (eqb (m .fault) 0 && (eqb (n .fault) 0 && ltb (byteOf (n .atom)) (byteOf (m .atom))))
+-- an end without a fault, by its rows
+end-clean : (v : List ℕ) → 0 < length v → eqb (fault (memberOf v)) 0 ≡ not (faultyEnd v)
+end-clean v h = ap (λ (f : ℕ). eqb f 0) (end-fault v h) ∙ by-rows (row6 v) (row7 v) (memberRow14 v)
+  where
+    by-rows : (a b d : Bool) → eqb (lowest a b false false false d) 0 ≡ not (a || (b || d))
+    by-rows true b d = refl
+    by-rows false true d = refl
+    by-rows false false true = refl
+    by-rows false false false = refl
 
-range-fault : (m n : Part) → rangeFault m n ≡ cond (badRange m n) 9 0
+-- the two ends m and n as a range, by whether they have no fault
+abbrev badRange : (m n : Part) (a b : Bool) → Bool
+badRange m n a b = isType (m .atom) || isType (n .atom) || (a && (b && ltb (byteOf (n .atom)) (byteOf (m .atom))))
+
+range-fault : (m n : Part) (a b : Bool) → eqb (m .fault) 0 ≡ a → eqb (n .fault) 0 ≡ b → rangeFault m n ≡ cond (badRange m n a b) 9 0
 unfolding rangeFault
-range-fault m n = go (isType (m .atom) || isType (n .atom)) (eqb (m .fault) 0 && (eqb (n .fault) 0 && ltb (byteOf (n .atom)) (byteOf (m .atom))))
+range-fault m n a b ea eb = rw (ea, eb) (go (isType (m .atom) || isType (n .atom)) (a && (b && ltb (byteOf (n .atom)) (byteOf (m .atom)))))
   where
     go : (t f : Bool) → _≡_ {A = ℕ} (cond t 9 (cond f 9 0)) (cond (t || f) 9 0)
     go true f = refl
@@ -490,6 +500,6 @@ member-at-fault v h =
     (λ f.
     let l : 0 < length (farEnd v) = omega (arith, ranges-long (drop (m .size) v) f, length-drop (m .size) v, length-drop (m .size + 1) v) in
     rw f
-    (ap₂ lower (end-fault v h) (ap₂ lower (end-fault (farEnd v) l) (range-fault m n))
-    ∙ range-both (row6 v) (row7 v) (memberRow14 v) (row6 (farEnd v)) (row7 (farEnd v)) (memberRow14 (farEnd v)) (badRange m n)))
+    (ap₂ lower (end-fault v h) (ap₂ lower (end-fault (farEnd v) l) (range-fault m n _ _ (end-clean v h) (end-clean (farEnd v) l)))
+    ∙ range-both (row6 v) (row7 v) (memberRow14 v) (row6 (farEnd v)) (row7 (farEnd v)) (memberRow14 (farEnd v)) (badRange m n (not (faultyEnd v)) (not (faultyEnd (farEnd v))))))
     (λ f. rw (f, or-false (row6 v), or-false (row7 v), or-false (memberRow14 v)) (end-fault v h))))

@@ -1,7 +1,7 @@
 -- Why a pattern is refused: the rows of the table "When the watcher says no" from 6 to 16, each as a predicate of its own: on the bytes of one token and
--- what stands before it, on the finished tree, or on the pattern's end. Taken over from the reading: where the tokens and members stand (`Stands`, `InClass`),
--- what stands before a token (the open groups, and what a quantifier would repeat), which token it is, what a member stands for, which braces are a
--- quantifier, and the finished tree. Said anew: everything that makes one of them faulty. The theorems are `decided` and `accepted` of
+-- what stands before it, on the finished tree, or on the pattern's end. Taken over from the reading: where the tokens and members stand, each after one that
+-- is not refused (`Stands`, `InClass`), what stands before a token (the open groups, and what a quantifier would repeat), which token it is, what a member
+-- stands for, which braces are a quantifier, and the finished tree. Said anew: everything that makes one of them faulty. The theorems are `decided` and `accepted` of
 -- proofs/Accepted.antt. Assumes nothing: these are definitions.
 use mathlib.Core.Path.{_≡_}
 use mathlib.Core.Bool.{Bool, true, false, cond, not, _&&_, _||_}
@@ -145,12 +145,16 @@ ofEnd row v = row v || (isRange v && row (farEnd v))
 unfoldable pub memberRow14 : List ℕ → Bool
 memberRow14 v = (eqb (getD v 0 0) 92 && unknown true (drop 1 v)) || (eqb (getD v 0 0) 91 && opensName (getD v 1 0))
 
+-- an end that is faulty by itself, so that it stands for no byte
+abbrev pub faultyEnd : List ℕ → Bool
+faultyEnd v = row6 v || (row7 v || memberRow14 v)
+
 -- 9: "range falling, or with a type such as `\d` at either end"
 unfoldable pub row9 : List ℕ → Bool
 row9 v =
     let m : Part = memberOf v in
     let n : Part = memberOf (farEnd v) in
-    isRange v && (isType (m .atom) || isType (n .atom) || (eqb (m .fault) 0 && (eqb (n .fault) 0 && ltb (byteOf (n .atom)) (byteOf (m .atom)))))
+    isRange v && (isType (m .atom) || isType (n .atom) || (not (faultyEnd v) && (not (faultyEnd (farEnd v)) && ltb (byteOf (n .atom)) (byteOf (m .atom)))))
 
 -- ---- where tokens stand
 

@@ -1,4 +1,4 @@
--- Reading a pattern: a walk over its bytes from left to right with the open groups on a stack. "the first faulty token decides". Assumes nothing:
+-- Reading a pattern: a walk over its bytes from left to right with the open groups on a stack, where "the first faulty token decides". Assumes nothing:
 -- these are definitions.
 use mathlib.Core.Bool.{cond}
 use mathlib.Core.List.{List, [], _∷_}
