@@ -1,14 +1,13 @@
 -- Words beyond the first 4,096 count for nothing in an addition either: lists that agree up to there get the same answer and agree up to there afterwards, and
--- each keeps its own words beyond. Every word that the definitions read stands at a place below 4,096, and words too few for a table are all there is.
+-- each keeps its own words beyond. Every word that the definitions read stands at a place below 4,096.
 use mathlib.Core.Path.{_≡_, refl, sym, ap, ap₂, _∙_}
 use mathlib.Core.Bool.{Bool, true, false, true≢false, cond, _&&_, _||_}
 use mathlib.Core.List.{List, [], _∷_, _++_}
-use Prim.Native.Nat.{ℕ, zero, suc, _+_, _-_, _*_, _/_, _%_, _≤_, _<_, min}
-use native.Mathlib.Decide.{decLt}
+use Prim.Native.Nat.{ℕ, zero, suc, _+_, _-_, _*_, _/_, _%_, _≤_, _<_}
 use native.Mathlib.Omega.{arith}
 use lib.Dec.{eqb, leb, ltb}
-use lib.ListN.{length, getD, take, drop, length-take}
-use lib.Seq.{take-all, take-at, drop-at}
+use lib.ListN.{getD, take, drop}
+use lib.Seq.{take-at, drop-at}
 use borrow.Author.Tests.{leb-true, ltb-true}
 use Rattle.sets.specs.Set.{has, setOf, any, count}
 use Rattle.sets.proofs.Laws.{any-ext, count-ext}
@@ -128,24 +127,7 @@ module _ (t u : List ℕ) (same : take tableWords t ≡ take tableWords u) where
 
 -- ---- an addition
 
--- lists that agree up to 4,096 are long enough together, or equal
 module _ (t u : List ℕ) (same : take tableWords t ≡ take tableWords u) where
-  lengths : min tableWords (length t) ≡ min tableWords (length u)
-  lengths = sym (length-take tableWords t) ∙ ap length same ∙ length-take tableWords u
-
-  long-too : tableWords ≤ length t → tableWords ≤ length u
-  long-too h = omega (arith, lengths)
-
-  short-same : length t < tableWords → t ≡ u
-  short-same h = sym (take-all tableWords t (omega arith)) ∙ same ∙ take-all tableWords u (omega (arith, lengths))
-
-  pub table-local : isTable t ≡ isTable u
-  table-local = go (decLt (length t) tableWords)
-    where
-      go : Dec (length t < tableWords) → isTable t ≡ isTable u
-      go (yes h) = ap isTable (short-same h)
-      go (no h) = isTable-local t u same (omega arith) (long-too (omega arith))
-
   module _ (id flags : ℕ) (s : List ℕ) where
     -- the answer depends on the first 4,096 words alone
     pub addAnswer-local : addAnswer t id flags s ≡ addAnswer u id flags s
@@ -153,8 +135,8 @@ module _ (t u : List ℕ) (same : take tableWords t ≡ take tableWords u) where
     addAnswer-local = go (isTable t) refl
       where
         go : (b : Bool) → isTable t ≡ b → addAnswer t id flags s ≡ addAnswer u id flags s
-        go false e = rw (e, sym table-local ∙ e)
-        go true e = rw (e, sym table-local ∙ e, has-id t u same (passes t e .rules) id, rules t u same, positions t u same)
+        go false e = rw (e, sym (isTable-local t u same) ∙ e)
+        go true e = rw (e, sym (isTable-local t u same) ∙ e, has-id t u same (passes t e .rules) id, rules t u same, positions t u same)
 
     -- an accepted addition has found a table
     few-rules : eqb (addAnswer t id flags s .number) 0 ≡ true → rulesOf t ≤ maxRules

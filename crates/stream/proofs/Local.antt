@@ -2,7 +2,7 @@
 use mathlib.Core.Path.{_≡_, ap, ap₂, _∙_}
 use mathlib.Core.Bool.{Bool, true, false, cond}
 use mathlib.Core.List.{List}
-use Prim.Native.Nat.{ℕ, _≤_}
+use Prim.Native.Nat.{ℕ}
 use native.Mathlib.Omega.{arith}
 use lib.Dec.{eqb, ltb}
 use lib.ListN.{length, take, replicate}
@@ -17,9 +17,9 @@ use Rattle.stream.specs.Byte.{stateAfter, idsOf, endsOf, fits, closeIds}
 use Rattle.stream.specs.Valid.{valid}
 use Rattle.stream.specs.Calls.{fresh, opened, space, spaceNumber, scanNumber, closeNumber, takenBy, written, scanned, scannedIds, scannedOffsets, shut, closed, closedIds, closedOffsets, overLimit}
 
-module _ (t u : List ℕ) (same : take tableWords t ≡ take tableWords u) (long-t : tableWords ≤ length t) (long-u : tableWords ≤ length u) where
+module _ (t u : List ℕ) (same : take tableWords t ≡ take tableWords u) where
   table : isTable t ≡ isTable u
-  table = isTable-local t u same long-t long-u
+  table = isTable-local t u same
 
   machine : automaton t ≡ automaton u
   machine = automaton-local t u same

@@ -1,14 +1,15 @@
 -- Words beyond the first 4,096 count for nothing: lists that agree up to there describe the same automaton, and pass the test alike. Each part of the automaton
--- and each fact of the test reads words below 4,096, which are the same in both lists.
+-- and each fact of the test reads words below 4,096, which are the same in both lists; lists too short for a table are equal.
 use mathlib.Core.Path.{_≡_, refl, sym, ap, _∙_, subst}
 use mathlib.Core.Bool.{Bool, true, false, true≢false, cond, _&&_}
 use mathlib.Core.List.{List}
-use Prim.Native.Nat.{ℕ, _+_, _≤_, _<_}
+use Prim.Native.Nat.{ℕ, _+_, _≤_, _<_, min}
+use native.Mathlib.Decide.{decLt}
 use native.Mathlib.Omega.{arith}
 use lib.Bits.{bitAnd}
 use lib.Dec.{ltb}
-use lib.ListN.{length, getD, take}
-use lib.Seq.{getD-take}
+use lib.ListN.{length, getD, take, length-take}
+use lib.Seq.{getD-take, take-all}
 use Rattle.table.specs.Layout.{tableWords, maxRules, maxPositions, bytes, rulesOf, positionsOf, firstAt, firstAtStartAt, lastAt, lastAtEndAt, followAt, takersAt, recordAt, recordWord, rowHas}
 use Rattle.table.specs.Table.{knownFlags, isTable}
 use Rattle.table.specs.Automaton.{automaton}
@@ -67,10 +68,18 @@ module _ (t u : List ℕ) (same : take tableWords t ≡ take tableWords u) where
       field : (a f : ℕ) → a < rulesOf u → f < 16 → recordWord t a f ≡ recordWord u a f
       field a f h l = same-word (recordAt a + f) (omega (arith, rules, p .rules))
 
--- words that are long enough for a table pass the test by their first 4,096
-pub isTable-local : (t u : List ℕ) → take tableWords t ≡ take tableWords u → tableWords ≤ length t → tableWords ≤ length u → isTable t ≡ isTable u
-isTable-local t u same long-t long-u = go (isTable t) refl
+  -- such lists are long enough for a table together, or equal
+  lengths : min tableWords (length t) ≡ min tableWords (length u)
+  lengths = sym (length-take tableWords t) ∙ ap length same ∙ length-take tableWords u
+
+  short-same : length t < tableWords → t ≡ u
+  short-same h = sym (take-all tableWords t (omega arith)) ∙ same ∙ take-all tableWords u (omega (arith, lengths))
+
+-- the test depends on the first 4,096 words alone
+pub isTable-local : (t u : List ℕ) → take tableWords t ≡ take tableWords u → isTable t ≡ isTable u
+isTable-local t u same = go (decLt (length t) tableWords) (isTable t) refl
   where
-    go : (b : Bool) → isTable t ≡ b → isTable t ≡ isTable u
-    go true e = e ∙ sym (accepted u (kept t u same long-u (passes t e)))
-    go false e = e ∙ sym (refused u (λ p. true≢false (sym (accepted t (kept u t (sym same) long-t p)) ∙ e)))
+    go : Dec (length t < tableWords) → (b : Bool) → isTable t ≡ b → isTable t ≡ isTable u
+    go (yes h) b e = ap isTable (short-same t u same h)
+    go (no h) true e = e ∙ sym (accepted u (kept t u same (omega (arith, lengths t u same)) (passes t e)))
+    go (no h) false e = e ∙ sym (refused u (λ p. true≢false (sym (accepted t (kept u t (sym same) (omega arith) p)) ∙ e)))
