@@ -14,12 +14,12 @@ use Rattle.tokens.specs.Token.{escaped, lexemeOf, itemSet}
 use Rattle.regex.specs.Count.{copied, capped, saturating, nullable}
 use Rattle.pattern.specs.Walk.{chained, chosen, one, repeating, closing, opening, act, next, finish, walk}
 use Rattle.pattern.specs.Read.{judged, readOf, optionsOf}
-use Rattle.pattern.specs.Cases.{bytes, gives, right, wrong, cases, itemsOf, takenIn, agrees, strange, takings}
+use Rattle.pattern.specs.Cases.{bytes, gives, right, wrong, cases, itemsOf, agrees, strange, takings}
 
 pub none-wrong : wrong cases ≡ []
 unfolding isDigit isLower isUpper otherCase digitOf digits valueFrom numeralOf bracedOf shortOf flipped64 raised controlOf typeOf namedOf placedOf hexOf octalOf isAlnum escapeOf lower opensName memberOf rangeFault ranges memberAt membersOf classOf lettersOf openingOf bounded open-ended bracesOf formOf marked quantifierOf escaped lexemeOf copied capped saturating nullable chained chosen one repeating closing opening act next finish walk judged readOf optionsOf bytes gives right wrong cases
 none-wrong = refl
 
 pub none-strange : strange takings ≡ []
-unfolding on has wordOf setOf emptySet fullSet inserted insertedRange unionOf complementOf isDigit isLower isUpper isWord isSpace isHorizontal isVertical otherCase caseClosed digitOf digits valueFrom numeralOf bracedOf shortOf flipped64 raised controlOf typeOf namedOf placedOf hexOf octalOf isAlnum escapeOf lower opensName memberOf rangeFault ranges memberAt joined settled membersOf classOf lettersOf openingOf bounded open-ended bracesOf formOf marked quantifierOf escaped lexemeOf itemSet copied capped saturating nullable chained chosen one repeating closing opening act next finish walk judged readOf optionsOf bytes itemsOf takenIn agrees strange takings
+unfolding on has wordOf setOf emptySet fullSet inserted insertedRange unionOf complementOf isDigit isLower isUpper isWord isSpace isHorizontal isVertical otherCase caseClosed digitOf digits valueFrom numeralOf bracedOf shortOf flipped64 raised controlOf typeOf namedOf placedOf hexOf octalOf isAlnum escapeOf lower opensName memberOf rangeFault ranges memberAt joined settled membersOf classOf lettersOf openingOf bounded open-ended bracesOf formOf marked quantifierOf escaped lexemeOf itemSet copied capped saturating nullable chained chosen one repeating closing opening act next finish walk judged readOf optionsOf bytes itemsOf agrees strange takings
 none-strange = refl

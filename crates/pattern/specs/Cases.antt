@@ -5,8 +5,8 @@ use mathlib.Core.List.{List, [], _∷_, _++_}
 use Prim.Native.Nat.{ℕ}
 use Prim.Native.Char.{code}
 use Prim.Native.String.{String}
-use lib.Dec.{eqb}
-use lib.ListN.{getD, replicate}
+use lib.Dec.{eqb, ltb}
+use lib.ListN.{length, getD, replicate}
 use Rattle.sets.specs.Set.{has}
 use Rattle.regex.specs.Tree.{empty, item, assertion, then, or, repeat}
 use Rattle.regex.specs.Rule.{ByteSet}
@@ -14,7 +14,7 @@ use Rattle.pattern.specs.Nodes.{Syntax}
 use Rattle.pattern.specs.Walk.{Read, tree, refused}
 use Rattle.pattern.specs.Read.{optionsOf, readOf}
 
--- the bytes of a text
+-- the bytes of a text: each character is the byte of its code, so `é` is 233
 unfoldable pub bytes : String → List ℕ
 bytes Prim.Native.String.[] = []
 bytes (Prim.Native.String._∷_ c text) = code c ∷ bytes text
@@ -561,20 +561,17 @@ pub record Taking : Type 0 where
   pub byte : ℕ
   pub taken : Bool
 
--- whether the item of a reading takes the byte: no for an item that is not there
-unfoldable pub takenIn : Read → ℕ → ℕ → Bool
-takenIn (tree t) k b = has (getD (itemsOf t) k []) b
-takenIn (refused n p) k b = false
+-- a reading has a tree with that item, which takes the byte or leaves it as is said
+unfoldable pub agrees : Read → Taking → Bool
+agrees (tree t) c =
+    let taken : Bool = has (getD (itemsOf t) (c .number) []) (c .byte) in
+    ltb (c .number) (length (itemsOf t)) && cond (c .taken) taken (not taken)
+agrees (refused n p) c = false
 
--- the item takes the byte, or leaves it, as is said
-unfoldable pub agrees : Taking → Bool
-agrees c =
-    let t : Bool = takenIn (readOf (c .pattern) (optionsOf (c .flags))) (c .number) (c .byte) in
-    cond (c .taken) t (not t)
-
+-- those whose pattern does not read so
 unfoldable pub strange : List Taking → List Taking
 strange [] = []
-strange (c ∷ l) = cond (agrees c) (strange l) (c ∷ strange l)
+strange (c ∷ l) = cond (agrees (readOf (c .pattern) (optionsOf (c .flags))) c) (strange l) (c ∷ strange l)
 
 abbrev takes : ℕ → String → ℕ → ℕ → Taking
 takes flags text k b = record { flags = flags; pattern = bytes text; number = k; byte = b; taken = true }

@@ -1,8 +1,8 @@
 -- Why a pattern is refused: the rows of the table "When the watcher says no" from 6 to 16, each as a predicate of its own: on the bytes of one token and
 -- what stands before it, on the finished tree, or on the pattern's end. Taken over from the reading: where the tokens and members stand, each after one that
 -- is not refused (`Stands`, `InClass`), what stands before a token (the open groups, and what a quantifier would repeat), which token it is, what a member
--- stands for, which braces are a quantifier, and the finished tree. Said anew: everything that makes one of them faulty. The theorems are `decided` and `accepted` of
--- proofs/Accepted.antt. Assumes nothing: these are definitions.
+-- stands for, which braces are a quantifier, and the finished tree. Said anew: everything that makes one of them faulty. The theorems are `decided` and
+-- `accepted` of proofs/Accepted.antt. Assumes nothing: these are definitions.
 use mathlib.Core.Path.{_≡_}
 use mathlib.Core.Bool.{Bool, true, false, cond, not, _&&_, _||_}
 use mathlib.Core.List.{List, [], _∷_}

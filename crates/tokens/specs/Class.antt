@@ -55,8 +55,8 @@ rangeFault m n =
     (cond (eqb (m .fault) 0 && (eqb (n .fault) 0 && ltb (byteOf (n .atom)) (byteOf (m .atom)))) 9 0)
 
 -- "Hyphen is literal first (or after `^`), last, or right after a range; any other hyphen makes a range from the member before it, a literal hyphen
--- included.": v is what follows a member; it makes a range where a hyphen follows, and then something other than `]`. A hyphen that is first, or right after
--- a range, follows no member: it is read as a member itself.
+-- included." Here v is what follows a member: a hyphen, and then something other than `]`, make a range. A hyphen that is first, or right after a range,
+-- follows no member: it is read as a member itself.
 unfoldable pub ranges : List ℕ → Bool
 ranges v = eqb (getD v 0 0) 45 && (ltb 1 (length v) && not (eqb (getD v 1 0) 93))
 
