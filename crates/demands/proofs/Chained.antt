@@ -22,7 +22,7 @@ use Rattle.stream.specs.Valid.{valid}
 use Rattle.stream.specs.Calls.{space, spaceNumber, scanNumber, closeNumber, takenBy, written, scanned, scannedIds, scannedOffsets, shut, closed, closedIds, closedOffsets, overLimit}
 use Rattle.pattern.specs.Read.{readOf, optionsOf}
 use Rattle.rules.specs.Add.{addAnswer, withRule, addWords}
-use Rattle.rules.specs.Additions.{addAll}
+use Rattle.rules.specs.Encoded.{addAll}
 use Rattle.regex.specs.Ordered.{Pair}
 use Rattle.demands.specs.Chain.{this, those, Other, emptying, adding, opening, scanning, closing, numberOf, tableAfter, Step, addition, another, tableOf, additionsOf, OthersRefusedBefore, Item, scan, close, other, reportsIn, bytesOf, reportsOf, OthersRefused, Closes, Bytes, Blocks}
 use Rattle.stream.proofs.Blocks.{fits-le, ends-count, closed-after, two-parts}

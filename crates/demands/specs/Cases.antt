@@ -14,7 +14,8 @@ use Rattle.regex.specs.Ordered.{Pair}
 unfoldable pub use Rattle.pattern.specs.Cases.{bytes}
 use Rattle.rules.specs.declared.Added.{Added}
 use Rattle.rules.specs.Add.{answer, addAnswer, addWords}
-use Rattle.rules.specs.Additions.{Addition, addAll}
+use Rattle.rules.specs.Additions.{Addition}
+use Rattle.rules.specs.Encoded.{addAll}
 use Rattle.demands.specs.Chain.{Item, scan, close, Outcome, by-scan, by-close, outcomesOf, begun}
 
 -- ---- what a case says
