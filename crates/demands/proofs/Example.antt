@@ -8,10 +8,10 @@ use lib.ListN.{length}
 use Rattle.sets.specs.Set.{on, has, setOf, wordOf, any, emptySet, insertedRange, unionOf, complementOf, inserted, fullSet}
 use Rattle.kinds.specs.Kind.{isDigit, isLower, isUpper}
 use Rattle.kinds.specs.Case.{otherCase, caseClosed}
-use Rattle.tokens.specs.Number.{digitOf, digits, valueFrom, numeralOf}
-use Rattle.tokens.specs.Escape.{bracedOf, shortOf, flipped64, raised, controlOf, typeOf, namedOf, placedOf, hexOf, octalOf, isAlnum, escapeOf}
-use Rattle.tokens.specs.Fault.{lower}
-use Rattle.tokens.specs.Class.{opensName, memberOf, rangeFault, ranges, memberAt, membersOf, classOf, joined, settled}
+use Rattle.atoms.specs.Number.{digitOf, digits, valueFrom, numeralOf}
+use Rattle.atoms.specs.Escape.{bracedOf, shortOf, flipped64, raised, controlOf, typeOf, namedOf, placedOf, hexOf, octalOf, isAlnum, escapeOf}
+use Rattle.atoms.specs.Fault.{lower}
+use Rattle.atoms.specs.Class.{opensName, memberOf, rangeFault, ranges, memberAt, membersOf, classOf, joined, settled}
 use Rattle.tokens.specs.Option.{lettersOf, openingOf}
 use Rattle.tokens.specs.Quantifier.{bounded, open-ended, bracesOf, formOf, marked, quantifierOf}
 use Rattle.tokens.specs.Token.{escaped, lexemeOf, itemSet}

@@ -11,14 +11,14 @@ use borrow.Author.Tests.{eqb-false, leb-true, ltb-true, ne-eqb, le-leb, lt-ltb, 
 use lib.Dec.{T, eqb, leb, ltb}
 use lib.ListN.{length, drop, length-drop}
 use lib.Seq.{drop-drop}
-use Rattle.tokens.specs.declared as declared
+use Rattle.atoms.specs.declared as declared
 use Rattle.tokens.specs.declared.Options.{Options}
-use Rattle.tokens.specs.declared.Member.{Member}
+use Rattle.atoms.specs.declared.Member.{Member}
 use Rattle.tokens.specs.declared.Token.{Token}
 use Rattle.tokens.specs.declared.Token.the-variants.{Finish, Bar, Close, Class, One, Open, Set, Repeat, Bad}
 use Rattle.tokens.specs.declared.Lexeme.{Lexeme}
-use Rattle.tokens.specs.Fault.{lower}
-use Rattle.tokens.specs.Class.{memberAt, joined, membersOf, classOf}
+use Rattle.atoms.specs.Fault.{lower}
+use Rattle.atoms.specs.Class.{memberAt, joined, membersOf, classOf}
 use Rattle.tokens.specs.Quantifier.{formOf}
 use Rattle.tokens.specs.Token.{lexemeOf}
 use Rattle.regex.specs.Form.{write, positions}
@@ -31,7 +31,7 @@ use Rattle.pattern.specs.Read.{longest, judged, readOf, answerOf}
 use Rattle.pattern.specs.Reasons.{row6, row7, row9, row10, row11, row14, memberRow14, ofEnd, Stands, InClass, membersAt, closes, tokenAt, ClassAt, MemberAt, Finished, Reason, Decides}
 use Rattle.pattern.specs.Invariants.{from, follow, ended}
 use Rattle.tokens.proofs.Lexemes.{lexeme-end}
-use Rattle.tokens.proofs.Ranges.{member-advances, members-end, members-close, members-fault, members-more}
+use Rattle.atoms.proofs.Ranges.{member-advances, members-end, members-close, members-fault, members-more}
 use Rattle.pattern.proofs.Base.{either, split, true-not-false, by-lt, by-eq}
 use Rattle.pattern.proofs.Steps.{walk-end, walk-on}
 use Rattle.pattern.proofs.Answers.{accepted-tree}

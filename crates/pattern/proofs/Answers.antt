@@ -9,13 +9,13 @@ use borrow.Author.Tests.{eqb-true, eqb-false, ltb-false}
 use lib.Dec.{eqb, leb, ltb}
 use lib.ListN.{length, drop, replicate}
 use Rattle.tokens.specs.declared.Options.{Options}
-use Rattle.tokens.specs.declared.Atom.{Atom}
-use Rattle.tokens.specs.declared.Atom.the-variants.{Byte, OfKind, NotOfKind, Dot, NotNewline, Start, End}
+use Rattle.atoms.specs.declared.Atom.{Atom}
+use Rattle.atoms.specs.declared.Atom.the-variants.{Byte, OfKind, NotOfKind, Dot, NotNewline, Start, End}
 use Rattle.tokens.specs.declared.Token.{Token}
 use Rattle.tokens.specs.declared.Token.the-variants.{Finish, Bar, Close, Class, One, Open, Set, Repeat, Bad}
 use Rattle.tokens.specs.declared.Lexeme.{Lexeme}
-use Rattle.tokens.specs.Fault.{lower}
-use Rattle.tokens.specs.Class.{classOf}
+use Rattle.atoms.specs.Fault.{lower}
+use Rattle.atoms.specs.Class.{classOf}
 use Rattle.tokens.specs.Token.{lexemeOf}
 use Rattle.regex.specs.Tree.{empty, item, then, or}
 use Rattle.regex.specs.Count.{limit, saturating, nullable}

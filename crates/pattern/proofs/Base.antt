@@ -10,7 +10,7 @@ use borrow.Author.Tests.{ltb-true, ltb-false, eqb-true, eqb-false}
 use lib.Dec.{ltb, eqb}
 use lib.ListN.{length, set}
 use lib.Seq.{sets}
-pub use Rattle.tokens.proofs.Sizes.{either}
+pub use Rattle.atoms.proofs.Sizes.{either}
 
 -- ---- tests
 

@@ -8,7 +8,7 @@ use native.Mathlib.Omega.{arith}
 use borrow.Author.Tests.{ne-eqb}
 use lib.Dec.{eqb}
 use lib.ListN.{getD}
-use Rattle.tokens.specs.Number.{cap}
+use Rattle.atoms.specs.Number.{cap}
 use Rattle.regex.specs.Tree.{Extra, repeat}
 use Rattle.regex.specs.Count.{copied, capped, saturating, nullable}
 use Rattle.regex.proofs.Counted.{saturated}

@@ -8,9 +8,9 @@ use lib.ListN.{getD, drop}
 use types.Run.{OneOf, miss}
 use denote.Enum.Declared.{tagOf}
 use Rattle.tokens.proofs.Token as token
-use Rattle.tokens.proofs.Atom as atom
-use Rattle.tokens.specs.declared.Atom.{Atom}
-use Rattle.tokens.specs.declared.Atom.the-variants.{Byte, OfKind, NotOfKind, Dot, NotNewline, Start, End}
+use Rattle.atoms.proofs.Atom as atom
+use Rattle.atoms.specs.declared.Atom.{Atom}
+use Rattle.atoms.specs.declared.Atom.the-variants.{Byte, OfKind, NotOfKind, Dot, NotNewline, Start, End}
 use Rattle.tokens.specs.declared.Token.{Token}
 use Rattle.tokens.specs.declared.Token.the-variants.{Finish, Bar, Close, Class, One, Open, Set, Repeat, Bad}
 use Rattle.tokens.specs.declared.Lexeme.{Lexeme}

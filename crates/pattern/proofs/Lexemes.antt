@@ -10,14 +10,14 @@ use borrow.Author.Tests.{eqb-true, eqb-false, ltb-true}
 use lib.Dec.{eqb, leb, ltb}
 use lib.ListN.{length, getD, drop}
 use Rattle.tokens.specs.declared.Options.{Options}
-use Rattle.tokens.specs.declared.Part.{Part}
+use Rattle.atoms.specs.declared.Part.{Part}
 use Rattle.tokens.specs.declared.Form.{Form}
 use Rattle.tokens.specs.declared.Token.{Token}
 use Rattle.tokens.specs.declared.Token.the-variants.{Finish, Bar, Close, Class, One, Open, Set, Repeat, Bad}
 use Rattle.tokens.specs.declared.Lexeme.{Lexeme}
-use Rattle.tokens.specs.Number.{cap, numeralOf}
-use Rattle.tokens.specs.Escape.{escapeOf}
-use Rattle.tokens.specs.Fault.{lower}
+use Rattle.atoms.specs.Number.{cap, numeralOf}
+use Rattle.atoms.specs.Escape.{escapeOf}
+use Rattle.atoms.specs.Fault.{lower}
 use Rattle.tokens.specs.Option.{faulty, withCaseless, withDotAll, lettersOf, openingOf}
 use Rattle.tokens.specs.Quantifier.{noForm, form, bounded, open-ended, bracesOf, formOf, marked, quantifierOf}
 use Rattle.tokens.specs.Token.{escaped, lexemeOf}

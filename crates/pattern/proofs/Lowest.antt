@@ -6,7 +6,7 @@ use Prim.Native.Nat.{ℕ, _≤_, _<_, min}
 use native.Mathlib.Omega.{arith}
 use borrow.Author.Tests.{eqb-false, ne-eqb}
 use lib.Dec.{eqb}
-use Rattle.tokens.specs.Fault.{lower}
+use Rattle.atoms.specs.Fault.{lower}
 use Rattle.pattern.proofs.Base.{either, split, true-not-false}
 
 -- the rows 6, 7, 9, 10, 11 and 14, which are those of a token: the number of the first that holds, 0 where none does

@@ -10,16 +10,16 @@ use borrow.Author.Tests.{eq-eqb, ne-eqb}
 use lib.ListN.{length, getD, drop, set, length-drop}
 use lib.Seq.{sets, length-sets}
 use Rattle.sets.proofs.Laws.{Words}
-use Rattle.tokens.specs.declared as declared
+use Rattle.atoms.specs.declared as declared
 use Rattle.tokens.specs.declared.Options.{Options}
-use Rattle.tokens.specs.declared.Atom.{Atom}
-use Rattle.tokens.specs.declared.Atom.the-variants.{Byte, OfKind, NotOfKind, Dot, NotNewline, Start, End}
+use Rattle.atoms.specs.declared.Atom.{Atom}
+use Rattle.atoms.specs.declared.Atom.the-variants.{Byte, OfKind, NotOfKind, Dot, NotNewline, Start, End}
 use Rattle.tokens.specs.declared.Token.the-variants.{Class, One, Open, Set, Repeat}
 use Rattle.tokens.specs.declared.Lexeme.{Lexeme}
-use Rattle.tokens.specs.Class.{classOf}
-use Rattle.tokens.specs.Number.{cap}
+use Rattle.atoms.specs.Class.{classOf}
+use Rattle.atoms.specs.Number.{cap}
 use Rattle.tokens.specs.Token.{lexemeOf, itemSet}
-use Rattle.tokens.proofs.Suffixes.{inside}
+use Rattle.atoms.proofs.Suffixes.{inside}
 use Rattle.regex.specs.Tree.{empty, item, assertion, then, or, repeat}
 use Rattle.regex.specs.Rule.{at-start, at-end}
 use Rattle.pattern.specs.Nodes.{Syntax, word, treeAt, width, lay, extraOf}

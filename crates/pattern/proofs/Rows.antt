@@ -11,16 +11,16 @@ use lib.ListN.{length, getD, drop, length-drop}
 use lib.Seq.{getD-drop}
 use Rattle.kinds.specs.Kind.{within, isLower, isUpper, isDigit}
 use Rattle.kinds.specs.declared.Kind.the-variants.{Digit, Word, Space, Horizontal, Vertical}
-use Rattle.tokens.specs.declared.Atom.{Atom}
-use Rattle.tokens.specs.declared.Atom.the-variants.{Byte, OfKind, NotOfKind, NotNewline, Start, End}
-use Rattle.tokens.specs.declared.Part.{Part}
+use Rattle.atoms.specs.declared.Atom.{Atom}
+use Rattle.atoms.specs.declared.Atom.the-variants.{Byte, OfKind, NotOfKind, NotNewline, Start, End}
+use Rattle.atoms.specs.declared.Part.{Part}
 use Rattle.tokens.specs.declared.Options.{Options}
 use Rattle.tokens.specs.declared.Form.{Form}
 use Rattle.tokens.specs.declared.Lexeme.{Lexeme}
-use Rattle.tokens.specs.Number.{cap, some, digits, valueFrom, numeralOf}
-use Rattle.tokens.specs.Escape.{good, bracedOf, shortOf, controlOf, typeOf, namedOf, placedOf, hexOf, octalOf, isAlnum, escapeOf}
-use Rattle.tokens.specs.Fault.{lower}
-use Rattle.tokens.specs.Class.{opensName, memberOf, rangeFault, isType, byteOf, ranges, memberAt}
+use Rattle.atoms.specs.Number.{cap, some, digits, valueFrom, numeralOf}
+use Rattle.atoms.specs.Escape.{good, bracedOf, shortOf, controlOf, typeOf, namedOf, placedOf, hexOf, octalOf, isAlnum, escapeOf}
+use Rattle.atoms.specs.Fault.{lower}
+use Rattle.atoms.specs.Class.{opensName, memberOf, rangeFault, isType, byteOf, ranges, memberAt}
 use Rattle.tokens.specs.Option.{withCaseless, withDotAll, lettersOf, openingOf}
 use Rattle.tokens.specs.Quantifier.{bounded, open-ended, bracesOf, formOf, marked, quantifierOf}
 use Rattle.tokens.specs.Token.{escaped, lexemeOf}

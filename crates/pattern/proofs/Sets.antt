@@ -11,14 +11,14 @@ use lib.ListN.{length, getD, drop, length-drop}
 use Rattle.sets.specs.Set.{emptySet, fullSet, inserted, insertedRange, unionOf, complementOf}
 use Rattle.sets.proofs.Laws.{Words, words-setOf}
 use Rattle.kinds.specs.Case.{caseClosed}
-use Rattle.tokens.specs.declared.Atom.{Atom}
-use Rattle.tokens.specs.declared.Atom.the-variants.{Byte, OfKind, NotOfKind, Dot, NotNewline, Start, End}
-use Rattle.tokens.specs.declared.Class.{Class}
-use Rattle.tokens.specs.declared.Member.{Member}
+use Rattle.atoms.specs.declared.Atom.{Atom}
+use Rattle.atoms.specs.declared.Atom.the-variants.{Byte, OfKind, NotOfKind, Dot, NotNewline, Start, End}
+use Rattle.atoms.specs.declared.Class.{Class}
+use Rattle.atoms.specs.declared.Member.{Member}
 use Rattle.tokens.specs.declared.Options.{Options}
-use Rattle.tokens.specs.Class.{memberAt, joined, settled, membersOf, classOf}
+use Rattle.atoms.specs.Class.{memberAt, joined, settled, membersOf, classOf}
 use Rattle.tokens.specs.Token.{itemSet}
-use Rattle.tokens.proofs.Suffixes.{inside}
+use Rattle.atoms.proofs.Suffixes.{inside}
 use Rattle.pattern.proofs.Base.{split}
 
 words-cond : (b : Bool) (s t : List ℕ) → Words s → Words t → Words (cond b s t)

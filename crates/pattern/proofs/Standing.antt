@@ -11,14 +11,14 @@ use lib.Dec.{eqb, leb}
 use lib.ListN.{length, getD, drop, length-drop}
 use lib.Seq.{drop-drop}
 use Rattle.tokens.specs.declared.Options.{Options}
-use Rattle.tokens.specs.declared.Member.{Member}
-use Rattle.tokens.specs.declared.Part.{Part}
+use Rattle.atoms.specs.declared.Member.{Member}
+use Rattle.atoms.specs.declared.Part.{Part}
 use Rattle.tokens.specs.declared.Form.{Form}
 use Rattle.tokens.specs.declared.Token.{Token}
 use Rattle.tokens.specs.declared.Token.the-variants.{Finish, Bar, Close, Class, One, Open, Set, Repeat, Bad}
 use Rattle.tokens.specs.declared.Lexeme.{Lexeme}
-use Rattle.tokens.specs.Fault.{lower}
-use Rattle.tokens.specs.Class.{memberAt, joined, membersOf, classOf}
+use Rattle.atoms.specs.Fault.{lower}
+use Rattle.atoms.specs.Class.{memberAt, joined, membersOf, classOf}
 use Rattle.tokens.specs.Option.{withCaseless, withDotAll, lettersOf, openingOf}
 use Rattle.tokens.specs.Quantifier.{formOf, marked, quantifierOf}
 use Rattle.tokens.specs.Token.{escaped, lexemeOf}
@@ -27,11 +27,11 @@ use Rattle.pattern.specs.Nodes.{Syntax}
 use Rattle.pattern.specs.Walk.{Frame, State, Next, stop, go, groupOf, deepest, closing, opening, act, context, next, walk, begin}
 use Rattle.pattern.specs.Reasons.{Stands, InClass, membersAt, tokenAt}
 use Rattle.pattern.specs.Invariants.{from, follow}
-use Rattle.tokens.proofs.Suffixes.{first}
-use Rattle.tokens.proofs.Sizes.{byte-within}
+use Rattle.atoms.proofs.Suffixes.{first}
+use Rattle.atoms.proofs.Sizes.{byte-within}
 use Rattle.tokens.proofs.Lengths.{lexeme-fits}
 use Rattle.tokens.proofs.Lexemes.{lexeme-end}
-use Rattle.tokens.proofs.Ranges.{member-advances, members-more}
+use Rattle.atoms.proofs.Ranges.{member-advances, members-more}
 use Rattle.pattern.proofs.Base.{either, split, by-lt}
 use Rattle.pattern.proofs.Sets.{class-closed}
 use Rattle.pattern.proofs.Steps.{walk-on, walk-skip}

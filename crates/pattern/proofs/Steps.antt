@@ -10,17 +10,17 @@ use borrow.Author.Tests.{eqb-true, eqb-false, lt-ltb, le-ltb, eq-eqb, ne-eqb, le
 use lib.Dec.{eqb}
 use lib.ListN.{length, getD, drop, drop-of-length-le, length-drop, List·getD-eq-default}
 use lib.Seq.{drop-drop}
-use Rattle.tokens.specs.declared as declared
+use Rattle.atoms.specs.declared as declared
 use Rattle.tokens.specs.declared.Options.{Options}
-use Rattle.tokens.specs.declared.Atom.{Atom}
-use Rattle.tokens.specs.declared.Atom.the-variants.{Byte, OfKind, NotOfKind, Dot, NotNewline, Start, End}
+use Rattle.atoms.specs.declared.Atom.{Atom}
+use Rattle.atoms.specs.declared.Atom.the-variants.{Byte, OfKind, NotOfKind, Dot, NotNewline, Start, End}
 use Rattle.tokens.specs.declared.Token.{Token}
 use Rattle.tokens.specs.declared.Token.the-variants.{Finish, Bar, Close, Class, One, Open, Set, Repeat, Bad}
 use Rattle.tokens.specs.declared.Lexeme.{Lexeme}
-use Rattle.tokens.specs.Fault.{lower}
-use Rattle.tokens.specs.Class.{classOf}
+use Rattle.atoms.specs.Fault.{lower}
+use Rattle.atoms.specs.Class.{classOf}
 use Rattle.tokens.specs.Token.{lexemeOf}
-use Rattle.tokens.proofs.Suffixes.{front}
+use Rattle.atoms.proofs.Suffixes.{front}
 use Rattle.regex.specs.Tree.{empty, item, repeat}
 use Rattle.pattern.specs.Nodes.{Syntax, extraOf}
 use Rattle.pattern.specs.Walk.{Target, nothing, single, repeated, Frame, State, Read, refused, Next, stop, go, chained, chosen, with-item, one, deepest, repeating, targetFault, closing, opening, act, context, next, finish, walk}

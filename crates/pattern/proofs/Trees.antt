@@ -10,8 +10,8 @@ use borrow.Author.Tests.{lt-ltb, le-ltb, ltb-true}
 use lib.Dec.{eqb, ltb}
 use lib.ListN.{length, getD, take, drop, set, length-append}
 use lib.Seq.{sets, sets-eq, drop-at, take-at, drop-drop, length-take-le}
-use Rattle.tokens.specs.Number.{cap}
-use Rattle.tokens.proofs.Suffixes.{first}
+use Rattle.atoms.specs.Number.{cap}
+use Rattle.atoms.proofs.Suffixes.{first}
 use Rattle.regex.specs.Tree.{empty, item, assertion, then, or, repeat, Extra, atMost, unbounded}
 use Rattle.regex.specs.Rule.{Assertion, at-start, at-end, ByteSet}
 use Rattle.pattern.specs.Nodes.{Syntax, word, opOf, xOf, yOf, zOf, extraOf, numberOf, codeOf, nodeOf, treeWithin, treeAt, width, lay}

@@ -8,12 +8,12 @@ use lib.ListN.{length, getD, drop}
 use lib.Seq.{sets}
 use Rattle.sets.proofs.Laws.{Words}
 use Rattle.tokens.specs.declared.Options.{Options}
-use Rattle.tokens.specs.declared.Atom.{Atom}
+use Rattle.atoms.specs.declared.Atom.{Atom}
 use Rattle.tokens.specs.declared.Token.{Token}
 use Rattle.tokens.specs.declared.Token.the-variants.{Finish, Bar, Close, Class, One, Open, Set, Repeat, Bad}
 use Rattle.tokens.specs.declared.Lexeme.{Lexeme}
-use Rattle.tokens.specs.Class.{classOf}
-use Rattle.tokens.specs.Number.{cap}
+use Rattle.atoms.specs.Class.{classOf}
+use Rattle.atoms.specs.Number.{cap}
 use Rattle.tokens.specs.Token.{lexemeOf}
 use Rattle.regex.specs.Tree.{empty, item, assertion, then, or, repeat}
 use Rattle.pattern.specs.Nodes.{Syntax, treeAt, width, lay, extraOf, numberOf}

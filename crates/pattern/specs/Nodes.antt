@@ -5,7 +5,7 @@ use mathlib.Core.List.{List, [], _∷_, _++_}
 use Prim.Native.Nat.{ℕ, zero, suc, _+_, _-_, _*_, _/_, _%_, _^_}
 use lib.Dec.{eqb, ltb}
 use lib.ListN.{getD, take, drop}
-use Rattle.tokens.specs.Number.{cap}
+use Rattle.atoms.specs.Number.{cap}
 use Rattle.regex.specs.Tree.{Tree, empty, item, assertion, then, or, repeat, Extra, atMost, unbounded}
 use Rattle.regex.specs.Rule.{Assertion, at-start, at-end, ByteSet}
 

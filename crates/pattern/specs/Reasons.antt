@@ -11,12 +11,12 @@ use lib.Dec.{T, eqb, leb, ltb}
 use lib.ListN.{length, getD, drop}
 use Rattle.kinds.specs.Kind.{within}
 use Rattle.tokens.specs.declared.Options.{Options}
-use Rattle.tokens.specs.declared.Part.{Part}
+use Rattle.atoms.specs.declared.Part.{Part}
 use Rattle.tokens.specs.declared.Token.{Token}
 use Rattle.tokens.specs.declared.Token.the-variants.{Finish, Bar, Close, Class, One, Open, Set, Repeat, Bad}
-use Rattle.tokens.specs.Number.{some, digits, valueFrom}
-use Rattle.tokens.specs.Escape.{isAlnum}
-use Rattle.tokens.specs.Class.{opensName, memberOf, isType, byteOf, ranges, memberAt}
+use Rattle.atoms.specs.Number.{some, digits, valueFrom}
+use Rattle.atoms.specs.Escape.{isAlnum}
+use Rattle.atoms.specs.Class.{opensName, memberOf, isType, byteOf, ranges, memberAt}
 use Rattle.tokens.specs.Quantifier.{formOf}
 use Rattle.tokens.specs.Token.{lexemeOf}
 use Rattle.regex.specs.Form.{write, positions}

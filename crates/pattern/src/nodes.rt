@@ -5,7 +5,7 @@ ghost use mathlib.Core.List.{[], _∷_, _++_};
 ghost use Prim.Native.Nat.{_+_, _≤_, _<_, _^_};
 ghost use lib.ListN.{set};
 ghost use lib.Seq.{sets};
-ghost use Rattle.tokens.specs.Number.{cap};
+ghost use Rattle.atoms.specs.Number.{cap};
 ghost use Rattle.pattern.specs.Nodes.{word};
 ghost use Rattle.pattern.specs.Invariants.{lent};
 

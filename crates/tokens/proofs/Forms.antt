@@ -9,10 +9,10 @@ use borrow.Author.Tests.{ne-eqb, leb-true}
 use lib.Dec.{eqb, leb, ltb}
 use lib.ListN.{getD, drop}
 use lib.Seq.{getD-drop, drop-drop}
-use Rattle.tokens.specs.Number.{cap, numeralOf}
+use Rattle.atoms.specs.Number.{cap, numeralOf}
 use Rattle.tokens.specs.Quantifier.{noForm, form, bounded, open-ended, bracesOf, formOf}
-use Rattle.tokens.specs.declared.Numeral.{Numeral}
-use Rattle.tokens.proofs.Suffixes.{first}
+use Rattle.atoms.specs.declared.Numeral.{Numeral}
+use Rattle.atoms.proofs.Suffixes.{first}
 
 -- what the test of two bounds says of them
 pub bounds-rise : (lo hi : ℕ) → (ltb lo cap && (ltb hi cap && leb lo hi)) ≡ true → lo ≤ hi

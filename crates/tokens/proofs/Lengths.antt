@@ -1,5 +1,5 @@
--- How many bytes a token or a class takes: never more than there are, and at least one unless it is faulty. Callers cite `lexeme-takes`,
--- `lexeme-fits` and `class-ends`. By cases on what the definitions ask, and by going down the bytes.
+-- How many bytes a token takes: never more than there are, and at least one unless it is faulty. Callers cite `lexeme-takes` and `lexeme-fits`. By cases on
+-- what the definitions ask, and by going down the bytes.
 use mathlib.Core.Path.{_≡_, sym}
 use mathlib.Core.Bool.{Bool, true, false, cond, not, _&&_, and-eq-true-iff, true≢false}
 use mathlib.Core.List.{List, [], _∷_}
@@ -9,20 +9,20 @@ use borrow.Author.Tests.{eqb-true, eqb-false}
 use lib.Dec.{eqb, leb, ltb}
 use lib.ListN.{length, getD, drop, length-drop}
 use Rattle.sets.specs.Set.{emptySet}
-use Rattle.tokens.specs.Number.{cap, numeralOf}
-use Rattle.tokens.specs.Fault.{lower}
-use Rattle.tokens.specs.Class.{joined, membersOf, classOf, memberAt}
+use Rattle.atoms.specs.Number.{cap, numeralOf}
+use Rattle.atoms.specs.Fault.{lower}
+use Rattle.atoms.specs.Class.{joined, membersOf, classOf, memberAt}
 use Rattle.tokens.specs.Option.{plain, faulty, withCaseless, withDotAll, lettersOf, openingOf}
 use Rattle.tokens.specs.Quantifier.{noForm, bounded, open-ended, bracesOf, formOf, marked, quantifierOf}
 use Rattle.tokens.specs.Token.{escaped, lexemeOf}
-use Rattle.tokens.specs.declared.Part.{Part}
-use Rattle.tokens.specs.declared.Class.{Class}
+use Rattle.atoms.specs.declared.Part.{Part}
+use Rattle.atoms.specs.declared.Class.{Class}
 use Rattle.tokens.specs.declared.Options.{Options}
 use Rattle.tokens.specs.declared.Token.{Token}
 use Rattle.tokens.specs.declared.Form.{Form}
 use Rattle.tokens.specs.declared.Lexeme.{Lexeme}
-use Rattle.tokens.proofs.Suffixes.{inside}
-use Rattle.tokens.proofs.Sizes.{either, pick, byte-within, Stands, escape-stands}
+use Rattle.atoms.proofs.Suffixes.{inside}
+use Rattle.atoms.proofs.Sizes.{either, pick, byte-within, Stands, escape-stands}
 
 -- ---- quantifiers
 
@@ -158,35 +158,3 @@ pub lexeme-fits : (o : Options) (v : List ℕ) → lexemeOf o v .size ≤ length
 unfolding lexemeOf
 lexeme-fits o [] = omega arith
 lexeme-fits o (c ∷ v) = lexeme-takes o c v .fits
-
--- ---- classes
-
--- a class from place `at` on, with n bytes there, ends after its bracket or is refused at a place in it
-pub record Ends (at n : ℕ) (c : Class) : Type 0 where
-  pub after : c .number ≡ 0 → at < c .place
-  pub fits : c .place ≤ at + n
-
-members-ends : (caseless negated first : Bool) (set : List ℕ) (k : ℕ) (v : List ℕ) (at : ℕ)
-    → Ends at (length v) (membersOf caseless negated first set k v at)
-unfolding membersOf
-members-ends caseless negated first set k [] at = record { after = λ e. absurd (omega arith); fits = omega arith }
-members-ends caseless negated first set (suc k) (c ∷ v) at =
-    let more = members-ends caseless negated first set k v (at + 1) in
-    record { after = λ e. omega (arith, more .after e); fits = omega (arith, more .fits) }
-members-ends caseless negated first set zero (c ∷ v) at =
-    let m = memberAt (c ∷ v) in
-    let more = members-ends caseless negated false (joined set (m .low) (m .high)) (pred (m .size)) v (at + 1) in
-    let here = Ends at (length (c ∷ v)) in
-    pick here (eqb c 93 && not first) (λ e. record { after = λ z. omega arith; fits = omega arith })
-    (either here (eqb (m .fault) 0) (λ e. record { after = λ z. omega (arith, more .after z); fits = omega (arith, more .fits) })
-    (λ e. record { after = λ z. absurd (eqb-false (m .fault) 0 e z); fits = omega arith }))
-
-pub class-ends : (caseless : Bool) (v : List ℕ) (at : ℕ) → Ends at (length v) (classOf caseless v at)
-unfolding classOf
-class-ends caseless v at =
-    pick (Ends at (length v)) (eqb (getD v 0 0) 94)
-    (λ e.
-    let more = members-ends caseless true true emptySet 0 (drop 1 v) (at + 1) in
-    let l : 0 < length v = byte-within v 0 93 e in
-    record { after = λ z. omega (arith, more .after z); fits = omega (arith, more .fits, length-drop 1 v) })
-    (members-ends caseless false true emptySet 0 v at)

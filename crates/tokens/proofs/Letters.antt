@@ -12,7 +12,7 @@ use Rattle.tokens.specs.Option.{plain, faulty, withCaseless, withDotAll,
 use Rattle.tokens.specs.declared.Options.{Options}
 use Rattle.tokens.specs.declared.Token.the-variants.{Open, Set}
 use Rattle.tokens.specs.declared.Lexeme.{Lexeme}
-use Rattle.tokens.proofs.Suffixes.{first}
+use Rattle.atoms.proofs.Suffixes.{first}
 
 module _ (on any : Bool) (o : Options) (size : ℕ) where
   -- what the byte c does, with v after it

@@ -10,11 +10,11 @@ use lib.Seq.{getD-drop}
 use Rattle.tokens.specs.Option.{plain}
 use Rattle.tokens.specs.Quantifier.{formOf, marked, quantifierOf}
 use Rattle.tokens.specs.Token.{lexemeOf}
-use Rattle.tokens.specs.declared.Atom.the-variants.{Byte}
+use Rattle.atoms.specs.declared.Atom.the-variants.{Byte}
 use Rattle.tokens.specs.declared.Options.{Options}
 use Rattle.tokens.specs.declared.Token.the-variants.{Finish, One}
 use Rattle.tokens.specs.declared.Form.{Form}
-use Rattle.tokens.proofs.Suffixes.{front}
+use Rattle.atoms.proofs.Suffixes.{front}
 use Rattle.tokens.proofs.Lengths.{form-counts}
 
 module _ (s : List ℕ) (at : ℕ) where

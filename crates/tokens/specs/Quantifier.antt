@@ -4,12 +4,12 @@ use mathlib.Core.List.{List}
 use Prim.Native.Nat.{ℕ, _+_, _-_}
 use lib.Dec.{eqb, leb, ltb}
 use lib.ListN.{getD, drop}
-use Rattle.tokens.specs.declared.Numeral.{Numeral}
+use Rattle.atoms.specs.declared.Numeral.{Numeral}
 use Rattle.tokens.specs.declared.Form.{Form}
 use Rattle.tokens.specs.declared.Token.the-variants.{Repeat}
 use Rattle.tokens.specs.declared.Lexeme.{Lexeme}
-use Rattle.tokens.specs.Number.{numeralOf, cap}
-use Rattle.tokens.specs.Fault.{lower}
+use Rattle.atoms.specs.Number.{numeralOf, cap}
+use Rattle.atoms.specs.Fault.{lower}
 
 -- no quantifier stands here
 abbrev pub noForm : Form

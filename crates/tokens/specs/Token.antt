@@ -6,13 +6,13 @@ use lib.Dec.{eqb}
 use Rattle.sets.specs.Set.{setOf, emptySet, fullSet, inserted, complementOf}
 use Rattle.kinds.specs.Kind.{isKind, isNotKind}
 use Rattle.kinds.specs.Case.{caseClosed}
-use Rattle.tokens.specs.declared.Atom.{Atom}
-use Rattle.tokens.specs.declared.Atom.the-variants.{Byte, OfKind, NotOfKind, Dot, NotNewline, Start, End}
-use Rattle.tokens.specs.declared.Part.{Part}
+use Rattle.atoms.specs.declared.Atom.{Atom}
+use Rattle.atoms.specs.declared.Atom.the-variants.{Byte, OfKind, NotOfKind, Dot, NotNewline, Start, End}
+use Rattle.atoms.specs.declared.Part.{Part}
 use Rattle.tokens.specs.declared.Options.{Options}
 use Rattle.tokens.specs.declared.Token.the-variants.{Finish, Bar, Close, Class, One}
 use Rattle.tokens.specs.declared.Lexeme.{Lexeme}
-use Rattle.tokens.specs.Escape.{escapeOf}
+use Rattle.atoms.specs.Escape.{escapeOf}
 use Rattle.tokens.specs.Option.{plain, faulty, openingOf}
 use Rattle.tokens.specs.Quantifier.{formOf, quantifierOf}
 

@@ -1,24 +1,24 @@
 // The token at a place outside a class, and the set of bytes that an item takes.
-use crate::Atom;
 use crate::Lexeme;
 use crate::Options;
-use crate::Part;
 use crate::Token;
-use crate::classes::cased;
-use crate::escape::escape_at;
-use crate::number::peek;
 use crate::option::opening_at;
 use crate::option::plain;
 use crate::option::refused;
 use crate::quantifier::form_at;
 use crate::quantifier::marked_form;
+use atoms::Atom;
+use atoms::Part;
+use atoms::cased;
+use atoms::escape_at;
+use atoms::peek;
 ghost use mathlib.Core.Path.{_≡_};
 ghost use mathlib.Core.Bool.{cond};
 ghost use Prim.Native.Nat.{_<_};
 ghost use lib.ListN.{length, getD, drop};
 ghost use Rattle.tokens.specs.Option.{plain};
 ghost use Rattle.tokens.specs.Quantifier.{formOf, quantifierOf};
-ghost use Rattle.tokens.specs.declared.Atom.the-variants.{Byte};
+ghost use Rattle.atoms.specs.declared.Atom.the-variants.{Byte};
 ghost use Rattle.tokens.specs.declared.Token.the-variants.{One};
 ghost use Rattle.tokens.specs.Token.{escaped, lexemeOf, allButNewline, itemSet};
 

@@ -2,7 +2,7 @@
 use crate::Lexeme;
 use crate::Options;
 use crate::Token;
-use crate::number::peek;
+use atoms::peek;
 ghost use mathlib.Core.Path.{_≡_};
 ghost use mathlib.Core.Bool.{cond, true, false};
 ghost use Prim.Native.Nat.{_≤_};

@@ -2,10 +2,10 @@
 use crate::Form;
 use crate::Lexeme;
 use crate::Token;
-use crate::members::lower;
-use crate::number::CAP;
-use crate::number::numeral_at;
-use crate::number::peek;
+use atoms::CAP;
+use atoms::decimal_at;
+use atoms::lower;
+use atoms::peek;
 ghost use mathlib.Core.Path.{_≡_};
 ghost use mathlib.Core.Bool.{true};
 ghost use Prim.Native.Nat.{_≤_, _<_, _^_};
@@ -76,7 +76,7 @@ fn brace_form(s: &[u8], at: usize) -> Form
     requires { ⌜ at ≤ length (now s) ⌝ }
     ensures { λ r. ⌜ r ≡ bracesOf (drop at (now (s .entry))) ⌝ }
 {
-    let a = numeral_at(s, at, 10);
+    let a = decimal_at(s, at);
     let from = a.some;
     let lo = a.value;
     let digits = a.size;
@@ -88,7 +88,7 @@ fn brace_form(s: &[u8], at: usize) -> Form
         }
         return no_form();
     }
-    let b = numeral_at(s, comma + 1, 10);
+    let b = decimal_at(s, comma + 1);
     let to = b.some;
     let hi = b.value;
     let more = b.size;

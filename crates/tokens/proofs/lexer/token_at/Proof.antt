@@ -2,7 +2,7 @@
 use mathlib.Core.Path.{sym, _∙_}
 use native.Mathlib.Omega.{arith}
 use Rattle.tokens.specs.Token.{lexemeOf}
-use Rattle.tokens.proofs.Suffixes.{front}
+use Rattle.atoms.proofs.Suffixes.{front}
 use Rattle.tokens.proofs.Lexemes.{lexeme-end, lexeme-other}
 use Rattle.tokens.proofs.lexer.token_at.Statement.{statement}
 use Rattle.tokens.proofs.lexer.token_at.Tie as tie

@@ -7,7 +7,7 @@ use native.Mathlib.Omega.{arith}
 use borrow.Author.Tests.{not-true, not-false}
 use lib.ListN.{length, drop}
 use Rattle.tokens.specs.Option.{lettersOf}
-use Rattle.tokens.proofs.Suffixes.{inside}
+use Rattle.atoms.proofs.Suffixes.{inside}
 use Rattle.tokens.proofs.Letters.{letters-i, letters-s, letters-off, letters-twice, letters-set, letters-open, letters-other}
 use Rattle.tokens.proofs.option.letters.Statement.{statement}
 use Rattle.tokens.proofs.option.letters.Tie as tie

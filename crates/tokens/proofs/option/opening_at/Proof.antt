@@ -4,7 +4,7 @@ use Prim.Native.Nat.{_+_}
 use native.Mathlib.Omega.{arith}
 use borrow.Author.Tests.{eq-eqb, ne-eqb}
 use lib.ListN.{getD}
-use Rattle.tokens.proofs.Suffixes.{inside}
+use Rattle.atoms.proofs.Suffixes.{inside}
 use Rattle.tokens.proofs.Letters.{opening-is}
 use Rattle.tokens.proofs.option.opening_at.Statement.{statement}
 use Rattle.tokens.proofs.option.opening_at.Tie as tie

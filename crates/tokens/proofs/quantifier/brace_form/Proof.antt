@@ -5,26 +5,26 @@ use mathlib.Core.Bool.{true, false}
 use Prim.Native.Nat.{_+_, _-_, _≤_}
 use native.Mathlib.Omega.{arith}
 use lib.ListN.{length}
-use Rattle.tokens.proofs.Digits.{numeral-fits}
+use Rattle.atoms.proofs.Digits.{numeral-fits}
 use Rattle.tokens.proofs.Forms.{braces-one, braces-two}
 use Rattle.tokens.proofs.quantifier.brace_form.Statement.{statement}
 use Rattle.tokens.proofs.quantifier.brace_form.Tie as tie
 
 -- the digits of the first number stand in the pattern, and those of the second after them
-first-fits : (c : tie.After-numeral-at) → c .numeral-at .result .size ≤ length (c .before .before .args .s .now) - c .before .before .args .at
-first-fits c = numeral-fits 10 (c .before .before .args .s .now) (c .before .before .args .at) (c .numeral-at .result) (c .numeral-at .ensures)
+first-fits : (c : tie.After-decimal-at) → c .decimal-at .result .size ≤ length (c .before .before .args .s .now) - c .before .before .args .at
+first-fits c = numeral-fits 10 (c .before .before .args .s .now) (c .before .before .args .at) (c .decimal-at .result) (c .decimal-at .ensures)
 
-both-fit : (c : tie.After-numeral-at2)
-    → c .before .before .before .numeral-at .result .size + c .numeral-at2 .result .size
+both-fit : (c : tie.After-decimal-at2)
+    → c .before .before .before .decimal-at .result .size + c .decimal-at2 .result .size
     ≤ length (c .before .before .before .before .before .args .s .now)
 both-fit c =
     let args = c .before .before .before .before .before .args in
-    let a = c .before .before .before .numeral-at in
-    let b = c .numeral-at2 in
+    let a = c .before .before .before .decimal-at in
+    let b = c .decimal-at2 in
     omega (arith, first-fits (c .before .before .before), numeral-fits 10 (args .s .now) (args .at + a .result .size + 1) (b .result) (b .ensures))
 
-numeral-at-requires : tie.Need-numeral-at-requires
-numeral-at-requires c κs = omega arith
+decimal-at-requires : tie.Need-decimal-at-requires
+decimal-at-requires c κs = tt
 
 add-comma : tie.Need-add-comma
 add-comma c = omega (arith, first-fits c)
@@ -41,7 +41,7 @@ bounded-form-requires c κs = tt
 returns : tie.Need-returns
 returns c =
     let args = c .before .before .before .before .before .before .args in
-    let a = c .before .before .before .before .numeral-at in
+    let a = c .before .before .before .before .decimal-at in
     let s = args .s .now in
     let at = args .at in
     let p = c .before .before .before .peek in
@@ -54,18 +54,18 @@ no-form-requires c κs = tt
 returns-2 : tie.Need-returns-2
 returns-2 c =
     let args = c .before .before .before .before .before .before .args in
-    let a = c .before .before .before .before .numeral-at in
+    let a = c .before .before .before .before .decimal-at in
     let s = args .s .now in
     let at = args .at in
     let p = c .before .before .before .peek in
     let from : a .result .some ≡ false = c .before .if2 .left in
     rw (braces-one s at (a .result) (p .result) (a .ensures) (p .ensures) (c .before .before .if1 .taken), from) (c .no-form .ensures)
 
-add-numeral-at : tie.Need-add-numeral-at
-add-numeral-at c = omega (arith, first-fits (c .before .before))
+add-decimal-at : tie.Need-add-decimal-at
+add-decimal-at c = omega (arith, first-fits (c .before .before))
 
-numeral-at-requires-2 : tie.Need-numeral-at-requires-2
-numeral-at-requires-2 c κs = omega arith
+decimal-at-requires-2 : tie.Need-decimal-at-requires-2
+decimal-at-requires-2 c κs = tt
 
 add-size : tie.Need-add-size
 add-size c = omega (arith, both-fit c)
@@ -90,9 +90,9 @@ returns-3 c =
     let args = c .before .before .before .before .before .before .before .before .before .args in
     let s = args .s .now in
     let at = args .at in
-    let a = c .before .before .before .before .before .before .before .numeral-at in
+    let a = c .before .before .before .before .before .before .before .decimal-at in
     let p = c .before .before .before .before .before .before .peek in
-    let b = c .before .before .before .before .numeral-at2 in
+    let b = c .before .before .before .before .decimal-at2 in
     let q = c .before .before .before .peek2 in
     let if1 = c .before .before .before .before .before .if1 in
     rw (
@@ -108,11 +108,11 @@ open-form-requires c κs = tt
 returns-4 : tie.Need-returns-4
 returns-4 c =
     let args = c .before .before .before .before .before .before .before .before .before .before .args in
-    let a = c .before .before .before .before .before .before .before .before .numeral-at in
+    let a = c .before .before .before .before .before .before .before .before .decimal-at in
     let s = args .s .now in
     let at = args .at in
     let p = c .before .before .before .before .before .before .before .peek in
-    let b = c .before .before .before .before .before .numeral-at2 in
+    let b = c .before .before .before .before .before .decimal-at2 in
     let q = c .before .before .before .before .peek2 in
     let if1 = c .before .before .before .before .before .before .if1 in
     let if3 = c .before .before .before .if3 in
@@ -131,11 +131,11 @@ no-form-requires-2 c κs = tt
 returns-5 : tie.Need-returns-5
 returns-5 c =
     let args = c .before .before .before .before .before .before .before .before .before .before .args in
-    let a = c .before .before .before .before .before .before .before .before .numeral-at in
+    let a = c .before .before .before .before .before .before .before .before .decimal-at in
     let s = args .s .now in
     let at = args .at in
     let p = c .before .before .before .before .before .before .before .peek in
-    let b = c .before .before .before .before .before .numeral-at2 in
+    let b = c .before .before .before .before .before .decimal-at2 in
     let q = c .before .before .before .before .peek2 in
     let if1 = c .before .before .before .before .before .before .if1 in
     let if3 = c .before .before .before .if3 in
@@ -156,9 +156,9 @@ returns-6 c =
     let args = c .before .before .before .before .before .before .before .before .args in
     let s = args .s .now in
     let at = args .at in
-    let a = c .before .before .before .before .before .before .numeral-at in
+    let a = c .before .before .before .before .before .before .decimal-at in
     let p = c .before .before .before .before .before .peek in
-    let b = c .before .before .before .numeral-at2 in
+    let b = c .before .before .before .decimal-at2 in
     let q = c .before .before .peek2 in
     let if1 = c .before .before .before .before .if1 in
     rw (
@@ -170,6 +170,6 @@ returns-6 c =
 pub brace-form-spec : {M : Type 1} → statement M
 brace-form-spec =
     tie.close
-    (tie.spec numeral-at-requires add-comma peek-requires add-bounded-form bounded-form-requires returns no-form-requires returns-2 add-numeral-at
-    numeral-at-requires-2 add-size add-size-2 add-peek add-peek-2 peek-requires-2 bounded-form-requires-2 returns-3 open-form-requires returns-4
+    (tie.spec decimal-at-requires add-comma peek-requires add-bounded-form bounded-form-requires returns no-form-requires returns-2 add-decimal-at
+    decimal-at-requires-2 add-size add-size-2 add-peek add-peek-2 peek-requires-2 bounded-form-requires-2 returns-3 open-form-requires returns-4
     no-form-requires-2 returns-5 no-form-requires-3 returns-6)

@@ -1,7 +1,7 @@
 -- `tokens::quantifier::form_at` meets its contract: the byte at the place is `?`, `*`, `+`, an opening brace, or none of them.
 use native.Mathlib.Omega.{arith}
 use borrow.Author.Tests.{ne-eqb}
-use Rattle.tokens.proofs.Suffixes.{inside}
+use Rattle.atoms.proofs.Suffixes.{inside}
 use Rattle.tokens.proofs.Forms.{form-is}
 use Rattle.tokens.proofs.quantifier.form_at.Statement.{statement}
 use Rattle.tokens.proofs.quantifier.form_at.Tie as tie

@@ -1,6 +1,6 @@
 -- `tokens::quantifier::open_form` meets its contract: its test is the definition's.
 use borrow.Author.Tests.{lt-ltb, le-ltb}
-use Rattle.tokens.specs.Number.{cap}
+use Rattle.atoms.specs.Number.{cap}
 use Rattle.tokens.specs.Quantifier.{open-ended}
 use Rattle.tokens.proofs.quantifier.open_form.Statement.{statement}
 use Rattle.tokens.proofs.quantifier.open_form.Tie as tie

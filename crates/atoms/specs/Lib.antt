@@ -1,0 +1,5 @@
+-- What stands for bytes, from the bytes at its place on, in the order of the rules: faults, numbers, escapes, classes.
+pub mod Fault
+pub mod Number
+pub mod Escape
+pub mod Class

@@ -1,0 +1,99 @@
+// Classes: what each member adds to the set, the other case, negation, and the place after the closing bracket.
+use crate::Atom;
+use crate::Class;
+use crate::members::byte_of;
+use crate::members::member_at;
+use crate::number::peek;
+ghost use mathlib.Core.Path.{_≡_};
+ghost use mathlib.Core.Bool.{cond, true};
+ghost use lib.ListN.{drop};
+ghost use Rattle.sets.specs.Set.{emptySet};
+ghost use Rattle.kinds.specs.Case.{caseClosed};
+ghost use Rattle.atoms.specs.Class.{joined, refusedClass, settled, membersOf, classOf};
+
+// A set with what a member adds.
+fn join(set: [u64; 4], low: Atom, high: Atom) -> [u64; 4]
+    ensures { λ r. ⌜ r ≡ joined set low high ⌝ }
+{
+    match low {
+        Atom::Byte(b) => sets::insert_range(set, b, byte_of(high)),
+        Atom::OfKind(k) => sets::union(set, kinds::of_kind(k)),
+        Atom::NotOfKind(k) => sets::union(set, kinds::not_of_kind(k)),
+        Atom::Dot => set,
+        Atom::NotNewline => set,
+        Atom::Start => set,
+        Atom::End => set,
+    }
+}
+
+// A set, with the other case of each member if caseless.
+pub fn cased(caseless: bool, set: [u64; 4]) -> [u64; 4]
+    ensures { λ r. ⌜ r ≡ cond caseless (caseClosed set) set ⌝ }
+{
+    if caseless {
+        return kinds::close_case(set);
+    }
+    set
+}
+
+// The set of a whole class: the other case comes before negation.
+fn settle(caseless: bool, negated: bool, set: [u64; 4]) -> [u64; 4]
+    ensures { λ r. ⌜ r ≡ settled caseless negated set ⌝ }
+{
+    let all = cased(caseless, set);
+    if negated {
+        return sets::complement(all);
+    }
+    all
+}
+
+// A refused class.
+fn refused(number: u32, place: usize) -> Class
+    ensures { λ r. ⌜ r ≡ refusedClass number place ⌝ }
+{
+    Class {
+        number,
+        place,
+        set: sets::empty(),
+    }
+}
+
+// The members from a place on, up to the closing bracket.
+fn members_at(s: &[u8], at: usize, caseless: bool, negated: bool) -> Class
+    ensures { λ r. ⌜ r ≡ membersOf caseless negated true emptySet 0 (drop at (now (s .entry))) at ⌝ }
+{
+    let mut set = sets::empty();
+    let mut first = true;
+    let mut i = at;
+    while i < s.len() {
+        let after = i + 1;
+        if (s[i] == b']') & !first {
+            return Class {
+                number: 0,
+                place: after,
+                set: settle(caseless, negated, set),
+            };
+        }
+        let m = member_at(s, i);
+        if m.fault != 0 {
+            return refused(m.fault, i);
+        }
+        let low = m.low;
+        let high = m.high;
+        let more = join(set, low, high);
+        set = more;
+        first = false;
+        i += m.size;
+    }
+    refused(8, i)
+}
+
+// The class at a place after its `[`.
+pub fn class_at(s: &[u8], at: usize, caseless: bool) -> Class
+    ensures { λ r. ⌜ r ≡ classOf caseless (drop at (now (s .entry))) at ⌝ }
+{
+    if peek(s, at) == b'^' {
+        return members_at(s, at + 1, caseless, true);
+    }
+    members_at(s, at, caseless, false)
+}
