@@ -15,7 +15,6 @@ use lib.Seq.{sets, sets-eq, set-at, take-suc, take-length, append-snoc, length-t
 use Rattle.sets.specs.Set.{has, setOf, emptySet}
 use Rattle.sets.proofs.Laws.{Words, words-setOf, by-members, setOf-ext, zero-word, empty-words}
 use Rattle.regex.specs.Form.{write, positions}
-use Rattle.regex.specs.Count.{saturating}
 use Rattle.regex.specs.Rule.{ByteSet}
 use Rattle.regex.specs.Automaton.{follow, items}
 use Rattle.regex.proofs.Logic.{false-T}
@@ -216,13 +215,13 @@ handed-out {f} {b} {r} {t} {out} room h i fits j =
     λ p q l m. h .follows (length-zeros 1024) p q l m ∙ ap (λ (v : Bool). v || follow inside f b p q) (has-zeros p q l m) in
     cc (h .fragment, follow-moved f b room r out (h .long ∙ length-zeros 1024) members i fits, j, takes-moved f b t room (h .takes))
 
-pub parts-none : (t : Syntax) (b : ℕ) → 256 < b + saturating t → noParts ≡ partsOf t b
+pub parts-none : (t : Syntax) (b : ℕ) → 256 < b + positions (write t) → noParts ≡ partsOf t b
 unfolding partsOf
-parts-none t b h = rw (lt-leb (b + saturating t) 256 h)
+parts-none t b h = rw (lt-leb (b + positions (write t)) 256 h)
 
-pub parts-whole : (t : Syntax) (b : ℕ) → b + saturating t ≤ 256 → formParts (write t) b ≡ partsOf t b
+pub parts-whole : (t : Syntax) (b : ℕ) → b + positions (write t) ≤ 256 → formParts (write t) b ≡ partsOf t b
 unfolding partsOf
-parts-whole t b h = rw (le-leb (b + saturating t) 256 h)
+parts-whole t b h = rw (le-leb (b + positions (write t)) 256 h)
 
 -- ---- the rows of the parts, for callers
 
@@ -248,7 +247,7 @@ flat-row (c ∷ cs) (suc i) z h =
     let e : suc i * 4 ≡ suc (suc (suc (suc (i * 4)))) = omega arith in
     ap (λ (k : ℕ). fourWords (drop k (flat (c ∷ cs) ++ z))) e ∙ flat-row cs i z (omega arith)
 
-module _ (t : Syntax) (b i : ℕ) (fits : b + saturating t ≤ 256) (low : i < positions (write t)) where
+module _ (t : Syntax) (b i : ℕ) (fits : b + positions (write t) ≤ 256) (low : i < positions (write t)) where
   pub follow-row : fourWords (drop (i * 4) (partsOf t b .follow)) ≡ setOf (follow inside (write t) b (b + i))
   unfolding formParts padded setOf
   follow-row =

@@ -7,7 +7,7 @@ use lib.Dec.{leb}
 use lib.ListN.{length, getD, replicate}
 use Rattle.sets.specs.Set.{setOf, emptySet}
 use Rattle.regex.specs.Form.{Form, write, positions}
-use Rattle.regex.specs.Count.{limit, saturating}
+use Rattle.regex.specs.Count.{limit}
 use Rattle.regex.specs.Rule.{Assertion, ByteSet, world}
 use Rattle.regex.specs.Automaton.{first, last, follow, items}
 use Rattle.pattern.specs.Nodes.{Syntax}
@@ -67,4 +67,4 @@ noParts = record {
 
 -- The parts of a tree: of its written-out form, where its positions and those before them are at most 256 together.
 unfoldable pub partsOf : Syntax → ℕ → Parts
-partsOf t base = cond (leb (base + saturating t) limit) (formParts (write t) base) noParts
+partsOf t base = cond (leb (base + positions (write t)) limit) (formParts (write t) base) noParts

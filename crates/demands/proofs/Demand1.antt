@@ -11,7 +11,8 @@ use Rattle.table.specs.Layout.{maxRules, rulesOf, positionsOf}
 use Rattle.table.specs.Table.{isTable}
 use Rattle.table.proofs.empty.Met.{met as empty-met}
 use Rattle.table.proofs.is_table.Met.{met as is_table-met}
-use Rattle.regex.specs.Count.{limit, saturating}
+use Rattle.regex.specs.Form.{write, positions}
+use Rattle.regex.specs.Count.{limit}
 use Rattle.pattern.specs.Walk.{Read, tree, refused}
 use Rattle.pattern.specs.Read.{readOf, optionsOf}
 use Rattle.rules.specs.Add.{answer, unknownFlag, hasId, placed, addAnswer}
@@ -55,7 +56,7 @@ place-zero t id flags pattern =
     go true false true d r e h = refl
     go true false false true r e h = refl
     go true false false false (refused number place) e h = absurd (refusal-numbered pattern (optionsOf flags) number place e h)
-    go true false false false (tree x) e h = last (ltb limit (positionsOf t + saturating x)) h
+    go true false false false (tree x) e h = last (ltb limit (positionsOf t + positions (write x))) h
       where
         last : (z : Bool) → cond z (answer 17 (length pattern)) (answer 0 0) .number ≡ 0 → cond z (answer 17 (length pattern)) (answer 0 0) .place ≡ 0
         last true h = absurd (omega (arith, h))

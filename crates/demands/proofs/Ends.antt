@@ -14,9 +14,8 @@ use Rattle.table.specs.Layout.{maxRules, maxPositions, rulesOf, positionsOf, re
 use Rattle.table.specs.Table.{knownFlags, isTable}
 use Rattle.table.specs.Automaton.{automaton}
 use Rattle.table.proofs.Test.{Passes, passes, accepted as passing}
-use Rattle.regex.specs.Count.{limit, saturating}
-use Rattle.regex.specs.Form.{write}
-use Rattle.regex.proofs.Counted.{within-limit}
+use Rattle.regex.specs.Form.{write, positions}
+use Rattle.regex.specs.Count.{limit}
 use Rattle.pattern.specs.Nodes.{Syntax}
 use Rattle.pattern.specs.Walk.{Read, tree, refused}
 use Rattle.pattern.specs.Read.{optionsOf}
@@ -29,7 +28,7 @@ use Rattle.rules.specs.Add.{answer, unknownFlag, hasId, placed, addAnswer, with
 use Rattle.rules.specs.Additions.{Addition, readingOf}
 use Rattle.rules.proofs.Kept.{passes-added}
 use Rattle.rules.proofs.Parts.{parts-positions}
-use Rattle.rules.proofs.Readings.{reads, refusal-numbered}
+use Rattle.rules.proofs.Readings.{refusal-numbered}
 use Rattle.rules.proofs.Regions.{added-rules}
 use Rattle.stream.specs.declared.Stream.{Stream}
 use Rattle.stream.specs.declared.Closed.{Closed}
@@ -68,19 +67,19 @@ module _ (t : List ℕ) (a : Addition) (ok : addAnswer t (a .id) (a .flags) (a .
       checked (isTable t) (unknownFlag (a .flags)) (hasId t (a .id)) (leb maxRules (rulesOf t)) (placed (positionsOf t) (length (a .pattern)) (readingOf a)) ok
 
   -- its pattern is read and fits
-  read : (x : Syntax) × (readingOf a ≡ tree x) × (positionsOf t + saturating x ≤ limit)
+  read : (x : Syntax) × (readingOf a ≡ tree x) × (positionsOf t + positions (write x) ≤ limit)
   unfolding placed
   read = go (readingOf a) refl (checks .4)
     where
-      fits : (x : Syntax) (b : Bool) → ltb limit (positionsOf t + saturating x) ≡ b → cond b (answer 17 (length (a .pattern))) (answer 0 0) .number ≡ 0
-          → positionsOf t + saturating x ≤ limit
+      fits : (x : Syntax) (b : Bool) → ltb limit (positionsOf t + positions (write x)) ≡ b → cond b (answer 17 (length (a .pattern))) (answer 0 0) .number ≡ 0
+          → positionsOf t + positions (write x) ≤ limit
       fits x true e h = absurd (omega (arith, h))
-      fits x false e h = ltb-false limit (positionsOf t + saturating x) e
+      fits x false e h = ltb-false limit (positionsOf t + positions (write x)) e
 
       go : (r : Read) → readingOf a ≡ r → placed (positionsOf t) (length (a .pattern)) r .number ≡ 0
-          → (x : Syntax) × (readingOf a ≡ tree x) × (positionsOf t + saturating x ≤ limit)
+          → (x : Syntax) × (readingOf a ≡ tree x) × (positionsOf t + positions (write x) ≤ limit)
       go (refused number place) e h = absurd (refusal-numbered (a .pattern) (optionsOf (a .flags)) number place e h)
-      go (tree x) e h = (x, e, fits x (ltb limit (positionsOf t + saturating x)) refl h)
+      go (tree x) e h = (x, e, fits x (ltb limit (positionsOf t + positions (write x))) refl h)
 
   abbrev x : Syntax
   x = read .0
@@ -105,7 +104,6 @@ module _ (t : List ℕ) (a : Addition) (ok : addAnswer t (a .id) (a .flags) (a .
       omega (
         arith,
         read .2,
-        within-limit x (reads (a .pattern) (optionsOf (a .flags)) x .0 (read .1) .fits),
         ap (λ (p : Parts). p .positions) (sym (parts-whole x (positionsOf t) (read .2))),
         parts-positions (write x) (positionsOf t),
       )

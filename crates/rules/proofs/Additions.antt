@@ -19,8 +19,7 @@ use Rattle.table.specs.Automaton.{Automaton, automaton}
 use Rattle.table.proofs.Test.{Passes, passes, accepted, refused as no-table}
 use Rattle.table.proofs.Emptying.{emptied-zero, empty-passes, empty-automaton}
 use Rattle.regex.specs.Form.{write, positions}
-use Rattle.regex.specs.Count.{limit, saturating}
-use Rattle.regex.proofs.Counted.{within-limit}
+use Rattle.regex.specs.Count.{limit}
 use Rattle.pattern.specs.Nodes.{Syntax}
 use Rattle.pattern.specs.Walk.{Read, tree, refused}
 use Rattle.pattern.specs.Read.{optionsOf}
@@ -58,16 +57,9 @@ unfolding encode
 encode-more t [] r = refl
 encode-more t (x ∷ xs) r = encode-more (added t (x .id) (x .flags) (partsOf (x .tree) (positionsOf t))) xs r
 
--- ---- a rule that was read
-
-module _ (a : Addition) (x : Syntax) (reading : readingOf a ≡ tree x) where
-  -- its tree has as many positions as its count says
-  counted : saturating x ≡ positions (write x)
-  counted = within-limit x (reads (a .pattern) (optionsOf (a .flags)) x .0 reading .fits)
-
-  -- and its parts have as many, where they fit
-  sized-parts : (n : ℕ) → n + saturating x ≤ limit → partsOf x n .positions ≡ positions (write x)
-  sized-parts n room = ap (λ (p : Parts). p .positions) (sym (parts-whole x n room)) ∙ parts-positions (write x) n
+-- the parts of a tree have as many positions as it, where they fit
+sized-parts : (x : Syntax) (n : ℕ) → n + positions (write x) ≤ limit → partsOf x n .positions ≡ positions (write x)
+sized-parts x n room = ap (λ (p : Parts). p .positions) (sym (parts-whole x n room)) ∙ parts-positions (write x) n
 
 -- no record has an id that the words have not
 no-record : (t : List ℕ) (id : ℕ) → hasId t id ≡ false → (c : ℕ) → c < rulesOf t → recordWord t c 0 ≡ id → ⊥
@@ -101,7 +93,7 @@ built-none t long =
 
 -- an addition is accepted
 module _ (t : List ℕ) (rs : List Accepted) (b : Built t rs) (a : Addition) (x : Syntax) (reading : readingOf a ≡ tree x)
-    (known : bitAnd (a .flags) knownFlags ≡ a .flags) (free : taken rs (a .id) ≡ false) (few : length rs < maxRules) (room : used rs + saturating x ≤ limit) where
+    (known : bitAnd (a .flags) knownFlags ≡ a .flags) (free : taken rs (a .id) ≡ false) (few : length rs < maxRules) (room : used rs + positions (write x) ≤ limit) where
   abbrev r : Accepted
   r = record { id = a .id; flags = a .flags; tree = x }
 
@@ -120,14 +112,11 @@ module _ (t : List ℕ) (rs : List Accepted) (b : Built t rs) (a : Addition) (x 
   read : Reads (a .pattern) (optionsOf (a .flags)) x
   read = reads (a .pattern) (optionsOf (a .flags)) x .0 reading
 
-  sized : saturating x ≡ positions (write x)
-  sized = counted a x reading
-
   are : parts ≡ formParts (write x) n
   are = sym (parts-whole x n (omega (arith, b .positions)))
 
   more : parts .positions ≡ positions (write x)
-  more = sized-parts a x reading n (omega (arith, b .positions))
+  more = sized-parts x n (omega (arith, b .positions))
 
   -- the table has none with this id
   fresh : (c : ℕ) → c < rulesOf t → recordWord t c 0 ≡ a .id → ⊥
@@ -160,14 +149,14 @@ module _ (t : List ℕ) (rs : List Accepted) (b : Built t rs) (a : Addition) (x 
   encoded =
       subst (Encodes (automaton (added t (a .id) (a .flags) parts))) (sym (byId-more rs r ∙ ap (λ (k : ℕ). insert (record { rule = r; from = k }) ps) (sym (b .positions))))
       (encodes-more (automaton t) (automaton (added t (a .id) (a .flags) parts)) (placeOf t (a .id)) r parts
-      (extended t (a .id) (a .flags) parts (b .passed .long) (omega (arith, b .rules)) (omega (arith, b .positions, more, sized)))
-      are (omega (arith, b .positions, sized)) ps (b .encodes) here (read .full)
+      (extended t (a .id) (a .flags) parts (b .passed .long) (omega (arith, b .rules)) (omega (arith, b .positions, more)))
+      are (omega (arith, b .positions)) ps (b .encodes) here (read .full)
       (λ c h e. fresh c (omega (arith, b .encodes .rules)) (word-id c (omega (arith, b .encodes .rules)) ∙ e)))
 
   pub built-more : Built (added t (a .id) (a .flags) (partsOf x (positionsOf t))) (rs ++ (record { id = a .id; flags = a .flags; tree = x } ∷ []))
   built-more =
       record {
-        passed = passes-added t (a .id) (a .flags) parts (b .passed) (omega (arith, b .rules)) (omega (arith, b .positions, more, sized)) (a .narrow) known fresh;
+        passed = passes-added t (a .id) (a .flags) parts (b .passed) (omega (arith, b .rules)) (omega (arith, b .positions, more)) (a .narrow) known fresh;
         rules = added-rules t (a .id) (a .flags) parts (b .passed .long) ∙ ap (λ (k : ℕ). k + 1) (b .rules) ∙ sym (length-append rs (r ∷ []));
         positions = added-positions t (a .id) (a .flags) parts (b .passed .long) ∙ ap₂ (λ (j k : ℕ). j + k) (b .positions) more ∙ sym (used-more rs r);
         ids = λ id.
@@ -202,13 +191,13 @@ passed-chain false true f d h = absurd (omega (arith, h))
 passed-chain false false true d h = absurd (omega (arith, h))
 passed-chain false false false d h = (refl, refl, refl, h)
 
-fits : (n k : ℕ) (x : Syntax) → placed n k (tree x) .number ≡ 0 → n + saturating x ≤ limit
+fits : (n k : ℕ) (x : Syntax) → placed n k (tree x) .number ≡ 0 → n + positions (write x) ≤ limit
 unfolding placed
-fits n k x h = test (ltb limit (n + saturating x)) refl h
+fits n k x h = test (ltb limit (n + positions (write x))) refl h
   where
-    test : (c : Bool) → ltb limit (n + saturating x) ≡ c → cond c (answer 17 k) (answer 0 0) .number ≡ 0 → n + saturating x ≤ limit
+    test : (c : Bool) → ltb limit (n + positions (write x)) ≡ c → cond c (answer 17 k) (answer 0 0) .number ≡ 0 → n + positions (write x) ≤ limit
     test true e h = absurd (omega (arith, h))
-    test false e h = ltb-false limit (n + saturating x) e
+    test false e h = ltb-false limit (n + positions (write x)) e
 
 known-flags : (flags : ℕ) → unknownFlag flags ≡ false → bitAnd flags knownFlags ≡ flags
 unfolding unknownFlag
@@ -217,7 +206,7 @@ known-flags flags e = eqb-true (bitAnd flags knownFlags) flags (not-false (eqb (
 module _ (rs : List Accepted) (a : Addition) where
   -- what an accepted addition has passed
   let-in : (x : Syntax) → readingOf a ≡ tree x → nextAnswer rs a .number ≡ 0
-      → (bitAnd (a .flags) knownFlags ≡ a .flags) × (taken rs (a .id) ≡ false) × (length rs < maxRules) × (used rs + saturating x ≤ limit)
+      → (bitAnd (a .flags) knownFlags ≡ a .flags) × (taken rs (a .id) ≡ false) × (length rs < maxRules) × (used rs + positions (write x) ≤ limit)
   unfolding nextAnswer
   let-in x e h =
       let c = passed-chain (unknownFlag (a .flags)) (taken rs (a .id)) (leb maxRules (length rs)) (placed (used rs) (length (a .pattern)) (readingOf a)) h in (
@@ -232,13 +221,13 @@ module _ (rs : List Accepted) (a : Addition) where
   unfolding nextAnswer placed unknownFlag
   accepts = (
     λ h. by-reading (readingOf a) refl h,
-    λ c. rw (eq-eqb (bitAnd (a .flags) knownFlags) (a .flags) (c .known), c .free, lt-leb maxRules (length rs) (c .few), c .reading, le-ltb limit (used rs + saturating (c .read)) (omega (arith, c .room, counted a (c .read) (c .reading)))),
+    λ c. rw (eq-eqb (bitAnd (a .flags) knownFlags) (a .flags) (c .known), c .free, lt-leb maxRules (length rs) (c .few), c .reading, le-ltb limit (used rs + positions (write (c .read))) (c .room)),
   )
     where
       by-reading : (d : Read) → readingOf a ≡ d → nextAnswer rs a .number ≡ 0 → Accepts rs a
       by-reading (tree x) e h =
           let c = let-in x e h in
-          record { known = c .0; free = c .1; few = c .2; read = x; reading = e; room = omega (arith, c .3, counted a x e) }
+          record { known = c .0; free = c .1; few = c .2; read = x; reading = e; room = c .3 }
       by-reading (refused number place) e h =
           let c = passed-chain (unknownFlag (a .flags)) (taken rs (a .id)) (leb maxRules (length rs)) (placed (used rs) (length (a .pattern)) (readingOf a)) h in
           absurd (refusal-numbered (a .pattern) (optionsOf (a .flags)) number place e (ap (λ (d : Read). placed (used rs) (length (a .pattern)) d .number) (sym e) ∙ c .3))
@@ -263,7 +252,7 @@ addition-passes t passed a = go (eqb (addAnswer t (a .id) (a .flags) (a .pattern
         let room = fits (positionsOf t) (length (a .pattern)) x (c .3) in
         accepted (added t (a .id) (a .flags) (partsOf x (positionsOf t)))
         (passes-added t (a .id) (a .flags) (partsOf x (positionsOf t)) (passes t passed) (leb-false maxRules (rulesOf t) (c .2))
-        (omega (arith, room, counted a x f, sized-parts a x f (positionsOf t) room)) (a .narrow) (known-flags (a .flags) (c .0)) (no-record t (a .id) (c .1)))
+        (omega (arith, room, sized-parts x (positionsOf t) room)) (a .narrow) (known-flags (a .flags) (c .0)) (no-record t (a .id) (c .1)))
 
 -- ---- each addition keeps what is built
 

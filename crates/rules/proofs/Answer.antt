@@ -14,9 +14,8 @@ use Rattle.sets.proofs.Laws.{any-at}
 use Rattle.table.specs.Layout.{maxRules, maxPositions, rulesOf, positionsOf, recordWord}
 use Rattle.table.specs.Table.{isTable, knownFlags}
 use Rattle.table.proofs.Test.{Passes, passes}
-use Rattle.regex.specs.Form.{write}
-use Rattle.regex.specs.Count.{limit, saturating}
-use Rattle.regex.proofs.Counted.{within-limit}
+use Rattle.regex.specs.Form.{write, positions}
+use Rattle.regex.specs.Count.{limit}
 use Rattle.pattern.specs.Nodes.{Syntax, treeAt}
 use Rattle.pattern.specs.Walk.{Read, tree, refused}
 use Rattle.pattern.specs.Read.{readOf, optionsOf, answerOf}
@@ -153,43 +152,39 @@ module _ (t : List ℕ) (id flags : ℕ) (s : List ℕ) where
       unfolding x
       read = accepted-tree s (optionsOf flags) r is fine .1
 
-      few : saturating x ≤ limit
-      unfolding x
-      few = accepted-tree s (optionsOf flags) r is fine .2 .few
-
       are : parts ≡ partsOf x (positionsOf t)
       unfolding x
       are = built ∙ ap (λ (y : Syntax). partsOf y (positionsOf t)) (accepted-tree s (optionsOf flags) r is fine .2 .tree)
 
-      fits-is : parts .fits ≡ leb (positionsOf t + saturating x) limit
+      fits-is : parts .fits ≡ leb (positionsOf t + positions (write x)) limit
       unfolding partsOf formParts
-      fits-is = ap (λ (p : Parts). p .fits) are ∙ go (leb (positionsOf t + saturating x) limit)
+      fits-is = ap (λ (p : Parts). p .fits) are ∙ go (leb (positionsOf t + positions (write x)) limit)
         where
           go : (b : Bool) → cond b (formParts (write x) (positionsOf t)) noParts .fits ≡ b
           go true = refl
           go false = refl
 
-      last-answer : addAnswer t id flags s ≡ cond (ltb limit (positionsOf t + saturating x)) (answer 17 (length s)) (answer 0 0)
+      last-answer : addAnswer t id flags s ≡ cond (ltb limit (positionsOf t + positions (write x))) (answer 17 (length s)) (answer 0 0)
       unfolding placed
       last-answer = then-read ∙ ap (placed (positionsOf t) (length s)) read
 
       -- its positions do not fit
       pub too-many : parts .fits ≡ false → Answers (answer 17 (length s)) t
       too-many e =
-          let over : limit < positionsOf t + saturating x = leb-false (positionsOf t + saturating x) limit (sym fits-is ∙ e) in
-          kept (answer 17 (length s)) (sym (last-answer ∙ ap (λ (b : Bool). cond b (answer 17 (length s)) (answer 0 0)) (lt-ltb limit (positionsOf t + saturating x) over))) (λ z. omega arith)
+          let over : limit < positionsOf t + positions (write x) = leb-false (positionsOf t + positions (write x)) limit (sym fits-is ∙ e) in
+          kept (answer 17 (length s)) (sym (last-answer ∙ ap (λ (b : Bool). cond b (answer 17 (length s)) (answer 0 0)) (lt-ltb limit (positionsOf t + positions (write x)) over))) (λ z. omega arith)
 
       -- they do
       module _ (e : parts .fits ≡ true) where
-        room : positionsOf t + saturating x ≤ limit
-        room = leb-true (positionsOf t + saturating x) limit (sym fits-is ∙ e)
+        room : positionsOf t + positions (write x) ≤ limit
+        room = leb-true (positionsOf t + positions (write x)) limit (sym fits-is ∙ e)
 
         pub fits-room : positionsOf t + parts .positions ≤ maxPositions
         fits-room =
-            omega (arith, room, few, within-limit x few, ap (λ (p : Parts). p .positions) (are ∙ sym (parts-whole x (positionsOf t) room)), parts-positions (write x) (positionsOf t))
+            omega (arith, room, ap (λ (p : Parts). p .positions) (are ∙ sym (parts-whole x (positionsOf t) room)), parts-positions (write x) (positionsOf t))
 
         pub accepted : (u : List ℕ) → u ≡ added t id flags parts → Answers (answer 0 0) u
         unfolding addWords withRule
         accepted u w =
-            let z : addAnswer t id flags s ≡ answer 0 0 = last-answer ∙ ap (λ (b : Bool). cond b (answer 17 (length s)) (answer 0 0)) (le-ltb limit (positionsOf t + saturating x) room) in
+            let z : addAnswer t id flags s ≡ answer 0 0 = last-answer ∙ ap (λ (b : Bool). cond b (answer 17 (length s)) (answer 0 0)) (le-ltb limit (positionsOf t + positions (write x)) room) in
             (sym z, w ∙ ap (added t id flags) are ∙ sym (ap₂ (λ (d : Added) (o : Read). cond (eqb (d .number) 0) (withRule t id flags o) t) z read))

@@ -3,7 +3,6 @@
 use mathlib.Core.Path.{_≡_, refl, sym, ap, _∙_}
 use mathlib.Core.List.{List, []}
 use Prim.Native.Nat.{ℕ, _+_, _*_, _/_, _%_, _≤_, _<_}
-use native.Mathlib.Omega.{arith}
 use lib.ListN.{getD, drop}
 use lib.Seq.{getD-drop}
 use Rattle.sets.specs.Set.{on, has}
@@ -11,10 +10,9 @@ use Rattle.sets.proofs.Laws.{has-setOf}
 use Rattle.table.specs.Layout.{rowHas}
 use Rattle.table.proofs.Rows.{row-member}
 use Rattle.regex.specs.Form.{Form, write, positions}
-use Rattle.regex.specs.Count.{limit, capped, saturating}
+use Rattle.regex.specs.Count.{limit}
 use Rattle.regex.specs.Rule.{Assertion, ByteSet}
 use Rattle.regex.specs.Automaton.{first, last, follow, items}
-use Rattle.regex.proofs.Counted.{saturated}
 use Rattle.pattern.specs.Nodes.{Syntax}
 use Rattle.automaton.specs.Parts.{fourWords, inside, atStart, atEnd, formParts, partsOf}
 use Rattle.automaton.specs.declared.Parts.{Parts}
@@ -52,19 +50,14 @@ row-four l at q h =
     row-member l at q h ∙ sym (has-four (drop at l) q h ∙ ap (λ (x : ℕ). on x (q % 64)) (getD-drop at l (q / 64) 0))
 
 module _ (t : Syntax) (b : ℕ) (fits : b + positions (write t) ≤ limit) where
-  -- the builder's laws ask the saturating count, which is exact here
-  counted : b + saturating t ≤ limit
-  unfolding capped
-  counted = omega (arith, saturated t)
-
   -- row i of the follow sets
   pub parts-follow : (i q : ℕ) → i < positions (write t) → q < 256 → rowHas (formParts (write t) b .follow) (i * 4) q ≡ follow inside (write t) b (b + i) q
   parts-follow i q h l =
-      ap (λ (p : Parts). rowHas (p .follow) (i * 4) q) (parts-whole t b counted) ∙ row-four (partsOf t b .follow) (i * 4) q l
-      ∙ ap (λ (s : List ℕ). has s q) (follow-row t b i counted h) ∙ has-setOf (follow inside (write t) b (b + i)) q l
+      ap (λ (p : Parts). rowHas (p .follow) (i * 4) q) (parts-whole t b fits) ∙ row-four (partsOf t b .follow) (i * 4) q l
+      ∙ ap (λ (s : List ℕ). has s q) (follow-row t b i fits h) ∙ has-setOf (follow inside (write t) b (b + i)) q l
 
   -- row i of the byte sets
   pub parts-takes : (i x : ℕ) → i < positions (write t) → x < 256 → rowHas (formParts (write t) b .takes) (i * 4) x ≡ has (getD (items (write t)) i []) x
   parts-takes i x h l =
-      ap (λ (p : Parts). rowHas (p .takes) (i * 4) x) (parts-whole t b counted) ∙ row-four (partsOf t b .takes) (i * 4) x l
-      ∙ ap (λ (s : List ℕ). has s x) (takes-row t b i counted h) ∙ has-four (getD (items (write t)) i []) x l
+      ap (λ (p : Parts). rowHas (p .takes) (i * 4) x) (parts-whole t b fits) ∙ row-four (partsOf t b .takes) (i * 4) x l
+      ∙ ap (λ (s : List ℕ). has s x) (takes-row t b i fits h) ∙ has-four (getD (items (write t)) i []) x l

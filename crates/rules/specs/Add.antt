@@ -8,7 +8,8 @@ use lib.ListN.{length}
 use Rattle.sets.specs.Set.{any}
 use Rattle.table.specs.Layout.{maxRules, rulesOf, positionsOf, recordWord}
 use Rattle.table.specs.Table.{isTable, knownFlags}
-use Rattle.regex.specs.Count.{limit, saturating}
+use Rattle.regex.specs.Form.{write, positions}
+use Rattle.regex.specs.Count.{limit}
 use Rattle.pattern.specs.Walk.{Read, tree, refused}
 use Rattle.pattern.specs.Read.{readOf, optionsOf}
 use Rattle.automaton.specs.Parts.{partsOf}
@@ -29,7 +30,7 @@ hasId t id = any (rulesOf t) (λ a. eqb (recordWord t a 0) id)
 -- What the reader refuses is refused, 5 for the pattern's length first. Then 17: "over 256 positions with those in the table", at the pattern's length.
 unfoldable pub placed : (used len : ℕ) → Read → Added
 placed used len (refused number place) = answer number place
-placed used len (tree x) = cond (ltb limit (used + saturating x)) (answer 17 len) (answer 0 0)
+placed used len (tree x) = cond (ltb limit (used + positions (write x))) (answer 17 len) (answer 0 0)
 
 -- "Additions check 1 to 5 in order, then read the pattern left to right"; "1 to 5 have place 0"; "An accepted one has place 0."
 unfoldable pub addAnswer : List ℕ → (id flags : ℕ) → List ℕ → Added

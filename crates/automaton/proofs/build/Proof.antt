@@ -1,11 +1,23 @@
 -- `build` meets its contract: the count says whether the positions fit, and then it is the number of positions.
 use mathlib.Core.Path.{_∙_}
+use Prim.Native.Nat.{ℕ, _+_, _≤_, _<_}
 use native.Mathlib.Omega.{arith}
-use Rattle.regex.proofs.Counted.{within-limit}
-use Rattle.pattern.specs.Nodes.{treeAt}
+use Rattle.regex.specs.Form.{write, positions}
+use Rattle.regex.specs.Count.{capped, saturating}
+use Rattle.regex.proofs.Counted.{saturated}
+use Rattle.pattern.specs.Nodes.{Syntax, treeAt}
 use Rattle.automaton.proofs.Padded.{parts-none, parts-whole}
 use Rattle.automaton.proofs.build.Statement.{statement}
 use Rattle.automaton.proofs.build.Tie as tie
+
+-- the saturating count decides what the number of positions does
+over : (t : Syntax) (b : ℕ) → 256 < b + saturating t → 256 < b + positions (write t)
+unfolding capped
+over t b h = omega (arith, saturated t)
+
+within : (t : Syntax) (b : ℕ) → b + saturating t ≤ 256 → b + positions (write t) ≤ 256
+unfolding capped
+within t b h = omega (arith, saturated t)
 
 count-requires : tie.Need-count-requires
 count-requires c κs = tt
@@ -20,7 +32,8 @@ returns c =
     let c-count = c .before .before .count in
     let c-if1 = c .before .if1 in
     let v = c-start .args in
-    c-none .ensures ∙ parts-none (treeAt (v .nodes .now) (v .root)) (v .base) (omega (arith, c-count .ensures, c-if1 .taken))
+    let t = treeAt (v .nodes .now) (v .root) in
+    c-none .ensures ∙ parts-none t (v .base) (over t (v .base) (omega (arith, c-count .ensures, c-if1 .taken)))
 
 none-requires-2 : tie.Need-none-requires-2
 none-requires-2 c κs = tt
@@ -32,7 +45,8 @@ returns-2 c =
     let c-count = c .before .before .before .count in
     let c-if2 = c .before .if2 in
     let v = c-start .args in
-    c-none2 .ensures ∙ parts-none (treeAt (v .nodes .now) (v .root)) (v .base) (omega (arith, c-count .ensures, c-if2 .taken))
+    let t = treeAt (v .nodes .now) (v .root) in
+    c-none2 .ensures ∙ parts-none t (v .base) (over t (v .base) (omega (arith, c-count .ensures, c-if2 .taken)))
 
 whole-requires : tie.Need-whole-requires
 whole-requires c κs =
@@ -42,7 +56,7 @@ whole-requires c κs =
     let c-if2 = c .if2 in
     let v = c-start .args in
     let t = treeAt (v .nodes .now) (v .root) in
-    omega (arith, c-count .ensures, c-if1 .left, c-if2 .left, within-limit t (omega (arith, c-count .ensures, c-if1 .left)))
+    within t (v .base) (omega (arith, c-count .ensures, c-if1 .left, c-if2 .left))
 
 returns-3 : tie.Need-returns-3
 returns-3 c =
@@ -52,7 +66,8 @@ returns-3 c =
     let c-if1 = c .before .before .if1 in
     let c-if2 = c .before .if2 in
     let v = c-start .args in
-    c-whole .ensures ∙ parts-whole (treeAt (v .nodes .now) (v .root)) (v .base) (omega (arith, c-count .ensures, c-if1 .left, c-if2 .left))
+    let t = treeAt (v .nodes .now) (v .root) in
+    c-whole .ensures ∙ parts-whole t (v .base) (within t (v .base) (omega (arith, c-count .ensures, c-if1 .left, c-if2 .left)))
 
 pub build-spec : {M : Type 1} → statement M
 build-spec =
