@@ -2,21 +2,14 @@
 use mathlib.Core.Path.{_≡_, refl, ap}
 use mathlib.Core.Bool.{Bool, true, false, cond}
 use mathlib.Core.List.{List}
-use Prim.Native.Nat.{ℕ, _+_}
-use native.Mathlib.Omega.{arith}
-use lib.Dec.{ltb, leb}
+use Prim.Native.Nat.{ℕ}
 use lib.ListN.{length}
 use borrow.Author.Tests.{ne-eqb}
-use Rattle.table.specs.Layout.{maxRules, rulesOf, positionsOf}
+use Rattle.table.specs.Layout.{rulesOf, positionsOf}
 use Rattle.table.specs.Table.{isTable}
 use Rattle.table.proofs.empty.Met.{met as empty-met}
 use Rattle.table.proofs.is_table.Met.{met as is_table-met}
-use Rattle.regex.specs.Form.{write, positions}
-use Rattle.regex.specs.Count.{limit}
-use Rattle.pattern.specs.Walk.{Read, tree, refused}
-use Rattle.pattern.specs.Read.{readOf, optionsOf}
-use Rattle.rules.specs.Add.{answer, unknownFlag, hasId, placed, addAnswer}
-use Rattle.rules.proofs.Readings.{refusal-numbered}
+use Rattle.rules.proofs.Checks.{accepted-place}
 use Rattle.rules.proofs.add.Met.{met as add-met}
 use Rattle.stream.specs.declared.Stream.{Stream}
 use Rattle.stream.specs.declared.Opened.{Opened}
@@ -41,26 +34,6 @@ answers = record {
   closing = close-met;
   busy = busy-met;
 }
-
--- an accepted addition has a tree, and then the place is 0
-place-zero : (t : List ℕ) (id flags : ℕ) (pattern : List ℕ) → addAnswer t id flags pattern .number ≡ 0 → addAnswer t id flags pattern .place ≡ 0
-unfolding addAnswer placed
-place-zero t id flags pattern =
-    go (isTable t) (unknownFlag flags) (hasId t id) (leb maxRules (rulesOf t)) (readOf pattern (optionsOf flags)) refl
-  where
-    go : (a b c d : Bool) (r : Read) → readOf pattern (optionsOf flags) ≡ r
-        → cond a (cond b (answer 2 0) (cond c (answer 3 0) (cond d (answer 4 0) (placed (positionsOf t) (length pattern) r)))) (answer 1 0) .number ≡ 0
-        → cond a (cond b (answer 2 0) (cond c (answer 3 0) (cond d (answer 4 0) (placed (positionsOf t) (length pattern) r)))) (answer 1 0) .place ≡ 0
-    go false b c d r e h = refl
-    go true true c d r e h = refl
-    go true false true d r e h = refl
-    go true false false true r e h = refl
-    go true false false false (refused number place) e h = absurd (refusal-numbered pattern (optionsOf flags) number place e h)
-    go true false false false (tree x) e h = last (ltb limit (positionsOf t + positions (write x))) h
-      where
-        last : (z : Bool) → cond z (answer 17 (length pattern)) (answer 0 0) .number ≡ 0 → cond z (answer 17 (length pattern)) (answer 0 0) .place ≡ 0
-        last true h = absurd (omega (arith, h))
-        last false h = refl
 
 open-refused : (t : List ℕ) → ¬ (opened t .number ≡ 0) → opened t .stream ≡ fresh 0 0 true
 unfolding opened
@@ -110,7 +83,7 @@ unfolding numberOf tableAfter
 refusals = record {
   emptying = λ t bad. kept t (emptying this) bad;
   adding = λ t id flags pattern bad. kept t (adding this id flags pattern) bad;
-  added = place-zero;
+  added = accepted-place;
   opening = open-refused;
   scanning = scan-refused;
   closing = close-refused;

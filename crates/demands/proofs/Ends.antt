@@ -1,35 +1,19 @@
 -- What ends a stream, on any table and any state. An accepted addition leaves words that pass the test again with one rule more, so the counts that a state carries
 -- differ; an accepted closing hands back a valid state with the closed mark.
-use mathlib.Core.Path.{_≡_, refl, sym, ap, ap₂, _∙_}
+use mathlib.Core.Path.{_≡_, refl, ap, _∙_}
 use mathlib.Core.Bool.{Bool, true, false, cond, _&&_}
 use mathlib.Core.List.{List}
-use Prim.Native.Nat.{ℕ, _+_, _≤_, _<_}
+use Prim.Native.Nat.{ℕ}
 use native.Mathlib.Omega.{arith}
-use lib.Bits.{bitAnd}
-use lib.Dec.{eqb, leb, ltb}
+use lib.Dec.{eqb}
 use lib.ListN.{length}
-use borrow.Author.Tests.{eq-eqb, ne-eqb, eqb-true, eqb-false, leb-false, ltb-false, not-false}
-use Rattle.sets.proofs.Laws.{any-none}
-use Rattle.table.specs.Layout.{maxRules, maxPositions, rulesOf, positionsOf, recordWord}
-use Rattle.table.specs.Table.{knownFlags, isTable}
+use borrow.Author.Tests.{ne-eqb, eqb-true}
+use Rattle.table.specs.Layout.{rulesOf}
+use Rattle.table.specs.Table.{isTable}
 use Rattle.table.specs.Automaton.{automaton}
-use Rattle.table.proofs.Test.{Passes, passes, accepted as passing}
-use Rattle.regex.specs.Form.{write, positions}
-use Rattle.regex.specs.Count.{limit}
-use Rattle.pattern.specs.Nodes.{Syntax}
-use Rattle.pattern.specs.Walk.{Read, tree, refused}
-use Rattle.pattern.specs.Read.{optionsOf}
-use Rattle.automaton.specs.Parts.{partsOf}
-use Rattle.automaton.specs.declared.Parts.{Parts}
-use Rattle.automaton.proofs.Padded.{parts-whole}
-use Rattle.rules.specs.declared.Added.{Added}
-use Rattle.rules.specs.Words.{added}
-use Rattle.rules.specs.Add.{answer, unknownFlag, hasId, placed, addAnswer, withRule, addWords}
-use Rattle.rules.specs.Additions.{Addition, readingOf}
-use Rattle.rules.proofs.Kept.{passes-added}
-use Rattle.rules.proofs.Parts.{parts-positions}
-use Rattle.rules.proofs.Readings.{refusal-numbered}
-use Rattle.rules.proofs.Regions.{added-rules}
+use Rattle.rules.specs.Add.{addAnswer, addWords}
+use Rattle.rules.specs.Additions.{Addition}
+use Rattle.rules.proofs.Checks.{accepted-rules, accepted-passes}
 use Rattle.stream.specs.declared.Stream.{Stream}
 use Rattle.stream.specs.declared.Closed.{Closed}
 use Rattle.stream.specs.Valid.{sameCounts, liveInside, marksSingle, underLimit, valid}
@@ -50,80 +34,11 @@ module _ (y z : Bool) (n : ℕ) (table : y ≡ true) where
 -- ---- an accepted addition
 
 module _ (t : List ℕ) (a : Addition) (ok : addAnswer t (a .id) (a .flags) (a .pattern) .number ≡ 0) where
-  -- the checks that it has passed
-  checked : (y u k f : Bool) (d : Added)
-      → cond y (cond u (answer 2 0) (cond k (answer 3 0) (cond f (answer 4 0) d))) (answer 1 0) .number ≡ 0
-      → (y ≡ true) × (u ≡ false) × (k ≡ false) × (f ≡ false) × (d .number ≡ 0)
-  checked false u k f d h = absurd (omega (arith, h))
-  checked true true k f d h = absurd (omega (arith, h))
-  checked true false true f d h = absurd (omega (arith, h))
-  checked true false false true d h = absurd (omega (arith, h))
-  checked true false false false d h = (refl, refl, refl, refl, h)
-
-  checks : (isTable t ≡ true) × (unknownFlag (a .flags) ≡ false) × (hasId t (a .id) ≡ false) × (leb maxRules (rulesOf t) ≡ false)
-      × (placed (positionsOf t) (length (a .pattern)) (readingOf a) .number ≡ 0)
-  unfolding addAnswer
-  checks =
-      checked (isTable t) (unknownFlag (a .flags)) (hasId t (a .id)) (leb maxRules (rulesOf t)) (placed (positionsOf t) (length (a .pattern)) (readingOf a)) ok
-
-  -- its pattern is read and fits
-  read : (x : Syntax) × (readingOf a ≡ tree x) × (positionsOf t + positions (write x) ≤ limit)
-  unfolding placed
-  read = go (readingOf a) refl (checks .4)
-    where
-      fits : (x : Syntax) (b : Bool) → ltb limit (positionsOf t + positions (write x)) ≡ b → cond b (answer 17 (length (a .pattern))) (answer 0 0) .number ≡ 0
-          → positionsOf t + positions (write x) ≤ limit
-      fits x true e h = absurd (omega (arith, h))
-      fits x false e h = ltb-false limit (positionsOf t + positions (write x)) e
-
-      go : (r : Read) → readingOf a ≡ r → placed (positionsOf t) (length (a .pattern)) r .number ≡ 0
-          → (x : Syntax) × (readingOf a ≡ tree x) × (positionsOf t + positions (write x) ≤ limit)
-      go (refused number place) e h = absurd (refusal-numbered (a .pattern) (optionsOf (a .flags)) number place e h)
-      go (tree x) e h = (x, e, fits x (ltb limit (positionsOf t + positions (write x))) refl h)
-
-  abbrev x : Syntax
-  x = read .0
-
-  abbrev parts : Parts
-  parts = partsOf x (positionsOf t)
-
   abbrev u : List ℕ
   u = addWords t (a .id) (a .flags) (a .pattern)
 
-  with-rule : u ≡ added t (a .id) (a .flags) parts
-  unfolding addWords withRule
-  with-rule =
-      ap₂ (λ (b : Bool) (r : Read). cond b (withRule t (a .id) (a .flags) r) t)
-      (eq-eqb (addAnswer t (a .id) (a .flags) (a .pattern) .number) 0 ok) (read .1)
-
-  old : Passes t
-  old = passes t (checks .0)
-
-  room : positionsOf t + parts .positions ≤ maxPositions
-  room =
-      omega (
-        arith,
-        read .2,
-        ap (λ (p : Parts). p .positions) (sym (parts-whole x (positionsOf t) (read .2))),
-        parts-positions (write x) (positionsOf t),
-      )
-
-  known : bitAnd (a .flags) knownFlags ≡ a .flags
-  unfolding unknownFlag
-  known = eqb-true (bitAnd (a .flags) knownFlags) (a .flags) (not-false (eqb (bitAnd (a .flags) knownFlags) (a .flags)) (checks .1))
-
-  fresh : (c : ℕ) → c < rulesOf t → recordWord t c 0 ≡ a .id → ⊥
-  unfolding hasId
-  fresh c h = eqb-false (recordWord t c 0) (a .id) (any-none (rulesOf t) (λ c. eqb (recordWord t c 0) (a .id)) (checks .2) c h)
-
   table : isTable u ≡ true
-  table =
-      ap isTable with-rule
-      ∙ passing (added t (a .id) (a .flags) parts)
-      (passes-added t (a .id) (a .flags) parts old (leb-false maxRules (rulesOf t) (checks .3)) room (a .narrow) known fresh)
-
-  more : rulesOf u ≡ rulesOf t + 1
-  more = ap rulesOf with-rule ∙ added-rules t (a .id) (a .flags) parts (old .long)
+  table = accepted-passes t (a .id) (a .flags) (a .pattern) ok (a .narrow)
 
   module _ (s : Stream) (fits : valid (automaton t) s ≡ true) where
     both : (f g : Bool) → (f && g) ≡ true → f ≡ true
@@ -141,7 +56,7 @@ module _ (t : List ℕ) (a : Addition) (ok : addAnswer t (a .id) (a .flags) (a .
     unfolding valid sameCounts
     bad =
         ap (λ (z : Bool). (z && eqb (s .positions) (automaton u .positions)) && (liveInside (automaton u) s && (marksSingle (automaton u) s && underLimit s)))
-        (ne-eqb (s .rules) (automaton u .rules) (λ e. omega (arith, more, count, e, rules-at u)))
+        (ne-eqb (s .rules) (automaton u .rules) (λ e. omega (arith, accepted-rules t (a .id) (a .flags) (a .pattern) ok, count, e, rules-at u)))
 
 pub addition-ends-streams : AdditionEndsStreams
 unfolding scanNumber closeNumber

@@ -5,21 +5,18 @@ use mathlib.Core.Bool.{Bool, true, false, cond, _||_, or-false, or-assoc}
 use mathlib.Core.Logic.{_↔_}
 use mathlib.Core.List.{List, [], _∷_, _++_}
 use Prim.Native.Nat.{ℕ, _+_, _≤_, _<_}
-use native.Mathlib.Decide.{decLt}
+use native.Mathlib.Decide.{decLt, ℕ-discrete}
 use native.Mathlib.Omega.{arith}
-use lib.Bits.{bitAnd}
-use lib.Dec.{eqb, leb, ltb}
+use lib.Dec.{eqb, ltb}
 use lib.ListN.{length, length-append}
-use borrow.Author.Tests.{lt-ltb, le-ltb, lt-leb, eq-eqb, eqb-true, eqb-false, leb-false, ltb-false, not-false}
+use borrow.Author.Tests.{lt-ltb, le-ltb, ne-eqb, eqb-true}
 use Rattle.sets.specs.Set.{any}
-use Rattle.sets.proofs.Laws.{any-none}
-use Rattle.table.specs.Layout.{tableWords, maxRules, maxPositions, rulesOf, positionsOf, recordWord}
-use Rattle.table.specs.Table.{knownFlags, isTable, emptied}
+use Rattle.table.specs.Layout.{tableWords, maxRules, rulesOf, positionsOf, recordWord}
+use Rattle.table.specs.Table.{isTable, emptied}
 use Rattle.table.specs.Automaton.{Automaton, automaton}
 use Rattle.table.proofs.Test.{Passes, passes, accepted, refused as no-table}
 use Rattle.table.proofs.Emptying.{emptied-zero, empty-passes, empty-automaton}
 use Rattle.regex.specs.Form.{write, positions}
-use Rattle.regex.specs.Count.{limit}
 use Rattle.pattern.specs.Nodes.{Syntax}
 use Rattle.pattern.specs.Walk.{Read, tree, refused}
 use Rattle.pattern.specs.Read.{optionsOf}
@@ -27,18 +24,18 @@ use Rattle.automaton.specs.Parts.{partsOf, formParts}
 use Rattle.automaton.specs.declared.Parts.{Parts}
 use Rattle.automaton.proofs.Padded.{parts-whole}
 use Rattle.rules.specs.Words.{placeOf, added}
-use Rattle.rules.specs.Add.{answer, unknownFlag, hasId, placed, addAnswer, withRule, addWords}
+use Rattle.rules.specs.Add.{answer, hasId, addAnswer, withRule, addWords}
 use Rattle.rules.specs.Additions.{Addition, Accepted, size, used, taken, readingOf, nextAnswer, withNew, afterNext, acceptedAfter}
 use Rattle.rules.specs.Encoded.{addAll, encode}
 use Rattle.rules.specs.declared.Added.{Added}
 use Rattle.rules.proofs.Place.{count-to}
 use Rattle.rules.proofs.Kept.{passes-added, has-id-added}
 use Rattle.rules.proofs.Views.{extended}
-use Rattle.rules.proofs.Parts.{parts-positions}
 use Rattle.rules.proofs.Sorted.{Placed, at, insert, laid, into, byId, byId-more, place, place-within, smaller-before, larger-there}
 use Rattle.rules.proofs.Encodes.{Encodes, encodes-none, encodes-more}
 use Rattle.rules.proofs.Regions.{added-rules, added-positions}
-use Rattle.rules.proofs.Readings.{Reads, reads, refusal-numbered}
+use Rattle.rules.proofs.Readings.{Reads, reads}
+use Rattle.rules.proofs.Checks.{Admits, zero-if, sized-parts, no-record, accepted-passes}
 
 -- ---- one rule more at the end of the list
 
@@ -56,15 +53,6 @@ encode-more : (t : List ℕ) (rs : List Accepted) (r : Accepted) → encode t (r
 unfolding encode
 encode-more t [] r = refl
 encode-more t (x ∷ xs) r = encode-more (added t (x .id) (x .flags) (partsOf (x .tree) (positionsOf t))) xs r
-
--- the parts of a tree have as many positions as it, where they fit
-sized-parts : (x : Syntax) (n : ℕ) → n + positions (write x) ≤ limit → partsOf x n .positions ≡ positions (write x)
-sized-parts x n room = ap (λ (p : Parts). p .positions) (sym (parts-whole x n room)) ∙ parts-positions (write x) n
-
--- no record has an id that the words have not
-no-record : (t : List ℕ) (id : ℕ) → hasId t id ≡ false → (c : ℕ) → c < rulesOf t → recordWord t c 0 ≡ id → ⊥
-unfolding hasId
-no-record t id e c h = eqb-false (recordWord t c 0) id (any-none (rulesOf t) (λ c. eqb (recordWord t c 0) id) e c h)
 
 -- ---- what a list leaves
 
@@ -91,9 +79,14 @@ built-none t long =
     none : rulesOf (emptied t) ≡ 0
     none = emptied-zero t long 1 (omega arith) (omega arith)
 
--- an addition is accepted
-module _ (t : List ℕ) (rs : List Accepted) (b : Built t rs) (a : Addition) (x : Syntax) (reading : readingOf a ≡ tree x)
-    (known : bitAnd (a .flags) knownFlags ≡ a .flags) (free : taken rs (a .id) ≡ false) (few : length rs < maxRules) (room : used rs + positions (write x) ≤ limit) where
+-- an addition that the rules let in
+abbrev pub Accepts : List Accepted → Addition → Type 0
+Accepts rs a = Admits (taken rs (a .id)) (length rs) (used rs) (a .flags) (a .pattern)
+
+module _ (t : List ℕ) (rs : List Accepted) (b : Built t rs) (a : Addition) (ok : Accepts rs a) where
+  abbrev x : Syntax
+  x = ok .read
+
   abbrev r : Accepted
   r = record { id = a .id; flags = a .flags; tree = x }
 
@@ -110,17 +103,17 @@ module _ (t : List ℕ) (rs : List Accepted) (b : Built t rs) (a : Addition) (x 
   new = record { rule = r; from = n }
 
   read : Reads (a .pattern) (optionsOf (a .flags)) x
-  read = reads (a .pattern) (optionsOf (a .flags)) x .0 reading
+  read = reads (a .pattern) (optionsOf (a .flags)) x .0 (ok .reading)
 
   are : parts ≡ formParts (write x) n
-  are = sym (parts-whole x n (omega (arith, b .positions)))
+  are = sym (parts-whole x n (omega (arith, b .positions, ok .room)))
 
   more : parts .positions ≡ positions (write x)
-  more = sized-parts x n (omega (arith, b .positions))
+  more = sized-parts x n (omega (arith, b .positions, ok .room))
 
   -- the table has none with this id
   fresh : (c : ℕ) → c < rulesOf t → recordWord t c 0 ≡ a .id → ⊥
-  fresh = no-record t (a .id) (b .ids (a .id) ∙ free)
+  fresh = no-record t (a .id) (b .ids (a .id) ∙ ok .free)
 
   -- the ids of the records are those of the rules
   word-id : (c : ℕ) → c < rulesOf t → recordWord t c 0 ≡ at ps c .rule .id
@@ -156,7 +149,7 @@ module _ (t : List ℕ) (rs : List Accepted) (b : Built t rs) (a : Addition) (x 
   pub built-more : Built (added t (a .id) (a .flags) (partsOf x (positionsOf t))) (rs ++ (record { id = a .id; flags = a .flags; tree = x } ∷ []))
   built-more =
       record {
-        passed = passes-added t (a .id) (a .flags) parts (b .passed) (omega (arith, b .rules)) (omega (arith, b .positions, more)) (a .narrow) known fresh;
+        passed = passes-added t (a .id) (a .flags) parts (b .passed) (omega (arith, b .rules)) (omega (arith, b .positions, more)) (a .narrow) (ok .known) fresh;
         rules = added-rules t (a .id) (a .flags) parts (b .passed .long) ∙ ap (λ (k : ℕ). k + 1) (b .rules) ∙ sym (length-append rs (r ∷ []));
         positions = added-positions t (a .id) (a .flags) parts (b .passed .long) ∙ ap₂ (λ (j k : ℕ). j + k) (b .positions) more ∙ sym (used-more rs r);
         ids = λ id.
@@ -172,87 +165,20 @@ pub answer-built : (t : List ℕ) (rs : List Accepted) → Built t rs → (a : A
 unfolding addAnswer nextAnswer
 answer-built t rs b a = rw (accepted t (b .passed), b .ids (a .id), b .rules, b .positions)
 
--- an addition that the rules let in: each reason to refuse it fails
-pub record Accepts (rs : List Accepted) (a : Addition) : Type 0 where
-  pub known : bitAnd (a .flags) knownFlags ≡ a .flags
-  pub free : taken rs (a .id) ≡ false
-  pub few : length rs < maxRules
-  pub read : Syntax
-  pub reading : readingOf a ≡ tree read
-  pub room : used rs + positions (write read) ≤ maxPositions
-
--- what the checks tell that an accepted addition has passed
-abbrev chain : Bool → Bool → Bool → Added → Added
-chain u k f d = cond u (answer 2 0) (cond k (answer 3 0) (cond f (answer 4 0) d))
-
-passed-chain : (u k f : Bool) (d : Added) → chain u k f d .number ≡ 0 → (u ≡ false) × (k ≡ false) × (f ≡ false) × (d .number ≡ 0)
-passed-chain true k f d h = absurd (omega (arith, h))
-passed-chain false true f d h = absurd (omega (arith, h))
-passed-chain false false true d h = absurd (omega (arith, h))
-passed-chain false false false d h = (refl, refl, refl, h)
-
-fits : (n k : ℕ) (x : Syntax) → placed n k (tree x) .number ≡ 0 → n + positions (write x) ≤ limit
-unfolding placed
-fits n k x h = test (ltb limit (n + positions (write x))) refl h
-  where
-    test : (c : Bool) → ltb limit (n + positions (write x)) ≡ c → cond c (answer 17 k) (answer 0 0) .number ≡ 0 → n + positions (write x) ≤ limit
-    test true e h = absurd (omega (arith, h))
-    test false e h = ltb-false limit (n + positions (write x)) e
-
-known-flags : (flags : ℕ) → unknownFlag flags ≡ false → bitAnd flags knownFlags ≡ flags
-unfolding unknownFlag
-known-flags flags e = eqb-true (bitAnd flags knownFlags) flags (not-false (eqb (bitAnd flags knownFlags) flags) e)
-
-module _ (rs : List Accepted) (a : Addition) where
-  -- what an accepted addition has passed
-  let-in : (x : Syntax) → readingOf a ≡ tree x → nextAnswer rs a .number ≡ 0
-      → (bitAnd (a .flags) knownFlags ≡ a .flags) × (taken rs (a .id) ≡ false) × (length rs < maxRules) × (used rs + positions (write x) ≤ limit)
-  unfolding nextAnswer
-  let-in x e h =
-      let c = passed-chain (unknownFlag (a .flags)) (taken rs (a .id)) (leb maxRules (length rs)) (placed (used rs) (length (a .pattern)) (readingOf a)) h in (
-        known-flags (a .flags) (c .0),
-        c .1,
-        leb-false maxRules (length rs) (c .2),
-        fits (used rs) (length (a .pattern)) x (ap (λ (d : Read). placed (used rs) (length (a .pattern)) d .number) (sym e) ∙ c .3),
-      )
-
-  -- accepted exactly where each reason to refuse fails
-  pub accepts : (nextAnswer rs a .number ≡ 0) ↔ Accepts rs a
-  unfolding nextAnswer placed unknownFlag
-  accepts = (
-    λ h. by-reading (readingOf a) refl h,
-    λ c. rw (eq-eqb (bitAnd (a .flags) knownFlags) (a .flags) (c .known), c .free, lt-leb maxRules (length rs) (c .few), c .reading, le-ltb limit (used rs + positions (write (c .read))) (c .room)),
-  )
-    where
-      by-reading : (d : Read) → readingOf a ≡ d → nextAnswer rs a .number ≡ 0 → Accepts rs a
-      by-reading (tree x) e h =
-          let c = let-in x e h in
-          record { known = c .0; free = c .1; few = c .2; read = x; reading = e; room = c .3 }
-      by-reading (refused number place) e h =
-          let c = passed-chain (unknownFlag (a .flags)) (taken rs (a .id)) (leb maxRules (length rs)) (placed (used rs) (length (a .pattern)) (readingOf a)) h in
-          absurd (refusal-numbered (a .pattern) (optionsOf (a .flags)) number place e (ap (λ (d : Read). placed (used rs) (length (a .pattern)) d .number) (sym e) ∙ c .3))
+-- it is 0 exactly where each reason to refuse fails
+pub accepts : (rs : List Accepted) (a : Addition) → (nextAnswer rs a .number ≡ 0) ↔ Accepts rs a
+unfolding nextAnswer
+accepts rs a = zero-if (taken rs (a .id)) (length rs) (used rs) (a .flags) (a .pattern)
 
 -- ---- each addition keeps the test, from any words that pass
 
 pub addition-passes : (t : List ℕ) → isTable t ≡ true → (a : Addition) → isTable (addWords t (a .id) (a .flags) (a .pattern)) ≡ true
-unfolding addWords withRule addAnswer
-addition-passes t passed a = go (eqb (addAnswer t (a .id) (a .flags) (a .pattern) .number) 0) (readingOf a) refl refl
+unfolding addWords
+addition-passes t passed a = go (ℕ-discrete (addAnswer t (a .id) (a .flags) (a .pattern) .number) 0)
   where
-    checks : Read → Added
-    checks d = chain (unknownFlag (a .flags)) (hasId t (a .id)) (leb maxRules (rulesOf t)) (placed (positionsOf t) (length (a .pattern)) d)
-
-    go : (c : Bool) (d : Read) → eqb (addAnswer t (a .id) (a .flags) (a .pattern) .number) 0 ≡ c → readingOf a ≡ d → isTable (cond c (withRule t (a .id) (a .flags) d) t) ≡ true
-    go false d e f = passed
-    go true (refused number place) e f = passed
-    go true (tree x) e f =
-        let zero : checks (tree x) .number ≡ 0 =
-        ap (λ (d : Read). checks d .number) (sym f) ∙ sym (ap (λ (b : Bool). cond b (checks (readingOf a)) (answer 1 0) .number) passed)
-        ∙ eqb-true (addAnswer t (a .id) (a .flags) (a .pattern) .number) 0 e in
-        let c = passed-chain (unknownFlag (a .flags)) (hasId t (a .id)) (leb maxRules (rulesOf t)) (placed (positionsOf t) (length (a .pattern)) (tree x)) zero in
-        let room = fits (positionsOf t) (length (a .pattern)) x (c .3) in
-        accepted (added t (a .id) (a .flags) (partsOf x (positionsOf t)))
-        (passes-added t (a .id) (a .flags) (partsOf x (positionsOf t)) (passes t passed) (leb-false maxRules (rulesOf t) (c .2))
-        (omega (arith, room, sized-parts x (positionsOf t) room)) (a .narrow) (known-flags (a .flags) (c .0)) (no-record t (a .id) (c .1)))
+    go : Dec (addAnswer t (a .id) (a .flags) (a .pattern) .number ≡ 0) → isTable (addWords t (a .id) (a .flags) (a .pattern)) ≡ true
+    go (yes ok) = accepted-passes t (a .id) (a .flags) (a .pattern) ok (a .narrow)
+    go (no n) = ap (λ (b : Bool). isTable (cond b (withRule t (a .id) (a .flags) (readingOf a)) t)) (ne-eqb (addAnswer t (a .id) (a .flags) (a .pattern) .number) 0 n) ∙ passed
 
 -- ---- each addition keeps what is built
 
@@ -260,12 +186,13 @@ pub built-next : (t : List ℕ) (rs : List Accepted) → Built t rs → (a : Add
 unfolding addWords afterNext withRule withNew
 built-next t rs b a =
     subst (λ (d : Added). Built (cond (eqb (d .number) 0) (withRule t (a .id) (a .flags) (readingOf a)) t) (cond (eqb (nextAnswer rs a .number) 0) (withNew rs a (readingOf a)) rs))
-    (sym (answer-built t rs b a)) (go (eqb (nextAnswer rs a .number) 0) (readingOf a) refl refl)
+    (sym (answer-built t rs b a)) (go (eqb (nextAnswer rs a .number) 0) refl)
   where
-    go : (c : Bool) (d : Read) → eqb (nextAnswer rs a .number) 0 ≡ c → readingOf a ≡ d → Built (cond c (withRule t (a .id) (a .flags) d) t) (cond c (withNew rs a d) rs)
-    go false d e f = b
-    go true (refused number place) e f = b
-    go true (tree x) e f = let c = let-in rs a x f (eqb-true (nextAnswer rs a .number) 0 e) in built-more t rs b a x f (c .0) (c .1) (c .2) (c .3)
+    go : (c : Bool) → eqb (nextAnswer rs a .number) 0 ≡ c → Built (cond c (withRule t (a .id) (a .flags) (readingOf a)) t) (cond c (withNew rs a (readingOf a)) rs)
+    go false e = b
+    go true e =
+        let c = accepts rs a .0 (eqb-true (nextAnswer rs a .number) 0 e) in
+        subst (λ (d : Read). Built (withRule t (a .id) (a .flags) d) (withNew rs a d)) (sym (c .reading)) (built-more t rs b a c)
 
 pub built-all : (t : List ℕ) (rs : List Accepted) → Built t rs → (l : List Addition) → Built (addAll t l) (acceptedAfter rs l)
 unfolding addAll acceptedAfter

@@ -1,6 +1,6 @@
 -- The laws of an addition, from words to rules: Rows (sets in words), Steps (the private writers), Place (the new rule's place), Regions, Made, Kept, Views
 -- (the table with one rule more: its words, how they are made, that they pass the test, their automaton), Parts (the builder's sets), Sorted and Encodes (rules
--- by rising id, and the automaton that they are), Readings (what an accepted pattern is), Additions (lists of additions), Answer (the answer of one), Local (words
+-- by rising id, and the automaton that they are), Readings (what an accepted pattern is), Checks (what an accepted addition has passed), Additions (lists of additions), Answer (the answer of one), Local (words
 -- beyond the first 4,096 count for nothing).
 pub mod Rows
 pub mod Steps
@@ -13,6 +13,7 @@ pub mod Parts
 pub mod Sorted
 pub mod Encodes
 pub mod Readings
+pub mod Checks
 pub mod Additions
 pub mod Answer
 pub mod Local

@@ -1,0 +1,127 @@
+-- What an accepted addition has passed. The checks go by four things of the table: whether the id is there, how many rules and positions it has, and, for words,
+-- whether they pass the test. An answer of 0 is taken apart here once: each reason to refuse fails, and the words are those with the rule.
+use mathlib.Core.Path.{_≡_, refl, sym, ap, ap₂, _∙_}
+use mathlib.Core.Bool.{Bool, true, false, cond}
+use mathlib.Core.Logic.{_↔_}
+use mathlib.Core.List.{List}
+use Prim.Native.Nat.{ℕ, _+_, _^_, _≤_, _<_}
+use native.Mathlib.Omega.{arith}
+use lib.Bits.{bitAnd}
+use lib.Dec.{eqb, leb, ltb}
+use lib.ListN.{length}
+use borrow.Author.Tests.{le-ltb, lt-leb, eq-eqb, eqb-true, eqb-false, leb-false, ltb-false, not-false}
+use Rattle.sets.proofs.Laws.{any-none}
+use Rattle.table.specs.Layout.{maxRules, maxPositions, rulesOf, positionsOf, recordWord}
+use Rattle.table.specs.Table.{knownFlags, isTable}
+use Rattle.table.proofs.Test.{passes, accepted}
+use Rattle.regex.specs.Form.{write, positions}
+use Rattle.regex.specs.Count.{limit}
+use Rattle.pattern.specs.Nodes.{Syntax}
+use Rattle.pattern.specs.Walk.{Read, tree, refused}
+use Rattle.pattern.specs.Read.{readOf, optionsOf}
+use Rattle.automaton.specs.Parts.{partsOf}
+use Rattle.automaton.specs.declared.Parts.{Parts}
+use Rattle.automaton.proofs.Padded.{parts-whole}
+use Rattle.rules.specs.Words.{added}
+use Rattle.rules.specs.Add.{answer, unknownFlag, hasId, placed, addAnswer, withRule, addWords}
+use Rattle.rules.specs.declared.Added.{Added}
+use Rattle.rules.proofs.Kept.{passes-added}
+use Rattle.rules.proofs.Parts.{parts-positions}
+use Rattle.rules.proofs.Regions.{added-rules}
+use Rattle.rules.proofs.Readings.{refusal-numbered}
+
+-- ---- the checks after the test
+
+module _ (there : Bool) (rules used flags : ℕ) (pattern : List ℕ) where
+  -- each reason to refuse fails
+  pub record Admits : Type 0 where
+    pub known : bitAnd flags knownFlags ≡ flags
+    pub free : there ≡ false
+    pub few : rules < maxRules
+    pub read : Syntax
+    pub reading : readOf pattern (optionsOf flags) ≡ tree read
+    pub room : used + positions (write read) ≤ maxPositions
+
+  abbrev pub checked : Added
+  checked = cond (unknownFlag flags) (answer 2 0) (cond there (answer 3 0) (cond (leb maxRules rules) (answer 4 0) (placed used (length pattern) (readOf pattern (optionsOf flags)))))
+
+  admits : checked .number ≡ 0 → Admits
+  unfolding unknownFlag placed
+  admits = go (unknownFlag flags) there (leb maxRules rules) (readOf pattern (optionsOf flags)) refl refl refl refl
+    where
+      fits : (x : Syntax) (c : Bool) → ltb limit (used + positions (write x)) ≡ c → cond c (answer 17 (length pattern)) (answer 0 0) .number ≡ 0 → used + positions (write x) ≤ limit
+      fits x true e h = absurd (omega (arith, h))
+      fits x false e h = ltb-false limit (used + positions (write x)) e
+
+      go : (u k f : Bool) (d : Read) → unknownFlag flags ≡ u → there ≡ k → leb maxRules rules ≡ f → readOf pattern (optionsOf flags) ≡ d
+          → cond u (answer 2 0) (cond k (answer 3 0) (cond f (answer 4 0) (placed used (length pattern) d))) .number ≡ 0 → Admits
+      go true k f d p q r s h = absurd (omega (arith, h))
+      go false true f d p q r s h = absurd (omega (arith, h))
+      go false false true d p q r s h = absurd (omega (arith, h))
+      go false false false (refused number place) p q r s h = absurd (refusal-numbered pattern (optionsOf flags) number place s h)
+      go false false false (tree x) p q r s h = record {
+        known = eqb-true (bitAnd flags knownFlags) flags (not-false (eqb (bitAnd flags knownFlags) flags) p);
+        free = q;
+        few = leb-false maxRules rules r;
+        read = x;
+        reading = s;
+        room = fits x (ltb limit (used + positions (write x))) refl h;
+      }
+
+  admitted : Admits → checked ≡ answer 0 0
+  unfolding unknownFlag placed
+  admitted c = rw (eq-eqb (bitAnd flags knownFlags) flags (c .known), c .free, lt-leb maxRules rules (c .few), c .reading, le-ltb limit (used + positions (write (c .read))) (c .room))
+
+  -- the answer is 0 exactly where each fails
+  pub zero-if : (checked .number ≡ 0) ↔ Admits
+  zero-if = (admits, λ c. ap (λ (d : Added). d .number) (admitted c))
+
+-- the parts of a tree have as many positions as it, where they fit
+pub sized-parts : (x : Syntax) (n : ℕ) → n + positions (write x) ≤ limit → partsOf x n .positions ≡ positions (write x)
+sized-parts x n room = ap (λ (p : Parts). p .positions) (sym (parts-whole x n room)) ∙ parts-positions (write x) n
+
+-- no record has an id that the words have not
+pub no-record : (t : List ℕ) (id : ℕ) → hasId t id ≡ false → (c : ℕ) → c < rulesOf t → recordWord t c 0 ≡ id → ⊥
+unfolding hasId
+no-record t id e c h = eqb-false (recordWord t c 0) id (any-none (rulesOf t) (λ c. eqb (recordWord t c 0) id) e c h)
+
+-- ---- an addition that these words accept
+
+module _ (t : List ℕ) (id flags : ℕ) (pattern : List ℕ) (ok : addAnswer t id flags pattern .number ≡ 0) where
+  abbrev Checks : Type 0
+  Checks = (isTable t ≡ true) × Admits (hasId t id) (rulesOf t) (positionsOf t) flags pattern
+
+  checks : Checks
+  unfolding addAnswer
+  checks = go (isTable t) refl ok
+    where
+      go : (b : Bool) → isTable t ≡ b → cond b (checked (hasId t id) (rulesOf t) (positionsOf t) flags pattern) (answer 1 0) .number ≡ 0 → Checks
+      go true e h = (e, admits (hasId t id) (rulesOf t) (positionsOf t) flags pattern h)
+      go false e h = absurd (omega (arith, h))
+
+  abbrev parts : Parts
+  parts = partsOf (checks .1 .read) (positionsOf t)
+
+  -- "An accepted one has place 0."
+  pub accepted-place : addAnswer t id flags pattern .place ≡ 0
+  unfolding addAnswer
+  accepted-place =
+      ap (λ (b : Bool). cond b (checked (hasId t id) (rulesOf t) (positionsOf t) flags pattern) (answer 1 0) .place) (checks .0)
+      ∙ ap (λ (d : Added). d .place) (admitted (hasId t id) (rulesOf t) (positionsOf t) flags pattern (checks .1))
+
+  with-rule : addWords t id flags pattern ≡ added t id flags parts
+  unfolding addWords withRule
+  with-rule =
+      ap₂ (λ (b : Bool) (r : Read). cond b (withRule t id flags r) t) (eq-eqb (addAnswer t id flags pattern .number) 0 ok) (checks .1 .reading)
+
+  -- the words have one rule more
+  pub accepted-rules : rulesOf (addWords t id flags pattern) ≡ rulesOf t + 1
+  accepted-rules = ap rulesOf with-rule ∙ added-rules t id flags parts (passes t (checks .0) .long)
+
+  -- and pass the test
+  pub accepted-passes : id < 2 ^ 32 → isTable (addWords t id flags pattern) ≡ true
+  accepted-passes narrow =
+      ap isTable with-rule
+      ∙ accepted (added t id flags parts)
+      (passes-added t id flags parts (passes t (checks .0)) (checks .1 .few)
+      (omega (arith, checks .1 .room, sized-parts (checks .1 .read) (positionsOf t) (checks .1 .room))) narrow (checks .1 .known) (no-record t id (checks .1 .free)))
