@@ -2,30 +2,31 @@
 -- in one go and of the closing after them. By one induction over the list. Assumes nothing.
 use mathlib.Core.Path.{_≡_, refl, sym, subst, subst₂, ap, ap₂, _∙_}
 use mathlib.Core.Logic.{_⊎_, inl, inr}
-use mathlib.Core.Bool.{Bool, true, false, cond}
+use mathlib.Core.Bool.{Bool, true, false, true≢false, cond}
 use mathlib.Core.List.{List, [], _∷_, _++_, zip, append-nil, append-assoc}
 use Prim.Native.Nat.{ℕ, zero, suc, _-_, _≤_, _<_}
 use native.Mathlib.Omega.{arith}
 use native.Mathlib.Decide.{ℕ-discrete}
-use lib.Dec.{eqb, ltb}
+use lib.Dec.{ltb}
 use lib.ListN.{length, take, drop, replicate, length-replicate, length-take}
 use lib.Seq.{take-append-seam, getD-take}
 use borrow.Author.Tests.{eq-eqb, ne-eqb}
 use Rattle.table.specs.Layout.{tableWords}
-use Rattle.table.specs.Table.{isTable, emptyNumber, emptied}
+use Rattle.table.specs.Table.{emptyNumber, emptied}
 use Rattle.table.specs.Automaton.{Automaton, automaton}
 use Rattle.stream.specs.declared.Stream.{Stream}
 use Rattle.stream.specs.declared.Scanned.{Scanned}
 use Rattle.stream.specs.declared.Closed.{Closed}
 use Rattle.stream.specs.Byte.{stateAfter, idsOf, endsOf, closeIds}
-use Rattle.stream.specs.Valid.{valid}
-use Rattle.stream.specs.Calls.{space, spaceNumber, scanNumber, closeNumber, takenBy, written, scanned, scannedIds, scannedOffsets, shut, closed, closedIds, closedOffsets, overLimit}
+use Rattle.stream.specs.Calls.{space, scanNumber, closeNumber, takenBy, written, scanned, scannedIds, scannedOffsets, shut, closed, closedIds, closedOffsets}
 use Rattle.pattern.specs.Read.{readOf, optionsOf}
 use Rattle.rules.specs.Add.{addAnswer, withRule, addWords}
 use Rattle.rules.specs.Encoded.{addAll}
 use Rattle.regex.specs.Ordered.{Pair}
 use Rattle.demands.specs.Chain.{this, those, Other, emptying, adding, opening, scanning, closing, numberOf, tableAfter, Step, addition, another, tableOf, additionsOf, OthersRefusedBefore, Item, scan, close, other, reportsIn, bytesOf, reportsOf, OthersRefused, Closes, Bytes, Blocks}
 use Rattle.stream.proofs.Blocks.{fits-le, ends-count, closed-after, two-parts}
+use Rattle.stream.proofs.Accepting.{accepted, close-number}
+use Rattle.stream.proofs.Results.{accepted-scan, refused-scan, close-number-is, accepted-close, refused-close}
 use Rattle.demands.proofs.Bytewise.{pairsOf, pairs-append, state-cut, pairs-cut}
 
 -- a refused call leaves the table as it was
@@ -83,33 +84,15 @@ module _ (t : List ℕ) (s : Stream) (block ids offsets : List ℕ) where
   abbrev k : ℕ
   k = takenBy t s block (space ids offsets)
 
-  -- an accepted scan
-  module _ (ok : number ≡ 0) where
-    yes-number : eqb number 0 ≡ true
-    yes-number = eq-eqb number 0 ok
-
-    pub accepted-scan : scanned t s block ids offsets ≡ record { number = 0; taken = k; reports = length (idsOf w s block k); stream = stateAfter w s block k }
-    unfolding scanned
-    accepted-scan = ap (λ (b : Bool). cond b (record { number = 0; taken = k; reports = length (idsOf w s block k); stream = stateAfter w s block k })
-        (record { number = number; taken = 0; reports = 0; stream = s })) yes-number
-
-    pub scan-reports : reportsIn (scanned t s block ids offsets .reports) (scannedIds t s block ids offsets) (scannedOffsets t s block ids offsets)
-        ≡ zip (idsOf w s block k) (endsOf w s block k)
-    unfolding scannedIds scannedOffsets
-    scan-reports =
-        ap₂ (λ (n : ℕ) (b : Bool). reportsIn n (cond b (written (idsOf w s block k) ids) ids) (cond b (written (endsOf w s block k) offsets) offsets)) (ap (λ (c : Scanned). c .reports) accepted-scan) yes-number
-        ∙ ap₂ zip (front-is (idsOf w s block k) ids)
-        (ap (λ (n : ℕ). take n (written (endsOf w s block k) offsets)) (sym (ends-count w s block k)) ∙ front-is (endsOf w s block k) offsets)
-
-  -- a refused one
-  module _ (bad : ¬ (number ≡ 0)) where
-    no-number : eqb number 0 ≡ false
-    no-number = ne-eqb number 0 bad
-
-    pub refused-scan : scanned t s block ids offsets ≡ record { number = number; taken = 0; reports = 0; stream = s }
-    unfolding scanned
-    refused-scan = ap (λ (b : Bool). cond b (record { number = 0; taken = k; reports = length (idsOf w s block k); stream = stateAfter w s block k })
-        (record { number = number; taken = 0; reports = 0; stream = s })) no-number
+  -- the reports of an accepted scan
+  pub scan-reports : number ≡ 0 → reportsIn (scanned t s block ids offsets .reports) (scannedIds t s block ids offsets) (scannedOffsets t s block ids offsets)
+      ≡ zip (idsOf w s block k) (endsOf w s block k)
+  unfolding scannedIds scannedOffsets
+  scan-reports ok =
+      ap₂ (λ (n : ℕ) (b : Bool). reportsIn n (cond b (written (idsOf w s block k) ids) ids) (cond b (written (endsOf w s block k) offsets) offsets))
+      (ap (λ (c : Scanned). c .reports) (accepted-scan t s block ids offsets ok)) (eq-eqb number 0 ok)
+      ∙ ap₂ zip (front-is (idsOf w s block k) ids)
+      (ap (λ (n : ℕ). take n (written (endsOf w s block k) offsets)) (sym (ends-count w s block k)) ∙ front-is (endsOf w s block k) offsets)
 
 module _ (t : List ℕ) (s : Stream) (ids offsets : List ℕ) where
   abbrev w′ : Automaton
@@ -118,58 +101,24 @@ module _ (t : List ℕ) (s : Stream) (ids offsets : List ℕ) where
   abbrev number′ : ℕ
   number′ = closeNumber t s (space ids offsets)
 
-  module _ (ok : number′ ≡ 0) where
-    pub accepted-close : closed t s ids offsets ≡ record { number = 0; reports = length (closeIds w′ s); stream = shut s }
-    unfolding closed
-    accepted-close = ap (λ (b : Bool). cond b (record { number = 0; reports = length (closeIds w′ s); stream = shut s })
-        (record { number = number′; reports = 0; stream = s })) (eq-eqb number′ 0 ok)
-
-    pub close-reports : reportsIn (closed t s ids offsets .reports) (closedIds t s ids offsets) (closedOffsets t s ids offsets)
-        ≡ zip (closeIds w′ s) (replicate (length (closeIds w′ s)) (s .taken))
-    unfolding closedIds closedOffsets
-    close-reports =
-        let new : List ℕ = closeIds w′ s in
-        ap₂ (λ (n : ℕ) (b : Bool). reportsIn n (cond b (written new ids) ids) (cond b (written (replicate (length new) (s .taken)) offsets) offsets))
-        (ap (λ (c : Closed). c .reports) accepted-close) (eq-eqb number′ 0 ok)
-        ∙ ap₂ zip (front-is new ids)
-        (ap (λ (n : ℕ). take n (written (replicate (length new) (s .taken)) offsets)) (sym (length-replicate (length new) (s .taken)))
-        ∙ front-is (replicate (length new) (s .taken)) offsets)
-
-  module _ (bad : ¬ (number′ ≡ 0)) where
-    pub refused-close : closed t s ids offsets ≡ record { number = number′; reports = 0; stream = s }
-    unfolding closed
-    refused-close = ap (λ (b : Bool). cond b (record { number = 0; reports = length (closeIds w′ s); stream = shut s })
-        (record { number = number′; reports = 0; stream = s })) (ne-eqb number′ 0 bad)
-
-  -- the number of the answer is the number of the checks
-  pub close-number : closed t s ids offsets .number ≡ 0 → number′ ≡ 0
-  close-number e = go (ℕ-discrete number′ 0)
-    where
-      go : Dec (number′ ≡ 0) → number′ ≡ 0
-      go (yes ok) = ok
-      go (no bad) = absurd (bad (sym (ap (λ (c : Closed). c .number) (refused-close bad)) ∙ e))
+  -- the reports of an accepted closing
+  pub close-reports : number′ ≡ 0 → reportsIn (closed t s ids offsets .reports) (closedIds t s ids offsets) (closedOffsets t s ids offsets)
+      ≡ zip (closeIds w′ s) (replicate (length (closeIds w′ s)) (s .taken))
+  unfolding closedIds closedOffsets
+  close-reports ok =
+      let new : List ℕ = closeIds w′ s in
+      ap₂ (λ (n : ℕ) (b : Bool). reportsIn n (cond b (written new ids) ids) (cond b (written (replicate (length new) (s .taken)) offsets) offsets))
+      (ap (λ (c : Closed). c .reports) (accepted-close t s ids offsets ok)) (eq-eqb number′ 0 ok)
+      ∙ ap₂ zip (front-is new ids)
+      (ap (λ (n : ℕ). take n (written (replicate (length new) (s .taken)) offsets)) (sym (length-replicate (length new) (s .taken)))
+      ∙ front-is (replicate (length new) (s .taken)) offsets)
 
 -- a closed stream refuses
 pub shut-scan : (t : List ℕ) (s : Stream) (len room : ℕ) → s .closed ≡ true → ¬ (scanNumber t s len room ≡ 0)
-unfolding scanNumber
-shut-scan t s len room e h =
-    go (isTable t) (valid (automaton t) s) (subst (λ (b : Bool). cond (isTable t)
-    (cond (valid (automaton t) s) (cond b 19 (cond (overLimit s len) 21 (spaceNumber t room))) 18) 1 ≡ 0) e h)
-  where
-    go : (a b : Bool) → _≡_ {A = ℕ} (cond a (cond b 19 18) 1) 0 → ⊥
-    go true true h = omega arith
-    go true false h = omega arith
-    go false b h = omega arith
+shut-scan t s len room e h = true≢false (sym e ∙ accepted t s len room h .still-open)
 
 pub shut-close : (t : List ℕ) (s : Stream) (room : ℕ) → s .closed ≡ true → ¬ (closeNumber t s room ≡ 0)
-unfolding closeNumber
-shut-close t s room e h =
-    go (isTable t) (valid (automaton t) s) (subst (λ (b : Bool). cond (isTable t) (cond (valid (automaton t) s) (cond b 19 (spaceNumber t room)) 18) 1 ≡ 0) e h)
-  where
-    go : (a b : Bool) → _≡_ {A = ℕ} (cond a (cond b 19 18) 1) 0 → ⊥
-    go true true h = omega arith
-    go true false h = omega arith
-    go false b h = omega arith
+shut-close t s room e h = shut-scan t s 0 room e (close-number t s room ∙ h)
 
 take-bytes : (block : List ℕ) (k : ℕ) → Bytes block → Bytes (take k block)
 take-bytes block k h i lt = subst (λ (x : ℕ). x < 256) (sym (getD-take k block i 0 (omega (arith, length-take k block)))) (h i (omega (arith, length-take k block)))
@@ -281,7 +230,7 @@ module _ (t : List ℕ) where
           let quiet = silent l (shut s) refl (subst (λ (x : Stream). OthersRefused t x l) (ap (λ (a : Closed). a .stream) is) h) in
           subst₂ From (sym is) (sym (close-reports t s ids offsets ok))
           (subst₂ (λ (b : List ℕ) (r : List Pair). Goes s b (closePairs s ++ r)) (sym (quiet .0)) (sym (quiet .1)) (append-nil (closePairs s) ∙ ends-here s))
-      go (no bad) ih (inl ok) = absurd (bad (close-number t s ids offsets ok))
+      go (no bad) ih (inl ok) = absurd (bad (sym (close-number-is t s ids offsets) ∙ ok))
       go (no bad) ih (inr c) =
           let is = refused-close t s ids offsets bad in
           let next : closed t s ids offsets .stream ≡ s = ap (λ (a : Closed). a .stream) is in

@@ -16,13 +16,14 @@ use Rattle.stream.specs.declared.Opened.{Opened}
 use Rattle.stream.specs.declared.Scanned.{Scanned}
 use Rattle.stream.specs.declared.Closed.{Closed}
 use Rattle.stream.specs.Calls.{fresh, opened, space, scanNumber, closeNumber, scanned, scannedIds, scannedOffsets, closed, closedIds, closedOffsets}
+use Rattle.stream.proofs.Results.{accepted-scan, refused-scan, accepted-close, refused-close}
 use Rattle.stream.proofs.Stream.«open».Met.{met as open-met}
 use Rattle.stream.proofs.Stream.scan.Met.{met as scan-met}
 use Rattle.stream.proofs.Stream.close.Met.{met as close-met}
 use Rattle.stream.proofs.Stream.busy.Met.{met as busy-met}
 use Rattle.demands.specs.Chain.{this, emptying, adding, numberOf, tableAfter}
 use Rattle.demands.specs.Demand1.{Answers, ScanRefused, CloseRefused, Refusals, Demand1}
-use Rattle.demands.proofs.Chained.{kept, accepted-scan, refused-scan, accepted-close, refused-close}
+use Rattle.demands.proofs.Chained.{kept}
 
 answers : Answers
 answers = record {

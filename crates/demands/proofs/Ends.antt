@@ -1,13 +1,13 @@
 -- What ends a stream, on any table and any state. An accepted addition leaves words that pass the test again with one rule more, so the counts that a state carries
 -- differ; an accepted closing hands back a valid state with the closed mark.
-use mathlib.Core.Path.{_≡_, refl, ap, _∙_}
+use mathlib.Core.Path.{_≡_, sym, ap, _∙_}
 use mathlib.Core.Bool.{Bool, true, false, cond, _&&_}
 use mathlib.Core.List.{List}
 use Prim.Native.Nat.{ℕ}
 use native.Mathlib.Omega.{arith}
 use lib.Dec.{eqb}
 use lib.ListN.{length}
-use borrow.Author.Tests.{ne-eqb, eqb-true}
+use borrow.Author.Tests.{ne-eqb}
 use Rattle.table.specs.Layout.{rulesOf}
 use Rattle.table.specs.Table.{isTable}
 use Rattle.table.specs.Automaton.{automaton}
@@ -18,10 +18,10 @@ use Rattle.stream.specs.declared.Stream.{Stream}
 use Rattle.stream.specs.declared.Closed.{Closed}
 use Rattle.stream.specs.Valid.{sameCounts, liveInside, marksSingle, underLimit, valid}
 use Rattle.stream.specs.Calls.{space, spaceNumber, scanNumber, closeNumber, closed, overLimit}
-use Rattle.stream.proofs.Results.{scan-number, close-number-is, closed-valid}
+use Rattle.stream.proofs.Accepting.{fitting, accepted, close-number}
+use Rattle.stream.proofs.Results.{scan-number, close-number-is, accepted-close, closed-valid}
 use Rattle.demands.specs.Demands.{AdditionEndsStreams, ClosingEndsStream}
 use Rattle.demands.proofs.Carried.{rules-at}
-use Rattle.demands.proofs.Chained.{close-number, accepted-close}
 
 -- the number of a call whose table passes: by the state
 module _ (y z : Bool) (n : ℕ) (table : y ≡ true) where
@@ -41,16 +41,9 @@ module _ (t : List ℕ) (a : Addition) (ok : addAnswer t (a .id) (a .flags) (a .
   table = accepted-passes t (a .id) (a .flags) (a .pattern) ok (a .narrow)
 
   module _ (s : Stream) (fits : valid (automaton t) s ≡ true) where
-    both : (f g : Bool) → (f && g) ≡ true → f ≡ true
-    both true g e = refl
-    both false g e = e
-
     -- the state has the old count
     count : s .rules ≡ rulesOf t
-    unfolding valid sameCounts
-    count =
-        eqb-true (s .rules) (automaton t .rules) (both (eqb (s .rules) (automaton t .rules)) (eqb (s .positions) (automaton t .positions)) (both (sameCounts (automaton t) s) _ fits))
-        ∙ rules-at t
+    count = fitting (automaton t) s fits .rules-same ∙ rules-at t
 
     bad : valid (automaton u) s ≡ false
     unfolding valid sameCounts
@@ -67,15 +60,6 @@ addition-ends-streams t a ok s fits block ids offsets = (
 
 -- ---- an accepted closing
 
--- one that is accepted has a table
-closes-table : (t : List ℕ) (s : Stream) (room : ℕ) → closeNumber t s room ≡ 0 → isTable t ≡ true
-unfolding closeNumber
-closes-table t s room = go (isTable t) refl
-  where
-    go : (b : Bool) → isTable t ≡ b → cond b (cond (valid (automaton t) s) (cond (s .closed) 19 (spaceNumber t room)) 18) 1 ≡ 0 → isTable t ≡ true
-    go true e h = e
-    go false e h = absurd (omega (arith, h))
-
 pub closing-ends-stream : ClosingEndsStream
 unfolding scanNumber closeNumber
 closing-ends-stream t s ids offsets ok block laterIds laterOffsets = (
@@ -88,11 +72,14 @@ closing-ends-stream t s ids offsets ok block laterIds laterOffsets = (
     after : Stream
     after = closed t s ids offsets .stream
 
+    number : closeNumber t s (space ids offsets) ≡ 0
+    number = sym (close-number-is t s ids offsets) ∙ ok
+
     is-table : isTable t ≡ true
-    is-table = closes-table t s (space ids offsets) (close-number t s ids offsets ok)
+    is-table = accepted t s 0 (space ids offsets) (close-number t s (space ids offsets) ∙ number) .table
 
     fits : valid (automaton t) after ≡ true
     fits = closed-valid t s ids offsets ok
 
     shut : after .closed ≡ true
-    shut = ap (λ (c : Closed). c .stream .closed) (accepted-close t s ids offsets (close-number t s ids offsets ok))
+    shut = ap (λ (c : Closed). c .stream .closed) (accepted-close t s ids offsets number)

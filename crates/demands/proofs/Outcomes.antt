@@ -19,9 +19,10 @@ use Rattle.stream.specs.Byte.{stateAfter, idsOf, endsOf, fits, closeIds}
 use Rattle.stream.specs.Valid.{valid}
 use Rattle.stream.specs.Calls.{space, spaceNumber, scanNumber, closeNumber, takenBy, scanned, scannedIds, scannedOffsets, shut, closed, closedIds, closedOffsets, overLimit}
 use Rattle.stream.proofs.Blocks.{fits-le}
+use Rattle.stream.proofs.Results.{accepted-scan, refused-scan, accepted-close, refused-close}
 use Rattle.regex.specs.Ordered.{Pair}
 use Rattle.demands.specs.Chain.{Item, scan, close, other, tableAfter, reportsIn, bytesOf, reportsOf, Outcome, by-scan, by-close, outcomesOf, OthersRefused, Closes, Bytes}
-use Rattle.demands.proofs.Chained.{kept, accepted-scan, scan-reports, refused-scan, accepted-close, close-reports, refused-close}
+use Rattle.demands.proofs.Chained.{kept, scan-reports, close-reports}
 use Rattle.demands.proofs.Validity.{scan-valid, close-valid}
 use Rattle.demands.proofs.Agreeing.{Agree, Inside, states-agree, all-ids-agree, all-ends-agree, fits-agree, inside-after, closing-agrees}
 

@@ -13,8 +13,9 @@ use Rattle.stream.specs.Byte.{stateAfter}
 use Rattle.stream.specs.Calls.{space, scanNumber, closeNumber, takenBy, scanned, closed, shut}
 use Rattle.demands.specs.Chain.{Item, scan, close, other, tableAfter, bytesOf, stateOf, OthersRefused}
 use Rattle.stream.proofs.Blocks.{taken-after, closed-after, two-parts}
+use Rattle.stream.proofs.Results.{accepted-scan, refused-scan, accepted-close, refused-close}
 use Rattle.demands.proofs.Bytewise.{state-cut}
-use Rattle.demands.proofs.Chained.{kept, takes-le, accepted-scan, refused-scan, accepted-close, refused-close, shut-scan, shut-close}
+use Rattle.demands.proofs.Chained.{kept, takes-le, shut-scan, shut-close}
 
 -- the same state but for the closed mark
 pub record Like (x y : Stream) : Type 0 where

@@ -20,10 +20,10 @@ use Rattle.stream.specs.declared.Closed.{Closed}
 use Rattle.stream.specs.Byte.{stateAfter}
 use Rattle.stream.specs.Valid.{streamLimit, valid}
 use Rattle.stream.specs.Calls.{space, spaceNumber, scanNumber, closeNumber, scanned, closed, overLimit}
-use Rattle.stream.proofs.Results.{scan-number, taken-within, progress, scanned-valid, close-number-is, closed-valid}
+use Rattle.stream.proofs.Results.{scan-number, taken-within, accepted-scan, refused-scan, progress, scanned-valid, close-number-is, refused-close, closed-valid}
 use Rattle.stream.proofs.Blocks.{taken-after, closed-after}
 use Rattle.demands.specs.Chain.{Item, scan, close, other, tableAfter, bytesOf, OthersRefused, Closes, Fit, AllFit, offering, Roomy, Bytes, Blocks}
-use Rattle.demands.proofs.Chained.{kept, accepted-scan, refused-scan, refused-close}
+use Rattle.demands.proofs.Chained.{kept}
 
 -- the numbers that are left when table and state pass
 space-fit : (t : List ℕ) (room : ℕ) → Fit (spaceNumber t room)

@@ -7,7 +7,7 @@ use Prim.Native.Nat.{ℕ, zero, suc, _+_, _<_, _≤_, zero-le}
 use native.Mathlib.Omega.{arith}
 use lib.Dec.{eqb, leb, ltb}
 use lib.ListN.{length, getD}
-use borrow.Author.Tests.{eq-eqb, eqb-true, not-true}
+use borrow.Author.Tests.{eq-eqb, ne-eqb, eqb-true, not-true}
 use Rattle.sets.specs.Set.{on, has, setOf, wordOf, any, emptySet, sizeOf}
 use Rattle.sets.proofs.Digits.{on-zero, on-wordOf}
 use Rattle.sets.proofs.Laws.{has-setOf, has-empty, any-none, any-never, count-never}
@@ -17,7 +17,7 @@ use Rattle.table.specs.Automaton.{Automaton, automaton, single}
 use Rattle.stream.specs.declared.Stream.{Stream}
 use Rattle.stream.specs.declared.Scanned.{Scanned}
 use Rattle.stream.specs.declared.Closed.{Closed}
-use Rattle.stream.specs.Byte.{starts, nextLive, ends, runMarks, byteState, stateAfter}
+use Rattle.stream.specs.Byte.{starts, nextLive, ends, runMarks, byteState, stateAfter, idsOf, closeIds}
 use Rattle.stream.specs.Valid.{streamLimit, sameCounts, liveInside, marksSingle, underLimit, valid}
 use Rattle.stream.specs.Calls.{fresh, opened, space, scanNumber, closeNumber, takenBy, scanned, shut, closed, busyOf}
 use Rattle.stream.proofs.Members.{not-below}
@@ -110,7 +110,7 @@ module _ (w : Automaton) (s : Stream) (block : List ℕ) (h : Fitting w s) where
         limit = omega (arith, taken-after w s block k);
       }
 
--- ---- an accepted scan
+-- ---- the answer of a scan
 
 by-test : {A : Type 0} (P : A → Type 0) (b : Bool) {x y : A} → (b ≡ true → P x) → (b ≡ false → P y) → P (cond b x y)
 by-test P true f g = f refl
@@ -132,37 +132,45 @@ module _ (t : List ℕ) (s : Stream) (block ids offsets : List ℕ) where
       by-test (λ (r : Scanned). r .taken ≤ length block) (eqb (scanNumber t s (length block) (space ids offsets)) 0)
       (λ e. fits-le (automaton t) s block (space ids offsets) (length block)) (λ e. zero-le)
 
+  -- by its number
+  module _ (ok : scanNumber t s (length block) (space ids offsets) ≡ 0) where
+    abbrev k : ℕ
+    k = takenBy t s block (space ids offsets)
+
+    pub accepted-scan : scanned t s block ids offsets ≡ record { number = 0; taken = k; reports = length (idsOf (automaton t) s block k); stream = stateAfter (automaton t) s block k }
+    unfolding scanned
+    accepted-scan = rw (eq-eqb (scanNumber t s (length block) (space ids offsets)) 0 ok)
+
+  pub refused-scan : ¬ (scanNumber t s (length block) (space ids offsets) ≡ 0)
+      → scanned t s block ids offsets ≡ record { number = scanNumber t s (length block) (space ids offsets); taken = 0; reports = 0; stream = s }
+  unfolding scanned
+  refused-scan bad = rw (ne-eqb (scanNumber t s (length block) (space ids offsets)) 0 bad)
+
   module _ (ok : scanned t s block ids offsets .number ≡ 0) where
-    yes-accepted : eqb (scanNumber t s (length block) (space ids offsets)) 0 ≡ true
-    yes-accepted = eq-eqb (scanNumber t s (length block) (space ids offsets)) 0 (sym scan-number ∙ ok)
-
-    scan-taken : scanned t s block ids offsets .taken ≡ takenBy t s block (space ids offsets)
-    unfolding scanned
-    scan-taken = rw yes-accepted
-
-    scan-stream : scanned t s block ids offsets .stream ≡ stateAfter (automaton t) s block (takenBy t s block (space ids offsets))
-    unfolding scanned
-    scan-stream = rw yes-accepted
+    is-accepted : scanNumber t s (length block) (space ids offsets) ≡ 0
+    is-accepted = sym scan-number ∙ ok
 
     held : Accepted t s (length block) (space ids offsets)
-    held = accepted t s (length block) (space ids offsets) (sym scan-number ∙ ok)
+    held = accepted t s (length block) (space ids offsets) is-accepted
+
+    -- the state handed back is that after the bytes taken
+    pub scan-state : scanned t s block ids offsets .stream ≡ stateAfter (automaton t) s block (scanned t s block ids offsets .taken)
+    scan-state = ap (λ (r : Scanned). r .stream) (accepted-scan is-accepted) ∙ sym (ap (λ (r : Scanned). stateAfter (automaton t) s block (r .taken)) (accepted-scan is-accepted))
 
     -- an accepted scan of a block with a byte takes one
     pub progress : 0 < length block → 0 < scanned t s block ids offsets .taken
     unfolding takenBy automaton
     progress h =
-        omega (arith, scan-taken, one-fits (automaton t) s block (space ids offsets) (length block) h (held .space))
+        omega (arith, ap (λ (r : Scanned). r .taken) (accepted-scan is-accepted), one-fits (automaton t) s block (space ids offsets) (length block) h (held .space))
 
     -- and gives back a state that is valid for the same words
     pub scanned-valid : valid (automaton t) (scanned t s block ids offsets .stream) ≡ true
-    unfolding takenBy
     scanned-valid =
-        ap (valid (automaton t)) scan-stream
-        ∙ fitted (automaton t) (stateAfter (automaton t) s block (takenBy t s block (space ids offsets)))
-        (fitting-after (automaton t) s block (held .state) (takenBy t s block (space ids offsets))
-        (omega (arith, held .short, held .state .limit, fits-le (automaton t) s block (space ids offsets) (length block))))
+        ap (valid (automaton t)) scan-state
+        ∙ fitted (automaton t) (stateAfter (automaton t) s block (scanned t s block ids offsets .taken))
+        (fitting-after (automaton t) s block (held .state) (scanned t s block ids offsets .taken) (omega (arith, held .short, taken-within)))
 
--- ---- an accepted closing
+-- ---- the answer of a closing
 
 -- the closed mark is no part of the test
 shut-valid : (w : Automaton) (s : Stream) → valid w (shut s) ≡ valid w s
@@ -177,13 +185,18 @@ module _ (t : List ℕ) (s : Stream) (ids offsets : List ℕ) where
       n : ℕ
       n = closeNumber t s (space ids offsets)
 
-  module _ (ok : closed t s ids offsets .number ≡ 0) where
-    close-stream : closed t s ids offsets .stream ≡ shut s
-    unfolding closed
-    close-stream = rw (eq-eqb (closeNumber t s (space ids offsets)) 0 (sym close-number-is ∙ ok))
+  -- by its number
+  pub accepted-close : closeNumber t s (space ids offsets) ≡ 0 → closed t s ids offsets ≡ record { number = 0; reports = length (closeIds (automaton t) s); stream = shut s }
+  unfolding closed
+  accepted-close ok = rw (eq-eqb (closeNumber t s (space ids offsets)) 0 ok)
 
-    -- it gives back a state that is valid for the same words
+  pub refused-close : ¬ (closeNumber t s (space ids offsets) ≡ 0) → closed t s ids offsets ≡ record { number = closeNumber t s (space ids offsets); reports = 0; stream = s }
+  unfolding closed
+  refused-close bad = rw (ne-eqb (closeNumber t s (space ids offsets)) 0 bad)
+
+  module _ (ok : closed t s ids offsets .number ≡ 0) where
+    -- an accepted one gives back a state that is valid for the same words
     pub closed-valid : valid (automaton t) (closed t s ids offsets .stream) ≡ true
     closed-valid =
-        ap (valid (automaton t)) close-stream ∙ shut-valid (automaton t) s
+        ap (λ (r : Closed). valid (automaton t) (r .stream)) (accepted-close (sym close-number-is ∙ ok)) ∙ shut-valid (automaton t) s
         ∙ fitted (automaton t) s (accepted t s 0 (space ids offsets) (close-number t s (space ids offsets) ∙ sym close-number-is ∙ ok) .state)

@@ -5,7 +5,6 @@ use mathlib.Core.Bool.{Bool, true, false, cond}
 use mathlib.Core.List.{List, [], _∷_, _++_}
 use Prim.Native.Nat.{ℕ, _+_, _-_, _^_, _≤_, _<_}
 use native.Mathlib.Omega.{arith}
-use borrow.Author.Tests.{eq-eqb}
 use lib.ListN.{length, take, drop, length-drop}
 use lib.Seq.{take-all}
 use Rattle.lines.specs.declared.RuleLine.{RuleLine}
@@ -24,11 +23,11 @@ use Rattle.rules.proofs.Additions.{words-pass}
 use Rattle.stream.specs.declared.Stream.{Stream}
 use Rattle.stream.specs.declared.Scanned.{Scanned}
 use Rattle.stream.specs.Byte.{stateAfter}
-use Rattle.stream.specs.Valid.{streamLimit, valid}
-use Rattle.stream.specs.Calls.{opened, space, scanNumber, scanned}
+use Rattle.stream.specs.Valid.{streamLimit}
+use Rattle.stream.specs.Calls.{opened, space, scanned}
 use Rattle.stream.proofs.Accepting.{fitting, fitted, not-refused}
 use Rattle.stream.proofs.Blocks.{taken-after, closed-after, state-later}
-use Rattle.stream.proofs.Results.{opened-valid, fitting-after, scan-number, taken-within, progress}
+use Rattle.stream.proofs.Results.{opened-stream, opened-valid, fitting-after, scan-number, taken-within, progress, scan-state}
 use Rattle.watcher.specs.Lines.{lineAnswer, lineWords}
 use Rattle.watcher.specs.Invariants.{FromEmpty, Running, Roomy}
 
@@ -95,8 +94,9 @@ pub record Passed (words₀ text out₀ words out : List ℕ) (from line at : �
 -- ---- watching
 
 pub opened-runs : (t : List ℕ) → isTable t ≡ true → Running t (opened t .stream) × (opened t .stream .taken ≡ 0)
-unfolding opened
-opened-runs t e = (record { table = e; fits = opened-valid t e; going = rw e }, rw e)
+opened-runs t e =
+    let is = opened-stream t e in
+    (record { table = e; fits = opened-valid t e; going = ap (λ (s : Stream). s .closed) is }, ap (λ (s : Stream). s .taken) is)
 
 -- after some bytes of a block the stream runs on
 pub runs-after : (t : List ℕ) (s : Stream) (block : List ℕ) (k : ℕ) → Running t s → s .taken + k ≤ streamLimit → Running t (stateAfter (automaton t) s block k)
@@ -112,16 +112,16 @@ module _ (t : List ℕ) (s : Stream) (block ids offsets : List ℕ) (h : Running
   abbrev r : Scanned
   r = scanned t s block ids offsets
 
-  number : scanNumber t s (length block) (space ids offsets) ≡ 0
+  number : r .number ≡ 0
   number =
-      sym (not-refused t s (length block) (space ids offsets) (h .table) (h .fits) (h .going) (omega arith) (omega (arith, passes t (h .table) .rules)))
+      scan-number t s block ids offsets
+      ∙ sym (not-refused t s (length block) (space ids offsets) (h .table) (h .fits) (h .going) (omega arith) (omega (arith, passes t (h .table) .rules)))
 
   takes-some : 0 < length block → 0 < r .taken
-  takes-some = progress t s block ids offsets (scan-number t s block ids offsets ∙ number)
+  takes-some = progress t s block ids offsets number
 
   state-after : r .stream ≡ stateAfter (automaton t) s block (r .taken)
-  unfolding scanned
-  state-after = rw (eq-eqb (scanNumber t s (length block) (space ids offsets)) 0 number)
+  state-after = scan-state t s block ids offsets number
 
 -- the loop over a block: the bytes passed are taken
 pub record Half (t block : List ℕ) (s now : Stream) (from : ℕ) : Type 0 where
