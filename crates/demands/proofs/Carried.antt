@@ -14,7 +14,8 @@ use Rattle.table.specs.Layout.{maxRules, maxPositions, rulesOf, positionsOf}
 use Rattle.table.specs.Automaton.{Automaton, automaton, single}
 use Rattle.regex.specs.Form.{Form, write, positions}
 use Rattle.regex.specs.Rule.{Rule, ByteSet, Assertion, world}
-use Rattle.regex.specs.Automaton.{First, Last, Follow, Takes, first, last, follow}
+use Rattle.regex.specs.Automaton.{first, last, follow}
+use Rattle.regex.proofs.Relations.{First, Last, Follow, Takes}
 use Rattle.regex.proofs.Computed.{first-T, last-T, follow-T}
 use Rattle.rules.specs.Additions.{Accepted, ruleOf, size, used}
 use Rattle.rules.proofs.Sorted.{Placed, at, laid, byId, byId-rule, byId-mem, mem-at, laid-mem}

@@ -21,7 +21,7 @@ use Rattle.regex.specs.Form.{Form, Match, Reach, positions}
 use Rattle.regex.specs.Live.{Reached}
 use Rattle.regex.specs.Gap.{no-bytes}
 use Rattle.regex.specs.Rule.{Rule, ByteSet, Assertion, world, stream}
-use Rattle.regex.specs.Automaton.{First, Last}
+use Rattle.regex.proofs.Relations.{First, Last}
 use Rattle.regex.proofs.Logic.{and-T, or-T, true-T}
 use Rattle.regex.proofs.Range.{last-inside, follow-inside}
 use Rattle.regex.proofs.Local.{reach-up}

@@ -7,8 +7,9 @@ use mathlib.Core.List.{List, [], _∷_, map, List·Memᴰ, List·Memᴰ·head, L
 use Prim.Native.Nat.{ℕ}
 use lib.Dec.{eqb}
 use borrow.Author.Tests.{eqb-true, eq-eqb}
-use Rattle.regex.specs.Rule.{Rule, Distinct}
+use Rattle.regex.specs.Rule.{Rule}
 use Rattle.regex.specs.Ordered.{Entry, entry, Rising, Owed, IsList, Pair, pair, ofId, Ordered}
+use Rattle.regex.proofs.Reports.{Distinct}
 
 -- the entries of one id
 of : ℕ → Entry → Bool

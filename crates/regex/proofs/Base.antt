@@ -11,10 +11,10 @@ use lib.ListN.{length}
 use Rattle.sets.specs.Set.{has}
 use Rattle.regex.specs.Form.{Form, Match, Reach}
 use Rattle.regex.specs.Live.{Reached}
-use Rattle.regex.specs.Gap.{no-bytes, Near}
+use Rattle.regex.specs.Gap.{no-bytes}
 use Rattle.regex.specs.Rule.{Assertion, world, holds, ByteSet, stream}
-use Rattle.regex.specs.Automaton.{First, Last, Follow, Takes}
-use Rattle.regex.proofs.Stream.{next, over, nothing-yet}
+use Rattle.regex.proofs.Relations.{First, Last, Follow, Takes}
+use Rattle.regex.proofs.Stream.{Near, next, over, nothing-yet}
 
 pub near : (ended : Bool) → Near holds ended
 near ended a before x rest = refl

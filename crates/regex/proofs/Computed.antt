@@ -2,13 +2,14 @@
 use mathlib.Core.Path.{_≡_, refl, sym, subst, subst₂, ap, _∙_}
 use mathlib.Core.Logic.{_⊎_, _↔_}
 use mathlib.Core.Bool.{Bool, _&&_, _||_}
-use mathlib.Core.List.{List, [], _++_, append-assoc}
+use mathlib.Core.List.{List, _++_, append-assoc}
 use Prim.Native.Nat.{ℕ, _+_}
 use lib.Dec.{T}
 use lib.ListN.{length, getD, length-append}
 use lib.Seq.{getD-append-seam}
 use Rattle.regex.specs.Form.{Form, eps, take, check, seq, alt, plus, opt, positions}
-use Rattle.regex.specs.Automaton.{Null, First, Last, Follow, null, first, last, follow, items, Takes}
+use Rattle.regex.specs.Automaton.{null, first, last, follow, items}
+use Rattle.regex.proofs.Relations.{Null, First, Last, Follow, Takes}
 use Rattle.regex.proofs.Logic.{eq-T, iff-both, iff-either}
 
 module _ {C A : Type 0} (w : A → Bool) where

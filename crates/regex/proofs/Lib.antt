@@ -1,6 +1,7 @@
--- The theorems about the definitions of specs/, for the crates that build on them.
+-- The theorems about the definitions of specs/, for the crates that build on them. Relations has definitions that these theorems alone need.
 pub mod Logic
 pub mod Example
+pub mod Relations
 pub mod Written
 pub mod Range
 pub mod Shift

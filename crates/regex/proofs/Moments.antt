@@ -4,7 +4,7 @@
 use mathlib.Core.Path.{_≡_, sym, subst, subst₂, ap, ap₂, _∙_}
 use mathlib.Core.Logic.{_⊎_, inl, inr, _↔_}
 use mathlib.Core.Bool.{Bool, true, false, _&&_, and-false, and-true}
-use mathlib.Core.List.{List, [], _++_}
+use mathlib.Core.List.{List, _++_}
 use Prim.Native.Nat.{ℕ, suc, _+_, _≤_, _<_}
 use native.Mathlib.Omega.{arith}
 use native.Mathlib.Decide.{decLt, decLe}
@@ -15,9 +15,9 @@ use Rattle.sets.specs.Set.{has}
 use Rattle.regex.specs.Tree.{Means}
 use Rattle.regex.specs.Form.{Form, Match, Reach, write}
 use Rattle.regex.specs.Gap.{no-bytes}
-use Rattle.regex.specs.Rule.{Rule, Assertion, world, holds, ByteSet, stream, MatchEnds}
+use Rattle.regex.specs.Rule.{Rule, Assertion, world, ByteSet, stream, MatchEnds}
 use Rattle.regex.specs.Ordered.{closing, end-known, seen, Settled, Falls}
-use Rattle.regex.specs.Automaton.{Last}
+use Rattle.regex.proofs.Relations.{Last}
 use Rattle.regex.proofs.Logic.{and-T, true-T, false-T}
 use Rattle.regex.proofs.Written.{written, unwritten}
 use Rattle.regex.proofs.Step.{end}

@@ -5,7 +5,7 @@ use Prim.Native.Nat.{ℕ, _+_, _≤_, _<_}
 use native.Mathlib.Omega.{arith}
 use Rattle.regex.specs.Tree.{Text}
 use Rattle.regex.specs.Form.{Form, eps, take, check, seq, alt, plus, opt, positions, Reach}
-use Rattle.regex.specs.Automaton.{First, Last, Follow}
+use Rattle.regex.proofs.Relations.{First, Last, Follow}
 
 abbrev pub Inside : {C A : Type 0} → Form C A → ℕ → ℕ → Type 0
 Inside f b q = (b ≤ q) × (q < b + positions f)

@@ -8,9 +8,13 @@ use Prim.Native.Nat.{ℕ, _≤_, _<_}
 use native.Mathlib.Omega.{arith}
 use native.Mathlib.Decide.{decLt}
 use lib.ListN.{length}
-use Rattle.regex.specs.Rule.{Rule, MatchEnds, Reported, Distinct}
+use Rattle.regex.specs.Rule.{Rule, MatchEnds, Reported}
 use Rattle.regex.specs.Ordered.{closing, Falls, Earlier, Stays, Entry, entry, Before, Rising, IsList, Pair, pair, Ordered, Once}
 use Rattle.regex.proofs.Moments.{stays-settled, falls-when, falls-some, settled-whole}
+
+-- ids tell the rules apart: "Ids: any 32-bit number, each once."
+abbrev pub Distinct : List Rule → Type 0
+Distinct rules = (r s : Rule) → List·Memᴰ r rules → List·Memᴰ s rules → r .id ≡ s .id → r ≡ s
 
 module _ (bytes : List ℕ) (r : Rule) where
   -- A pair that falls matches on the whole stream, and a match falls at some moment.

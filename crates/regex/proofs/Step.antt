@@ -11,7 +11,7 @@ use lib.Dec.{T}
 use Rattle.regex.specs.Tree.{Text}
 use Rattle.regex.specs.Form.{Form, eps, take, check, seq, alt, plus, opt, Star, done, more, Match, positions, Reach}
 use Rattle.regex.specs.Live.{Reached}
-use Rattle.regex.specs.Automaton.{Null, First, Last, Follow, Takes}
+use Rattle.regex.proofs.Relations.{Null, First, Last, Follow, Takes}
 use Rattle.regex.proofs.Local.{reach-up}
 use Rattle.regex.proofs.Range.{last-inside, follow-inside, reach-inside}
 

@@ -12,11 +12,21 @@ use lib.Seq.{getD-append-seam, take-append-le, take-append-seam, drop-append-sea
 use Rattle.regex.specs.Tree.{Text}
 use Rattle.regex.specs.Form.{Form, Match, Reach}
 use Rattle.regex.specs.Live.{Reached}
-use Rattle.regex.specs.Gap.{Gap, gap, text, between, Near}
-use Rattle.regex.specs.Automaton.{First, Last, Follow, Takes}
+use Rattle.regex.specs.Gap.{Gap, text}
+use Rattle.regex.proofs.Relations.{First, Last, Follow, Takes}
 use Rattle.regex.proofs.Logic.{and-T}
 use Rattle.regex.proofs.Step.{step-anywhere, end}
 use Rattle.regex.proofs.Local.{reach-local, match-local, reach-up}
+
+-- the gap between these bytes and those, after which the stream has ended or may go on
+abbrev pub between : List ℕ → List ℕ → Bool → Gap
+between before after ended = record { before = before; after = after; ended = ended }
+
+-- Assertions that look one byte ahead: where a byte is after the gap, nothing behind that byte matters. Asked separately of streams that
+-- have ended and of those that may go on, since an assertion could look at a last newline.
+abbrev pub Near : {A : Type 0} → (A → Gap → Bool) → Bool → Type 0
+Near {A} holds ended = (a : A) (before : List ℕ) (x : ℕ) (rest : List ℕ)
+    → holds a (between before (x ∷ rest) ended) ≡ holds a (between before (x ∷ []) false)
 
 module _ {C A : Type 0} (has : C → ℕ → Bool) (holds : A → Gap → Bool) where
   abbrev On : List ℕ → Bool → Text C A

@@ -4,7 +4,7 @@ use mathlib.Core.Bool.{Bool}
 use Prim.Native.Nat.{ℕ, _+_}
 use lib.Dec.{T}
 use Rattle.regex.specs.Form.{Form, eps, take, check, seq, alt, plus, opt, positions}
-use Rattle.regex.specs.Automaton.{Null, First, Last, Follow}
+use Rattle.regex.proofs.Relations.{Null, First, Last, Follow}
 
 module _ {C A : Type 0} (v w : A → Bool) (to : (a : A) → T (v a) → T (w a)) where
   pub null-more : (f : Form C A) → Null v f → Null w f

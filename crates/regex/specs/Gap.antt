@@ -1,5 +1,4 @@
 -- What is known at a gap between two bytes, and the text of some bytes. Assumes nothing: these are definitions.
-use mathlib.Core.Path.{_≡_}
 use mathlib.Core.Bool.{Bool, true, false, _&&_}
 use mathlib.Core.List.{List, [], _∷_}
 use Prim.Native.Nat.{ℕ}
@@ -28,13 +27,3 @@ text has holds bytes ended = record {
 abbrev pub no-bytes : List ℕ → Bool
 no-bytes [] = true
 no-bytes (x ∷ l) = false
-
--- the gap between these bytes and those, after which the stream has ended or may go on
-abbrev pub between : List ℕ → List ℕ → Bool → Gap
-between before after ended = record { before = before; after = after; ended = ended }
-
--- Assertions that look one byte ahead: where a byte is after the gap, nothing behind that byte matters. Asked separately of streams that
--- have ended and of those that may go on, since an assertion could look at a last newline.
-abbrev pub Near : {A : Type 0} → (A → Gap → Bool) → Bool → Type 0
-Near {A} holds ended = (a : A) (before : List ℕ) (x : ℕ) (rest : List ℕ)
-    → holds a (between before (x ∷ rest) ended) ≡ holds a (between before (x ∷ []) false)

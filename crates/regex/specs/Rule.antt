@@ -1,7 +1,6 @@
 -- Rules, the assertions of the product, and what a rule matches in a stream. Assumes nothing: these are definitions.
-use mathlib.Core.Path.{_≡_}
 use mathlib.Core.Bool.{Bool, true, _&&_}
-use mathlib.Core.List.{List, List·Memᴰ}
+use mathlib.Core.List.{List}
 use Prim.Native.Nat.{ℕ, _<_}
 use lib.Dec.{T}
 use Rattle.sets.specs.Set.{has}
@@ -44,7 +43,3 @@ MatchEnds r bytes e = (s : ℕ) × (s < e) × Means (stream bytes true) (r .tree
 -- its flags. A single-match rule reports only its smallest such offset."
 abbrev pub Reported : Rule → List ℕ → ℕ → Type 0
 Reported r bytes e = MatchEnds r bytes e × (T (r .single) → (d : ℕ) → d < e → ¬ MatchEnds r bytes d)
-
--- ids tell the rules apart: "Ids: any 32-bit number, each once."
-abbrev pub Distinct : List Rule → Type 0
-Distinct rules = (r s : Rule) → List·Memᴰ r rules → List·Memᴰ s rules → r .id ≡ s .id → r ≡ s

@@ -20,11 +20,13 @@ use Rattle.table.proofs.Over.{from-to-in, from-to-below}
 use Rattle.table.proofs.Emptying.{noRules}
 use Rattle.regex.specs.Form.{Form, eps, take, check, seq, alt, plus, opt, write, positions}
 use Rattle.regex.specs.Count.{nullable}
-use Rattle.regex.specs.Rule.{Assertion, ByteSet, Rule, Distinct}
-use Rattle.regex.specs.Automaton.{first, last, follow, items, Takes}
+use Rattle.regex.specs.Rule.{Assertion, ByteSet, Rule}
+use Rattle.regex.specs.Automaton.{first, last, follow, items}
+use Rattle.regex.proofs.Relations.{Takes}
 use Rattle.regex.proofs.Logic.{false-T}
 use Rattle.regex.proofs.Computed.{first-T, last-T, follow-T, items-agree}
 use Rattle.regex.proofs.Range.{first-inside, last-inside, follow-inside, follow-inside-to}
+use Rattle.regex.proofs.Reports.{Distinct}
 use Rattle.automaton.specs.Parts.{inside, atStart, atEnd, formParts}
 use Rattle.automaton.specs.declared.Parts.{Parts}
 use Rattle.rules.specs.Additions.{Accepted, size, ruleOf}
