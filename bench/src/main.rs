@@ -3,10 +3,7 @@
 //! best of several runs, the matchers taking turns; their reports must be the same.
 
 mod clock;
-#[cfg(feature = "hyperscan")]
-mod hyperscan;
 mod logs;
-#[cfg(feature = "add")]
 mod longest;
 mod ordinary;
 mod rules;
@@ -113,8 +110,15 @@ fn by_ordinary(matcher: &Matcher, log: &[u8], block: usize, reports: &mut Report
 }
 
 #[cfg(feature = "hyperscan")]
+fn hyperscan_database() -> hyperscan::Database {
+    let rules: Vec<(u32, u32, &[u8])> =
+        RULES.iter().map(|&(id, flags, pattern)| (id, flags, pattern.as_bytes())).collect();
+    hyperscan::Database::new(&rules, hyperscan::Mode::Stream).expect("Hyperscan takes the rules")
+}
+
+#[cfg(feature = "hyperscan")]
 fn by_hyperscan(log: &[u8], block: usize) -> impl FnMut(&mut Reports) + '_ {
-    let database = hyperscan::Database::new(RULES);
+    let database = hyperscan_database();
     move |reports| {
         let mut stream = database.open();
         for part in log.chunks(block) {
@@ -156,7 +160,6 @@ fn single_calls(table: &[u64]) {
     additions();
 }
 
-#[cfg(feature = "add")]
 fn additions() {
     let mut words = vec![0; TABLE_WORDS];
     let all = each(100, || {
@@ -179,15 +182,12 @@ fn additions() {
     }
 }
 
-#[cfg(not(feature = "add"))]
-fn additions() {}
-
 fn memory(matcher: &Matcher) {
     println!("\nbytes: library's table {}, its state {}", TABLE_WORDS * 8, STATE_WORDS * 8);
     println!("bytes: ordinary matcher about {}", matcher.size());
     #[cfg(feature = "hyperscan")]
     {
-        let (database, stream) = hyperscan::Database::new(RULES).sizes();
+        let (database, stream) = hyperscan_database().sizes();
         println!("bytes: Hyperscan's database {database}, its stream {stream}");
     }
 }

@@ -5,7 +5,6 @@
 //! for Hyperscan (it holds before a last newline), and what an outside matcher refuses. What one
 //! side accepts and the other refuses is counted and shown, not judged.
 
-mod hyperscan;
 mod pcre2;
 
 use std::collections::BTreeMap;
@@ -15,6 +14,7 @@ use harness::patterns::pattern;
 use harness::random::log;
 use harness::readings;
 use harness::rng::Rng;
+use hyperscan::{Database, Mode};
 use reference::known::Known;
 use reference::meaning::ends;
 use reference::rule::{check, Rule};
@@ -122,7 +122,7 @@ fn one(rng: &mut Rng, count: &mut Count) -> Result<(), String> {
         }
     }
     if !pattern.contains(&b'$') {
-        if let Some(database) = hyperscan::Pattern::compile(&pattern, flags) {
+        if let Some(database) = Database::new(&[(1, flags, &pattern)], Mode::Block) {
             with_hyperscan(&rule, &database, &log, count)?;
         }
     }
@@ -163,14 +163,18 @@ fn with_pcre2(
 
 fn with_hyperscan(
     rule: &Rule,
-    database: &hyperscan::Pattern,
+    database: &Database,
     log: &[u8],
     count: &mut Count,
 ) -> Result<(), String> {
     let known = Known::at_closing(log);
     let starts: Vec<usize> = (0..log.len()).collect();
     let ours = ends(&rule.tree, &starts, &known);
-    let theirs = database.ends(log);
+    let mut reports = Vec::new();
+    database.scan_block(log, &mut reports);
+    let mut theirs: Vec<usize> = reports.iter().map(|&(_, end)| end as usize).collect();
+    theirs.sort_unstable();
+    theirs.dedup();
     if ours != theirs {
         return Err(told(rule, log, &format!("{ours:?}, Hyperscan {theirs:?}")));
     }
