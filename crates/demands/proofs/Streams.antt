@@ -12,7 +12,7 @@ use Rattle.stream.specs.declared.Stream.{Stream}
 use Rattle.stream.specs.Byte.{stateAfter, closeIds}
 use Rattle.stream.specs.Calls.{fresh}
 use Rattle.regex.specs.Rule.{Rule, ByteSet}
-use Rattle.regex.specs.Ordered.{closing, pair, Pair, Ordered}
+use Rattle.regex.specs.Ordered.{closing-moment, pair, Pair, Ordered}
 use Rattle.demands.proofs.Carried.{Carries}
 use Rattle.demands.specs.Chain.{Item, bytesOf, reportsOf, OthersRefused, Closes, Blocks}
 use Rattle.demands.proofs.Tracked.{opens}
@@ -36,9 +36,9 @@ module _ (t : List ℕ) (rule : ℕ → Rule) (from : ℕ → ℕ) (tab : ℕ �
       let last : Stream = stateAfter w s bytes (length bytes) in
       let new : List ℕ = closeIds w last in
       let offset : length bytes ≡ last .taken = omega (arith, taken-after w s bytes (length bytes)) in
-      map-append (entriesOf w s bytes (length bytes)) (run (closing bytes) (length bytes) new)
+      map-append (entriesOf w s bytes (length bytes)) (run (closing-moment bytes) (length bytes) new)
       ∙ ap₂ (λ (x y : List Pair). x ++ y) (entries-pairs w s bytes refl (length bytes))
-      (run-pairs (closing bytes) (length bytes) new ∙ ap (λ (o : ℕ). zip new (replicate (length new) o)) offset)
+      (run-pairs (closing-moment bytes) (length bytes) new ∙ ap (λ (o : ℕ). zip new (replicate (length new) o)) offset)
 
   pub ordered : (l : List Item) → OthersRefused t s l → Closes t s l → Blocks l → Ordered rules (bytesOf t s l) (reportsOf t s l)
   ordered l h c b =

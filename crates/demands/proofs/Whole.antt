@@ -14,7 +14,7 @@ use Rattle.table.specs.Automaton.{Automaton, single}
 use Rattle.stream.specs.declared.Stream.{Stream}
 use Rattle.stream.specs.Byte.{nextLive, ends, endsAtEnd, due, runIds, byteIds, byteState, stateAfter, closeIds}
 use Rattle.regex.specs.Rule.{Rule, ByteSet}
-use Rattle.regex.specs.Ordered.{closing, Settled, Falls, Hides, Stays, Entry, entry, Before, Rising, Owed, IsList}
+use Rattle.regex.specs.Ordered.{closing-moment, Settled, Falls, Hides, Stays, Entry, entry, Before, Rising, Owed, IsList}
 use Rattle.regex.proofs.Logic.{and-T}
 use Rattle.regex.proofs.Enumerated.{append-rising}
 use Rattle.regex.proofs.Moments.{EndsAt, by-byte, by-end, falls-at, falls-when}
@@ -44,13 +44,13 @@ module _ (bytes : List ℕ) (r : Rule) where
   )
     where
       none : ¬ Marked k → (j d : ℕ) → Falls bytes r j d → Hides bytes r j d (suc k) (suc k)
-          → ((j ≡ d) × (d ≤ length bytes)) ⊎ ((j ≡ closing bytes) × (d ≡ length bytes)) → ⊥
+          → ((j ≡ d) × (d ≤ length bytes)) ⊎ ((j ≡ closing-moment bytes) × (d ≡ length bytes)) → ⊥
       none n j d f x (inl y) =
           n (x .0, (d, elim (x .1) [ inl u ↦ omega (arith, y .0) | inr u ↦ omega (arith, u .1) ], ended-by j d f (y .0) (y .1)))
       none n j d f x (inr y) = elim (x .1) [ inl u ↦ omega (arith, y .0) | inr u ↦ omega (arith, u .0, y .0) ]
 
   pub stays-end : (EndsAt bytes r (length bytes) true × (¬ EndsAt bytes r (length bytes) false) × (¬ Marked (length bytes)))
-      ↔ Stays bytes r (closing bytes) (length bytes)
+      ↔ Stays bytes r (closing-moment bytes) (length bytes)
   stays-end = (
     λ h. record {
       falls = record {
@@ -73,8 +73,8 @@ module _ (bytes : List ℕ) (r : Rule) where
       n : ℕ
       n = length bytes
 
-      none : ¬ Marked n → (j d : ℕ) → Falls bytes r j d → Hides bytes r j d (closing bytes) n
-          → ((j ≡ d) × (d ≤ length bytes)) ⊎ ((j ≡ closing bytes) × (d ≡ length bytes)) → ⊥
+      none : ¬ Marked n → (j d : ℕ) → Falls bytes r j d → Hides bytes r j d (closing-moment bytes) n
+          → ((j ≡ d) × (d ≤ length bytes)) ⊎ ((j ≡ closing-moment bytes) × (d ≡ length bytes)) → ⊥
       none u j d f x (inl y) = u (x .0, (d, y .1, ended-by j d f (y .0) (y .1)))
       none u j d f x (inr y) = elim (x .1) [ inl v ↦ omega (arith, y .0) | inr v ↦ omega (arith, v .1, y .1) ]
 
@@ -150,7 +150,7 @@ module _ (w : Automaton) (s : Stream) (bytes : List ℕ) where
   entriesOf (suc k) = entriesOf k ++ run (suc k) (suc k) (byteIds w (stateAfter w s bytes k) (getD bytes k 0))
 
   unfoldable pub wholeOf : List Entry
-  wholeOf = entriesOf (length bytes) ++ run (closing bytes) (length bytes) (closeIds w (stateAfter w s bytes (length bytes)))
+  wholeOf = entriesOf (length bytes) ++ run (closing-moment bytes) (length bytes) (closeIds w (stateAfter w s bytes (length bytes)))
 
   pub entries-in : (n k : ℕ) → k < n → (i : ℕ) → List·Memᴰ i (byteIds w (stateAfter w s bytes k) (getD bytes k 0)) → List·Memᴰ (entry (suc k) (suc k) i) (entriesOf n)
   unfolding entriesOf
@@ -203,7 +203,7 @@ module _ (w : Automaton) (rule : ℕ → Rule) (from : ℕ → ℕ) (tab : ℕ �
   -- what the closing reports
   due-close : (a : ℕ) → a < w .rules
       → T (due w (λ a. endsAtEnd w (stateAfter w s bytes n .live) a && not (ends w (stateAfter w s bytes n .live) a)) (stateAfter w s bytes n .reported) a)
-      ↔ Stays bytes (rule a) (closing bytes) n
+      ↔ Stays bytes (rule a) (closing-moment bytes) n
   due-close a lt =
       let last : Stream = stateAfter w s bytes n in
       let y : Bool = endsAtEnd w (last .live) a in
@@ -246,56 +246,56 @@ module _ (w : Automaton) (rule : ℕ → Rule) (from : ℕ → ℕ) (tab : ℕ �
   unfolding wholeOf closeIds byteIds
   whole = record {
     rising =
-        append-rising (entriesOf w s bytes n) (run (closing bytes) n (closeIds w (stateAfter w s bytes n))) (entries-rising n (omega arith))
+        append-rising (entriesOf w s bytes n) (run (closing-moment bytes) n (closeIds w (stateAfter w s bytes n))) (entries-rising n (omega arith))
         (run-rising w id-rising
         (λ a. endsAtEnd w (stateAfter w s bytes n .live) a && not (ends w (stateAfter w s bytes n .live) a)) (stateAfter w s bytes n .reported)
-        (closing bytes) n (w .rules) (omega arith))
+        (closing-moment bytes) n (w .rules) (omega arith))
         (λ x y a b. order x y a b);
     exactly = λ x. (λ m. owed x (List·Memᴰ·append-cases (entriesOf w s bytes n) m), λ h. found x h);
   }
     where
-      order : (x y : Entry) → List·Memᴰ x (entriesOf w s bytes n) → List·Memᴰ y (run (closing bytes) n (closeIds w (stateAfter w s bytes n))) → Before x y
+      order : (x y : Entry) → List·Memᴰ x (entriesOf w s bytes n) → List·Memᴰ y (run (closing-moment bytes) n (closeIds w (stateAfter w s bytes n))) → Before x y
       order x y a b =
           let p = entries-out w s bytes n x a in
-          let q = out-run (closing bytes) n (closeIds w (stateAfter w s bytes n)) y b in
+          let q = out-run (closing-moment bytes) n (closeIds w (stateAfter w s bytes n)) y b in
           subst₂ Before (sym (p .2 .2)) (sym (q .2)) (inl (omega (arith, p .1)))
 
       owe : (m e a : ℕ) → a < w .rules → Stays bytes (rule a) m e → (i : ℕ) → w .id a ≡ i → Owed rules bytes (entry m e i)
       owe m e a lt h i q = (rule a, listed (rule a) .1 (a, lt, refl), sym (enc .id-is a lt) ∙ q, h)
 
-      owed : (x : Entry) → List·Memᴰ x (entriesOf w s bytes n) ⊎ List·Memᴰ x (run (closing bytes) n (closeIds w (stateAfter w s bytes n))) → Owed rules bytes x
+      owed : (x : Entry) → List·Memᴰ x (entriesOf w s bytes n) ⊎ List·Memᴰ x (run (closing-moment bytes) n (closeIds w (stateAfter w s bytes n))) → Owed rules bytes x
       owed x (inl m) =
           let p = entries-out w s bytes n x m in
           let k : ℕ = p .0 in
           let q = run-out w (ends w (nextLive w (stateAfter w s bytes k) (getD bytes k 0))) (stateAfter w s bytes k .reported) (w .rules) (p .2 .0) (p .2 .1) in
           subst (Owed rules bytes) (sym (p .2 .2)) (owe (suc k) (suc k) (q .0) (q .1) (due-byte k (p .1) (q .0) (q .1) .0 (q .2)) (p .2 .0) (q .3))
       owed x (inr m) =
-          let p = out-run (closing bytes) n (closeIds w (stateAfter w s bytes n)) x m in
+          let p = out-run (closing-moment bytes) n (closeIds w (stateAfter w s bytes n)) x m in
           let q = run-out w (λ a. endsAtEnd w (stateAfter w s bytes n .live) a && not (ends w (stateAfter w s bytes n .live) a))
           (stateAfter w s bytes n .reported) (w .rules) (p .0) (p .1) in
-          subst (Owed rules bytes) (sym (p .2)) (owe (closing bytes) n (q .0) (q .1) (due-close (q .0) (q .1) .0 (q .2)) (p .0) (q .3))
+          subst (Owed rules bytes) (sym (p .2)) (owe (closing-moment bytes) n (q .0) (q .1) (due-close (q .0) (q .1) .0 (q .2)) (p .0) (q .3))
 
       found : (x : Entry) → Owed rules bytes x
-          → List·Memᴰ x (entriesOf w s bytes n ++ run (closing bytes) n (closeIds w (stateAfter w s bytes n)))
+          → List·Memᴰ x (entriesOf w s bytes n ++ run (closing-moment bytes) n (closeIds w (stateAfter w s bytes n)))
       found (entry m e i) h =
           let l = listed (h .0) .0 (h .1) in
           let st : Stays bytes (rule (l .0)) m e = subst (λ (r : Rule). Stays bytes r m e) (l .2) (h .3) in
           let is : w .id (l .0) ≡ i = enc .id-is (l .0) (l .1) ∙ ap (λ (r : Rule). r .id) (sym (l .2)) ∙ h .2 in
-          subst (λ (i : ℕ). List·Memᴰ (entry m e i) (entriesOf w s bytes n ++ run (closing bytes) n (closeIds w (stateAfter w s bytes n)))) is
+          subst (λ (i : ℕ). List·Memᴰ (entry m e i) (entriesOf w s bytes n ++ run (closing-moment bytes) n (closeIds w (stateAfter w s bytes n)))) is
           (there (l .0) (l .1) m e st (falls-when bytes (rule (l .0)) m e (st .falls)))
         where
-          there : (a : ℕ) → a < w .rules → (m e : ℕ) → Stays bytes (rule a) m e → ((m ≡ e) × (e ≤ n)) ⊎ ((m ≡ closing bytes) × (e ≡ n))
-              → List·Memᴰ (entry m e (w .id a)) (entriesOf w s bytes n ++ run (closing bytes) n (closeIds w (stateAfter w s bytes n)))
+          there : (a : ℕ) → a < w .rules → (m e : ℕ) → Stays bytes (rule a) m e → ((m ≡ e) × (e ≤ n)) ⊎ ((m ≡ closing-moment bytes) × (e ≡ n))
+              → List·Memᴰ (entry m e (w .id a)) (entriesOf w s bytes n ++ run (closing-moment bytes) n (closeIds w (stateAfter w s bytes n)))
           there a lt m zero st v = absurd (omega (arith, st .falls .settled .earlier))
           there a lt m (suc k) st (inl v) =
-              subst (λ (m : ℕ). List·Memᴰ (entry m (suc k) (w .id a)) (entriesOf w s bytes n ++ run (closing bytes) n (closeIds w (stateAfter w s bytes n)))) (sym (v .0))
-              (Memᴰ·append-left (run (closing bytes) n (closeIds w (stateAfter w s bytes n)))
+              subst (λ (m : ℕ). List·Memᴰ (entry m (suc k) (w .id a)) (entriesOf w s bytes n ++ run (closing-moment bytes) n (closeIds w (stateAfter w s bytes n)))) (sym (v .0))
+              (Memᴰ·append-left (run (closing-moment bytes) n (closeIds w (stateAfter w s bytes n)))
               (entries-in w s bytes n k (v .1) (w .id a)
               (run-in w (ends w (nextLive w (stateAfter w s bytes k) (getD bytes k 0))) (stateAfter w s bytes k .reported) (w .rules) a lt
               (due-byte k (v .1) a lt .1 (subst (λ (m : ℕ). Stays bytes (rule a) m (suc k)) (v .0) st)))))
           there a lt m (suc k) st (inr v) =
-              subst₂ (λ (m e : ℕ). List·Memᴰ (entry m e (w .id a)) (entriesOf w s bytes n ++ run (closing bytes) n (closeIds w (stateAfter w s bytes n)))) (sym (v .0)) (sym (v .1))
+              subst₂ (λ (m e : ℕ). List·Memᴰ (entry m e (w .id a)) (entriesOf w s bytes n ++ run (closing-moment bytes) n (closeIds w (stateAfter w s bytes n)))) (sym (v .0)) (sym (v .1))
               (Memᴰ·append-right (entriesOf w s bytes n)
-              (in-run (closing bytes) n (closeIds w (stateAfter w s bytes n)) (w .id a)
+              (in-run (closing-moment bytes) n (closeIds w (stateAfter w s bytes n)) (w .id a)
               (run-in w (λ a. endsAtEnd w (stateAfter w s bytes n .live) a && not (ends w (stateAfter w s bytes n .live) a)) (stateAfter w s bytes n .reported) (w .rules) a lt
               (due-close a lt .1 (subst₂ (λ (m e : ℕ). Stays bytes (rule a) m e) (v .0) (v .1) st)))))

@@ -16,7 +16,7 @@ use Rattle.regex.specs.Tree.{Means}
 use Rattle.regex.specs.Form.{Form, Match, Reach, write}
 use Rattle.regex.specs.Gap.{no-bytes}
 use Rattle.regex.specs.Rule.{Rule, Assertion, world, ByteSet, stream, MatchEnds}
-use Rattle.regex.specs.Ordered.{closing, end-known, seen, Settled, Falls}
+use Rattle.regex.specs.Ordered.{closing-moment, end-known, seen, Settled, Falls}
 use Rattle.regex.proofs.Relations.{Last}
 use Rattle.regex.proofs.Logic.{and-T, true-T, false-T}
 use Rattle.regex.proofs.Written.{written, unwritten}
@@ -29,8 +29,8 @@ use Rattle.regex.proofs.OneList.{settled-dec}
 before-closing : (bytes : List ℕ) (m : ℕ) → m ≤ length bytes → end-known bytes m ≡ false
 before-closing bytes m le = false-T (end-known bytes m) (λ h. omega (arith, ltb→lt (length bytes) m h))
 
-at-closing : (bytes : List ℕ) → end-known bytes (closing bytes) ≡ true
-at-closing bytes = true-T (end-known bytes (closing bytes)) (lt→ltb (length bytes) (closing bytes) (omega arith))
+at-closing : (bytes : List ℕ) → end-known bytes (closing-moment bytes) ≡ true
+at-closing bytes = true-T (end-known bytes (closing-moment bytes)) (lt→ltb (length bytes) (closing-moment bytes) (omega arith))
 
 module _ (bytes : List ℕ) (r : Rule) where
   abbrev n : ℕ
@@ -96,7 +96,7 @@ module _ (bytes : List ℕ) (r : Rule) where
   by-end-early e lt = subst (λ (z : Bool). Settled bytes r (suc n) e ↔ EndsAt e z) (ended-at-closing e ∙ ap no-bytes (drop-cons bytes e 0 lt)) (settled-is (suc n) e (omega arith) (omega arith))
 
   -- what is settled stays settled
-  pub stays-settled : (j m e : ℕ) → j ≤ m → m ≤ closing bytes → Settled bytes r j e → Settled bytes r m e
+  pub stays-settled : (j m e : ℕ) → j ≤ m → m ≤ closing-moment bytes → Settled bytes r j e → Settled bytes r m e
   stays-settled j m e le lc h = go (within j e h) (decLe m n) (decLe j n) (decLt e n)
     where
       go : (e ≤ j) × (e ≤ n) → Dec (m ≤ n) → Dec (j ≤ n) → Dec (e < n) → Settled bytes r m e
@@ -115,10 +115,10 @@ module _ (bytes : List ℕ) (r : Rule) where
           more Rattle.regex.specs.Rule.at-end h = tt
 
   -- A pair falls with its last byte, or at the closing, and there only at the stream's end.
-  pub falls-when : (m e : ℕ) → Falls bytes r m e → ((m ≡ e) × (e ≤ n)) ⊎ ((m ≡ closing bytes) × (e ≡ n))
+  pub falls-when : (m e : ℕ) → Falls bytes r m e → ((m ≡ e) × (e ≤ n)) ⊎ ((m ≡ closing-moment bytes) × (e ≡ n))
   falls-when m e h = go (within m e (h .settled)) (decLt e m) (decLe m n) (decLt e n)
     where
-      go : (e ≤ m) × (e ≤ n) → Dec (e < m) → Dec (m ≤ n) → Dec (e < n) → ((m ≡ e) × (e ≤ n)) ⊎ ((m ≡ closing bytes) × (e ≡ n))
+      go : (e ≤ m) × (e ≤ n) → Dec (e < m) → Dec (m ≤ n) → Dec (e < n) → ((m ≡ e) × (e ≤ n)) ⊎ ((m ≡ closing-moment bytes) × (e ≡ n))
       go w (no ge) d c = inl (omega arith, w .1)
       go w (yes lt) (yes ln) c = absurd (h .not-before e (omega arith) lt (by-byte e e (omega arith) (w .1) .1 (by-byte m e (omega arith) ln .0 (h .settled))))
       go w (yes lt) (no gn) (yes le) =
@@ -136,14 +136,14 @@ module _ (bytes : List ℕ) (r : Rule) where
   }
 
   -- Whatever is settled at the closing falls at some moment.
-  pub falls-some : (e : ℕ) → Settled bytes r (closing bytes) e → (m : ℕ) × Falls bytes r m e
-  falls-some e h = go (within (closing bytes) e h) (settled-dec bytes r e e) (decLt e n)
+  pub falls-some : (e : ℕ) → Settled bytes r (closing-moment bytes) e → (m : ℕ) × Falls bytes r m e
+  falls-some e h = go (within (closing-moment bytes) e h) (settled-dec bytes r e e) (decLt e n)
     where
-      go : (e ≤ closing bytes) × (e ≤ n) → Dec (Settled bytes r e e) → Dec (e < n) → (m : ℕ) × Falls bytes r m e
+      go : (e ≤ closing-moment bytes) × (e ≤ n) → Dec (Settled bytes r e e) → Dec (e < n) → (m : ℕ) × Falls bytes r m e
       go w (yes s) d = (e, falls-at e s)
       go w (no s) (yes lt) = absurd (s (by-byte e e (omega arith) (w .1) .1 (by-end-early e lt .0 h)))
       go w (no s) (no ge) = (
-        closing bytes,
+        closing-moment bytes,
         record {
           from-last = w .0;
           by-closing = omega arith;
@@ -153,9 +153,9 @@ module _ (bytes : List ℕ) (r : Rule) where
       )
 
   -- What is settled at the closing is what matches on the whole stream.
-  pub settled-whole : (e : ℕ) → Settled bytes r (closing bytes) e ↔ MatchEnds r bytes e
+  pub settled-whole : (e : ℕ) → Settled bytes r (closing-moment bytes) e ↔ MatchEnds r bytes e
   settled-whole e =
-      let whole : stream (take (suc n) bytes) (end-known bytes (closing bytes)) ≡ stream bytes true = ap₂ stream (take-all (suc n) bytes (omega arith)) (at-closing bytes) in (
+      let whole : stream (take (suc n) bytes) (end-known bytes (closing-moment bytes)) ≡ stream bytes true = ap₂ stream (take-all (suc n) bytes (omega arith)) (at-closing bytes) in (
         λ h. (h .start, h .earlier, subst (λ t. Means t (r .tree) (h .start) e) whole (h .matched)),
         λ h. record { start = h .0; earlier = h .1; matched = subst (λ t. Means t (r .tree) (h .0) e) (sym whole) (h .2) },
       )
@@ -170,11 +170,11 @@ module _ (bytes : List ℕ) (r : Rule) where
 
   -- A pair falls at the closing exactly if it ends there, it matches, and it does not match while no end assertion holds: each of its
   -- ways passes one.
-  pub falls-at-closing : (e : ℕ) → Falls bytes r (closing bytes) e
+  pub falls-at-closing : (e : ℕ) → Falls bytes r (closing-moment bytes) e
       ↔ ((e ≡ n) × MatchEnds r bytes e × (¬ ((s : ℕ) × (s < e) × Means (stream bytes false) (r .tree) s e)))
   falls-at-closing e = (
     λ h.
-        let is-n : e ≡ n = elim (falls-when (closing bytes) e h) [ inl x ↦ absurd (omega (arith, x .0, x .1)) | inr x ↦ x .1 ] in
+        let is-n : e ≡ n = elim (falls-when (closing-moment bytes) e h) [ inl x ↦ absurd (omega (arith, x .0, x .1)) | inr x ↦ x .1 ] in
         (is-n, settled-whole e .0 (h .settled), λ g. h .not-before n (omega arith) (omega arith) (open-end e .1 g)),
     λ h. record {
       from-last = omega (arith, h .0);

@@ -8,7 +8,7 @@ use native.Mathlib.Omega.{arith}
 use native.Mathlib.Decide.{decLe, decLt, ℕ-discrete, map-dec}
 use Rattle.regex.specs.Tree.{Means}
 use Rattle.regex.specs.Rule.{Rule}
-use Rattle.regex.specs.Ordered.{closing, seen, Settled, Falls, Earlier, Hides, Stays, Entry, entry, Before, Rising, Owed, IsList, Pair, pair, Ordered}
+use Rattle.regex.specs.Ordered.{closing-moment, seen, Settled, Falls, Earlier, Hides, Stays, Entry, entry, Before, Rising, Owed, IsList, Pair, pair, Ordered}
 use Rattle.regex.proofs.Logic.{dec-T, dec-both, dec-either, dec-implies, dec-not, dec-some, dec-every}
 use Rattle.regex.proofs.Decidable.{means-dec}
 use Rattle.regex.proofs.Enumerated.{all, moment, offset, id}
@@ -80,8 +80,8 @@ module _ (bytes : List ℕ) (r : Rule) where
       })
       (λ h. (h .falls, λ j a d c f. h .first j d f))
       (dec-both (falls-dec m e)
-      (dec-every (λ j. (d : ℕ) → d < suc (closing bytes) → Falls bytes r j d → ¬ Hides bytes r j d m e) (suc (closing bytes))
-      (λ j a. dec-every (λ d. Falls bytes r j d → ¬ Hides bytes r j d m e) (suc (closing bytes))
+      (dec-every (λ j. (d : ℕ) → d < suc (closing-moment bytes) → Falls bytes r j d → ¬ Hides bytes r j d m e) (suc (closing-moment bytes))
+      (λ j a. dec-every (λ d. Falls bytes r j d → ¬ Hides bytes r j d m e) (suc (closing-moment bytes))
       (λ d c. dec-implies (falls-dec j d) (dec-not (hides-dec j d m e))))))
 
 owed-dec : (rules : List Rule) (bytes : List ℕ) (m e i : ℕ) → Dec (Owed rules bytes (entry m e i))
@@ -110,7 +110,7 @@ under-top (x ∷ rules) r (List·Memᴰ·tail m) = omega (arith, under-top rules
 module _ (rules : List Rule) (bytes : List ℕ) where
   pub some-list : (l : List Entry) × IsList rules bytes l
   some-list =
-      let n : ℕ = suc (closing bytes + top rules) in
+      let n : ℕ = suc (closing-moment bytes + top rules) in
       let r = all (Owed rules bytes) dec n bound in
       (r .0, record { rising = r .1 .rising; exactly = r .1 .exactly })
     where
@@ -118,7 +118,7 @@ module _ (rules : List Rule) (bytes : List ℕ) where
       dec (entry m e i) = owed-dec rules bytes m e i
 
       bound : (x : Entry) → Owed rules bytes x
-          → (moment x < suc (closing bytes + top rules)) × (offset x < suc (closing bytes + top rules)) × (id x < suc (closing bytes + top rules))
+          → (moment x < suc (closing-moment bytes + top rules)) × (offset x < suc (closing-moment bytes + top rules)) × (id x < suc (closing-moment bytes + top rules))
       bound (entry m e i) h = omega (arith, h .3 .falls .from-last, h .3 .falls .by-closing, h .2, under-top rules (h .0) (h .1))
 
   pub only-one : (l k : List Entry) → IsList rules bytes l → IsList rules bytes k → l ≡ k

@@ -9,7 +9,7 @@ use native.Mathlib.Omega.{arith}
 use native.Mathlib.Decide.{decLt}
 use lib.ListN.{length}
 use Rattle.regex.specs.Rule.{Rule, MatchEnds, Reported}
-use Rattle.regex.specs.Ordered.{closing, Falls, Earlier, Stays, Entry, entry, Before, Rising, IsList, Pair, pair, Ordered, Once}
+use Rattle.regex.specs.Ordered.{closing-moment, Falls, Earlier, Stays, Entry, entry, Before, Rising, IsList, Pair, pair, Ordered, Once}
 use Rattle.regex.proofs.Moments.{stays-settled, falls-when, falls-some, settled-whole}
 
 -- ids tell the rules apart: "Ids: any 32-bit number, each once."
@@ -20,7 +20,7 @@ module _ (bytes : List ℕ) (r : Rule) where
   -- A pair that falls matches on the whole stream, and a match falls at some moment.
   pub falls-match : (e : ℕ) → ((m : ℕ) × Falls bytes r m e) ↔ MatchEnds r bytes e
   falls-match e = (
-    λ h. settled-whole bytes r e .0 (stays-settled bytes r (h .0) (closing bytes) e (h .1 .by-closing) (omega arith) (h .1 .settled)),
+    λ h. settled-whole bytes r e .0 (stays-settled bytes r (h .0) (closing-moment bytes) e (h .1 .by-closing) (omega arith) (h .1 .settled)),
     λ h. falls-some bytes r e (settled-whole bytes r e .1 h),
   )
 
@@ -37,8 +37,8 @@ module _ (bytes : List ℕ) (r : Rule) where
   pub later : (m e j d : ℕ) → Falls bytes r m e → Falls bytes r j d → d < e → j < m
   later m e j d f g lt = go (falls-when bytes r m e f) (falls-when bytes r j d g)
     where
-      go : ((m ≡ e) × (e ≤ length bytes)) ⊎ ((m ≡ closing bytes) × (e ≡ length bytes))
-          → ((j ≡ d) × (d ≤ length bytes)) ⊎ ((j ≡ closing bytes) × (d ≡ length bytes)) → j < m
+      go : ((m ≡ e) × (e ≤ length bytes)) ⊎ ((m ≡ closing-moment bytes) × (e ≡ length bytes))
+          → ((j ≡ d) × (d ≤ length bytes)) ⊎ ((j ≡ closing-moment bytes) × (d ≡ length bytes)) → j < m
       go (inl x) (inl y) = omega (arith, x .0, y .0)
       go (inl x) (inr y) = absurd (omega (arith, x .1, y .1))
       go (inr x) (inl y) = omega (arith, x .0, y .0, y .1)
@@ -95,7 +95,7 @@ module _ (rules : List Rule) (bytes : List ℕ) (l : List Entry) (is : IsList ru
       n : ℕ
       n = length bytes
 
-      go : Before (entry m e i) (entry j d k) → ((m ≡ e) × (e ≤ n)) ⊎ ((m ≡ closing bytes) × (e ≡ n)) → ((j ≡ d) × (d ≤ n)) ⊎ ((j ≡ closing bytes) × (d ≡ n)) → e ≤ d
+      go : Before (entry m e i) (entry j d k) → ((m ≡ e) × (e ≤ n)) ⊎ ((m ≡ closing-moment bytes) × (e ≡ n)) → ((j ≡ d) × (d ≤ n)) ⊎ ((j ≡ closing-moment bytes) × (d ≡ n)) → e ≤ d
       go (inl x) (inl y) (inl z) = omega (arith, y .0, z .0)
       go (inl x) (inl y) (inr z) = omega (arith, y .1, z .1)
       go (inl x) (inr y) (inl z) = absurd (omega (arith, y .0, z .0, z .1))

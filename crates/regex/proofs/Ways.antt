@@ -9,10 +9,10 @@ use native.Mathlib.Omega.{arith}
 use lib.ListN.{length, drop}
 use Rattle.regex.specs.Tree.{Text, Means}
 use Rattle.regex.specs.Form.{Form, eps, take, check, seq, alt, plus, opt, Star, done, more, Match, write}
-use Rattle.regex.specs.Way.{Step, takes, passes, Way, w-eps, w-take, w-check, w-seq, w-left, w-right, w-one, w-more, w-none, w-some, Runs, Walk, Passes}
+use Rattle.regex.specs.Way.{Step, takes, passes, Way, w-eps, w-take, w-check, w-seq, w-left, w-right, w-one, w-more, w-none, w-some, Runs, SomeWay, Passes}
 use Rattle.regex.specs.Gap.{no-bytes}
 use Rattle.regex.specs.Rule.{Rule, Assertion, at-start, at-end, ByteSet, stream, MatchEnds}
-use Rattle.regex.specs.Ordered.{closing, Settled, Falls}
+use Rattle.regex.specs.Ordered.{closing-moment, Settled, Falls}
 use Rattle.regex.proofs.Written.{written, unwritten}
 use Rattle.regex.proofs.Logic.{and-T}
 use Rattle.regex.proofs.Moments.{open-end, within, by-byte, stays-settled, falls-at, falls-when, falls-at-closing}
@@ -48,14 +48,14 @@ module _ {C A : Type 0} (t : Text C A) where
   way-match w-none s e r = inl r
   way-match (w-some x) s e r = inr (way-match x s e r)
 
-  walk-star : (f : Form C A) → ((s e : ℕ) → Match t f s e → Walk t f s e) → (s m e : ℕ) → Star (Match t f) s m → Match t f m e → Walk t (plus f) s e
+  walk-star : (f : Form C A) → ((s e : ℕ) → Match t f s e → SomeWay t f s e) → (s m e : ℕ) → Star (Match t f) s m → Match t f m e → SomeWay t (plus f) s e
   walk-star f ih s m e done r = let x = ih s e r in (x .0, w-one (x .1), x .2)
   walk-star f ih s m e (more {m = n} l h) r =
       let x = walk-star f ih s n m l h in
       let y = ih m e r in
       (x .0 ++ y .0, w-more (x .1) (y .1), runs-join (x .0) (y .0) s m e (x .2) (y .2))
 
-  pub match-way : (f : Form C A) (s e : ℕ) → Match t f s e → Walk t f s e
+  pub match-way : (f : Form C A) (s e : ℕ) → Match t f s e → SomeWay t f s e
   unfolding Runs Match
   match-way eps s e h = ([], w-eps, h)
   match-way (take c) s e h = (takes c ∷ [], w-take, (h .1, h .0))
@@ -71,7 +71,7 @@ module _ {C A : Type 0} (t : Text C A) where
   match-way (opt f) s e (inr h) = let x = match-way f s e h in (x .0, w-some (x .1), x .2)
 
   -- The two readings of a match agree.
-  pub by-ways : (f : Form C A) (s e : ℕ) → Match t f s e ↔ Walk t f s e
+  pub by-ways : (f : Form C A) (s e : ℕ) → Match t f s e ↔ SomeWay t f s e
   by-ways f s e = (λ h. match-way f s e h, λ h. way-match (h .1) s e (h .2))
 
 abbrev PassesEnd : List (Step ByteSet Assertion) → Type 0
@@ -145,7 +145,7 @@ module _ (bytes : List ℕ) (r : Rule) (e : ℕ) where
   )
 
   -- .. and at the closing exactly if it has a way and each of its ways passes an end assertion.
-  pub at-the-closing : Falls bytes r (closing bytes) e ↔ (MatchEnds r bytes e × ((u : List (Step ByteSet Assertion)) → WayOf u → Passes at-end u))
+  pub at-the-closing : Falls bytes r (closing-moment bytes) e ↔ (MatchEnds r bytes e × ((u : List (Step ByteSet Assertion)) → WayOf u → Passes at-end u))
   at-the-closing = (
     λ f. (
       falls-at-closing bytes r e .0 f .1,

@@ -12,8 +12,8 @@ use Rattle.regex.specs.Rule.{Rule, Assertion, ByteSet, stream}
 
 -- "Its moments are the bytes in order, then the closing": moment m, from 1 to n, comes when m bytes are taken, and n + 1 is the
 -- closing. No pair falls at moment 0.
-abbrev pub closing : List ℕ → ℕ
-closing bytes = suc (length bytes)
+abbrev pub closing-moment : List ℕ → ℕ
+closing-moment bytes = suc (length bytes)
 
 -- What is known at a moment: the first bytes and nothing after them; at the closing all bytes and the end.
 abbrev pub end-known : List ℕ → ℕ → Bool
@@ -36,7 +36,7 @@ module _ (bytes : List ℕ) (r : Rule) where
   -- "A pair falls at the first moment, from its last byte on, when" it is settled.
   pub record Falls (m e : ℕ) : Type 0 where
     pub from-last : e ≤ m
-    pub by-closing : m ≤ closing bytes
+    pub by-closing : m ≤ closing-moment bytes
     pub settled : Settled m e
     pub not-before : (j : ℕ) → e ≤ j → j < m → ¬ Settled j e
 

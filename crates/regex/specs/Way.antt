@@ -31,8 +31,8 @@ Runs t s (takes c ∷ u) e = T (t .hit c s) × Runs t (suc s) u e
 Runs t s (passes a ∷ u) e = T (t .known a s) × Runs t s u e
 
 -- some way through the form runs over the text from s to e
-abbrev pub Walk : {C A : Type 0} → Text C A → Form C A → ℕ → ℕ → Type 0
-Walk {C} {A} t f s e = (u : List (Step C A)) × Way f u × Runs t s u e
+abbrev pub SomeWay : {C A : Type 0} → Text C A → Form C A → ℕ → ℕ → Type 0
+SomeWay {C} {A} t f s e = (u : List (Step C A)) × Way f u × Runs t s u e
 
 -- the way passes this assertion
 abbrev pub Passes : {C A : Type 0} → A → List (Step C A) → Type 0

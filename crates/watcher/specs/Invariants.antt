@@ -32,5 +32,5 @@ abbrev pub Roomy : List ℕ → List ℕ → Type 0
 Roomy ids offsets = (maxRules ≤ length ids) × (maxRules ≤ length offsets)
 
 -- the state after a whole block, unless a write failed
-abbrev pub Scanned : List ℕ → Stream → List ℕ → (good : Bool) → Stream → Type 0
-Scanned t s block good next = good ≡ true → next ≡ stateAfter (automaton t) s block (length block)
+abbrev pub AllTaken : List ℕ → Stream → List ℕ → (good : Bool) → Stream → Type 0
+AllTaken t s block good next = good ≡ true → next ≡ stateAfter (automaton t) s block (length block)

@@ -11,7 +11,7 @@ ghost use Rattle.io.specs.Counts.{Counts};
 ghost use Rattle.lines.specs.Numbers.{askable};
 ghost use Rattle.table.specs.Table.{isTable};
 ghost use Rattle.stream.specs.Valid.{streamLimit};
-ghost use Rattle.watcher.specs.Invariants.{Running, Roomy, Scanned};
+ghost use Rattle.watcher.specs.Invariants.{Running, Roomy, AllTaken};
 
 // What became of a block: whether its reports were written, and the state after it.
 struct Watched {
@@ -46,7 +46,7 @@ fn watch_block(
     out: &mut [u8],
 ) -> Watched
     requires { ⌜ Running (now words) stream × (stream .taken + length (now block) ≤ streamLimit) × Roomy (now ids) (now offsets) ⌝ }
-    ensures { λ r. ⌜ Scanned (now (words .entry)) stream (now (block .entry)) (r .good) (r .stream) ⌝ }
+    ensures { λ r. ⌜ AllTaken (now (words .entry)) stream (now (block .entry)) (r .good) (r .stream) ⌝ }
 {
     let mut stream = stream;
     let mut from = 0;
