@@ -178,7 +178,7 @@ addition-passes t passed a = go (ℕ-discrete (addAnswer t (a .id) (a .flags) (a
   where
     go : Dec (addAnswer t (a .id) (a .flags) (a .pattern) .number ≡ 0) → isTable (addWords t (a .id) (a .flags) (a .pattern)) ≡ true
     go (yes ok) = accepted-passes t (a .id) (a .flags) (a .pattern) ok (a .narrow)
-    go (no n) = ap (λ (b : Bool). isTable (cond b (withRule t (a .id) (a .flags) (readingOf a)) t)) (ne-eqb (addAnswer t (a .id) (a .flags) (a .pattern) .number) 0 n) ∙ passed
+    go (no n) = rw (ne-eqb (addAnswer t (a .id) (a .flags) (a .pattern) .number) 0 n) passed
 
 -- ---- each addition keeps what is built
 

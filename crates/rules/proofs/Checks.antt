@@ -1,6 +1,6 @@
 -- What an accepted addition has passed. The checks go by four things of the table: whether the id is there, how many rules and positions it has, and, for words,
 -- whether they pass the test. An answer of 0 is taken apart here once: each reason to refuse fails, and the words are those with the rule.
-use mathlib.Core.Path.{_≡_, refl, sym, ap, ap₂, _∙_}
+use mathlib.Core.Path.{_≡_, refl, sym, ap, _∙_}
 use mathlib.Core.Bool.{Bool, true, false, cond}
 use mathlib.Core.Logic.{_↔_}
 use mathlib.Core.List.{List}
@@ -111,8 +111,7 @@ module _ (t : List ℕ) (id flags : ℕ) (pattern : List ℕ) (ok : addAnswer t 
 
   with-rule : addWords t id flags pattern ≡ added t id flags parts
   unfolding addWords withRule
-  with-rule =
-      ap₂ (λ (b : Bool) (r : Read). cond b (withRule t id flags r) t) (eq-eqb (addAnswer t id flags pattern .number) 0 ok) (checks .1 .reading)
+  with-rule = rw (eq-eqb (addAnswer t id flags pattern .number) 0 ok, checks .1 .reading)
 
   -- the words have one rule more
   pub accepted-rules : rulesOf (addWords t id flags pattern) ≡ rulesOf t + 1
