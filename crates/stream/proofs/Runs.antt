@@ -20,6 +20,7 @@ use Rattle.sets.proofs.Digits.{on-or, on-and, on-wordOf, wordOf-ext, wordOf-lt,
 use Rattle.table.specs.Automaton.{Automaton, single}
 use Rattle.table.proofs.Rows.{under}
 use Rattle.stream.specs.Byte.{due, runIds, runMarks}
+use Rattle.stream.specs.Calls.{written}
 use Rattle.stream.specs.Invariants.{Wrote}
 use Rattle.stream.proofs.Members.{placesBelow, word-is, on-places-past, on-without, count-below}
 
@@ -92,6 +93,32 @@ marks-none w f marks h e =
 pub marks-small : (w : Automaton) (f : ℕ → Bool) (marks : ℕ) → runMarks w f marks < 2 ^ 64
 unfolding runMarks
 marks-small w f marks = wordOf-lt 64 (λ a. on marks a || (ltb a (w .rules) && (single w a && f a)))
+
+-- ---- a run that is written
+
+-- a run of the same rules
+pub wrote-ext : (w : Automaton) (f g : ℕ → Bool) (marks end : ℕ) (ids offsets : List ℕ) (reports marks′ : ℕ) (ids′ offsets′ : List ℕ) → ((a : ℕ) → a < w .rules → f a ≡ g a)
+    → Wrote w f marks end ids offsets reports marks′ ids′ offsets′ → Wrote w g marks end ids offsets reports marks′ ids′ offsets′
+wrote-ext w f g marks end ids offsets reports marks′ ids′ offsets′ e h =
+    let same = run-ext w f g marks (w .rules) e in
+    record {
+      reports-are = h .reports-are ∙ ap length same;
+      marks-are = h .marks-are ∙ marks-ext w f g marks e;
+      ids-are = h .ids-are ∙ ap (λ (l : List ℕ). written l ids) same;
+      offsets-are = h .offsets-are ∙ ap (λ (l : List ℕ). written (replicate (length l) end) offsets) same;
+    }
+
+-- a run in which no rule ends
+pub wrote-none : (w : Automaton) (f : ℕ → Bool) (marks end : ℕ) (ids offsets : List ℕ) → marks < 2 ^ 64 → ((a : ℕ) → a < w .rules → f a ≡ false)
+    → Wrote w f marks end ids offsets 0 marks ids offsets
+wrote-none w f marks end ids offsets h e =
+    let none = run-none w f marks (w .rules) e in
+    record {
+      reports-are = sym (ap length none);
+      marks-are = sym (marks-none w f marks h e);
+      ids-are = sym (ap (λ (l : List ℕ). written l ids) none);
+      offsets-are = sym (ap (λ (l : List ℕ). written (replicate (length l) end) offsets) none);
+    }
 
 -- ---- in words
 

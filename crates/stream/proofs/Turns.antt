@@ -7,23 +7,22 @@ use Prim.Native.Nat.{ℕ, zero, suc, _+_, _-_, _^_, _<_, _≤_, zero-le}
 use native.Mathlib.Nat.{add-zero, le-refl}
 use native.Mathlib.Omega.{arith}
 use lib.Dec.{ltb}
-use lib.ListN.{length, getD, take, drop, replicate, length-drop, length-append, length-replicate, drop-of-length-le}
+use lib.ListN.{length, getD, take, drop, replicate, length-take, length-drop, length-append, length-replicate, drop-of-length-le}
 use lib.Seq.{drop-drop, drop-at, take-at, take-all}
 use borrow.Rule.Slice.PartMut.{putMid}
 use borrow.Author.Count.{below-more}
-use borrow.Author.Tests.{lt-ltb}
+use borrow.Author.Tests.{lt-ltb, le-leb, lt-leb, leb-true, leb-false}
 use Rattle.sets.specs.Set.{on, has, any, count, emptySet}
 use Rattle.sets.proofs.Laws.{has-setOf, has-empty, any-none, any-ext, any-never}
 use Rattle.table.specs.Layout.{maxRules, maxPositions, rulesOf, lastAt, lastAtEndAt, rowHas}
 use Rattle.table.specs.Automaton.{Automaton, automaton, single}
-use Rattle.table.proofs.Test.{Passes}
 use Rattle.stream.specs.declared.Stream.{Stream}
 use Rattle.stream.specs.Byte.{nextLive, ends, endsAtEnd, runIds, runMarks, byteIds, byteState, stateAfter, idsOf, endsOf}
 use Rattle.stream.specs.Calls.{space, written}
-use Rattle.stream.specs.Invariants.{stateOf, Wrote, Skipped, Ran}
+use Rattle.stream.specs.Invariants.{stateOf, Wrote, Delivered, Skipped, Ran}
 use Rattle.stream.proofs.Members.{placesBelow, on-places}
 use Rattle.stream.proofs.TableSets.{meeting, lastsBelow}
-use Rattle.stream.proofs.Runs.{run-ext, marks-ext, run-none, marks-none, marks-small, due-count}
+use Rattle.stream.proofs.Runs.{run-ext, run-none, marks-none, marks-small, due-count, wrote-ext, wrote-none}
 use Rattle.stream.proofs.Steps.{next-parts}
 use Rattle.stream.proofs.Blocks.{state-more, ids-more, ends-more, taken-after, ends-count, fits-is}
 
@@ -65,32 +64,56 @@ pub ends-empty : (w : Automaton) (a : ℕ) → ends w emptySet a ≡ false
 unfolding ends
 ends-empty w a = any-never maxPositions (λ p. has emptySet p && w .last a p) (λ p l. ap (λ (b : Bool). b && w .last a p) (has-empty p l))
 
--- ---- what is settled once a call
+-- ---- one byte's run
 
-pub record Settled (t ids₀ offsets₀ last : List ℕ) (singles room : ℕ) : Type 0 where
-  pub passed : Passes t
-  pub last-is : last ≡ lastsBelow t (rulesOf t)
-  pub singles-are : singles ≡ placesBelow (rulesOf t) (single (automaton t))
-  pub room-is : room ≡ space ids₀ offsets₀
-
-module _ (t ids₀ offsets₀ last : List ℕ) (singles room : ℕ) (h : Settled t ids₀ offsets₀ last singles room) (next : List ℕ) where
+module _ (t live : List ℕ) (marks end : ℕ) (ids offsets : List ℕ) (few : rulesOf t ≤ maxRules) (small : marks < 2 ^ 64) where
   -- a live set that does not meet the last sets ends no rule
-  pub gate-shut : (b : Bool) → b ≡ any maxPositions (λ q. has next q && has last q) → b ≡ false → (a : ℕ) → a < automaton t .rules → ends (automaton t) next a ≡ false
+  pub delivered-none : (last : List ℕ) → last ≡ lastsBelow t (rulesOf t) → any maxPositions (λ q. has live q && has last q) ≡ false
+      → Delivered (automaton t) live marks end ids offsets true 0 marks ids offsets
   unfolding automaton
-  gate-shut b m e a l = gate t next a l (ap (λ (x : List ℕ). any maxPositions (λ q. has next q && has x q)) (sym (h .last-is)) ∙ sym m ∙ e)
+  delivered-none last is shut =
+      let none : ((a : ℕ) → a < rulesOf t → ends (automaton t) live a ≡ false) =
+      λ a l. gate t live a l (ap (λ (x : List ℕ). any maxPositions (λ q. has live q && has x q)) (sym is) ∙ shut) in
+      record {
+        fit-is = sym (le-leb (length (runIds (automaton t) (ends (automaton t) live) marks (rulesOf t))) (space ids offsets) (omega (arith, ap length (run-none (automaton t) (ends (automaton t) live) marks (rulesOf t) none))));
+        wrote = wrote-none (automaton t) (ends (automaton t) live) marks end ids offsets small none;
+      }
 
-  module _ (found : ℕ) (is : found ≡ placesBelow (rulesOf t) (meeting t next 4)) where
-    -- the rules found are those that end
-    pub found-ends : (a : ℕ) → a < automaton t .rules → on found a ≡ ends (automaton t) next a
+  -- the rules found, how many of them are due, and the space
+  module _ (found due room : ℕ) (is : found ≡ placesBelow (rulesOf t) (meeting t live 4)) (due-is : due ≡ count 64 (λ a. on found a && not (on marks a))) (room-is : room ≡ space ids offsets) where
+    found-ends : (a : ℕ) → a < automaton t .rules → on found a ≡ ends (automaton t) live a
     unfolding automaton
-    found-ends a l = ap (λ (x : ℕ). on x a) is ∙ ends-word t next a (h .passed .rules) l
+    found-ends a l = ap (λ (x : ℕ). on x a) is ∙ ends-word t live a few l
 
-    -- and those that are due are as many as the run has ids
-    pub found-due : (reported d : ℕ) → d ≡ count 64 (λ a. on found a && not (on reported a)) → d ≡ length (runIds (automaton t) (on found) reported (rulesOf t))
-    found-due reported d e =
-        e ∙ ap (λ (x : ℕ). count 64 (λ a. on x a && not (on reported a))) is
-        ∙ due-count (automaton t) (meeting t next 4) reported (rulesOf t) (omega (arith, h .passed .rules))
-        ∙ ap (λ (x : ℕ). length (runIds (automaton t) (on x) reported (rulesOf t))) (sym is)
+    -- those that are due are as many as the run has ids
+    pub found-due : due ≡ length (runIds (automaton t) (on found) marks (rulesOf t))
+    found-due =
+        due-is ∙ ap (λ (x : ℕ). count 64 (λ a. on x a && not (on marks a))) is
+        ∙ due-count (automaton t) (meeting t live 4) marks (rulesOf t) (omega arith)
+        ∙ ap (λ (x : ℕ). length (runIds (automaton t) (on x) marks (rulesOf t))) (sym is)
+
+    ends-due : due ≡ length (runIds (automaton t) (ends (automaton t) live) marks (rulesOf t))
+    unfolding automaton
+    ends-due = found-due ∙ ap length (run-ext (automaton t) (on found) (ends (automaton t) live) marks (rulesOf t) found-ends)
+
+    -- their reports do not all fit
+    pub delivered-full : room < due → Delivered (automaton t) live marks end ids offsets false 0 marks ids offsets
+    unfolding automaton
+    delivered-full h =
+        record {
+          fit-is = sym (lt-leb (length (runIds (automaton t) (ends (automaton t) live) marks (rulesOf t))) (space ids offsets) (omega (arith, ends-due, room-is)));
+          wrote = wrote-none (automaton t) (λ a. false) marks end ids offsets small (λ a l. refl);
+        }
+
+    -- they do, and are written
+    pub delivered-run : due ≤ room → (reports marks′ : ℕ) (ids′ offsets′ : List ℕ) → Wrote (automaton t) (on found) marks end ids offsets reports marks′ ids′ offsets′
+        → Delivered (automaton t) live marks end ids offsets true reports marks′ ids′ offsets′
+    unfolding automaton
+    delivered-run h reports marks′ ids′ offsets′ wrote =
+        record {
+          fit-is = sym (le-leb (length (runIds (automaton t) (ends (automaton t) live) marks (rulesOf t))) (space ids offsets) (omega (arith, ends-due, room-is)));
+          wrote = wrote-ext (automaton t) (on found) (ends (automaton t) live) marks end ids offsets reports marks′ ids′ offsets′ found-ends wrote;
+        }
 
 -- ---- bytes passed over
 
@@ -180,41 +203,96 @@ module _ (w : Automaton) (s : Stream) (block ids₀ offsets₀ : List ℕ) where
     ends-next : endsOf w s block (at + 1) ≡ endsOf w s block at ++ replicate (length (runIds w (ends w next) reported (w .rules))) (s .taken + (at + 1))
     ends-next = ends-more w s block at ∙ ap (λ (l : List ℕ). endsOf w s block at ++ replicate (length l) (s .taken + (at + 1))) new
 
-    -- what the reports up to the next byte come to, where the rules that end are a word's digits
-    pub count-more : (ending : ℕ) → ((a : ℕ) → a < w .rules → on ending a ≡ ends w next a)
-        → count + length (runIds w (on ending) reported (w .rules)) ≡ length (idsOf w s block (at + 1))
-    count-more ending same =
-        ap₂ (λ (x y : ℕ). x + y) (h .count-is) (ap length (run-ext w (on ending) (ends w next) reported (w .rules) same))
+    -- what the reports up to the next byte come to
+    count-more : count + length (runIds w (ends w next) reported (w .rules)) ≡ length (idsOf w s block (at + 1))
+    count-more =
+        ap (λ (x : ℕ). x + length (runIds w (ends w next) reported (w .rules))) (h .count-is)
         ∙ sym (ap length ids-next ∙ length-append (idsOf w s block at) (runIds w (ends w next) reported (w .rules)))
 
-    -- a byte whose run is written into the tails of both lists
-    pub running-run : (ending reports marks end : ℕ) (ilast olast : List ℕ) → at < length block → ((a : ℕ) → a < w .rules → on ending a ≡ ends w next a)
-        → end ≡ s .taken + (at + 1) → count + reports ≤ space ids₀ offsets₀
-        → Wrote w (on ending) reported end (take (length ids - count) (drop count ids)) (take (length offsets - count) (drop count offsets)) reports marks ilast olast
-        → length (putMid count (length ids - count) ids ilast) ≡ length ids → length (putMid count (length offsets - count) offsets olast) ≡ length offsets
-        → Running w s block ids₀ offsets₀ next marks (putMid count (length ids - count) ids ilast) (putMid count (length offsets - count) offsets olast) (count + reports) (at + 1)
-    running-run ending reports marks end ilast olast b same e r wrote li lo =
-        let run = run-ext w (on ending) (ends w next) reported (w .rules) same in
-        let n : length (runIds w (on ending) reported (w .rules)) ≡ reports = sym (wrote .reports-are) in
-        record {
-          inside = omega arith;
-          live-is = live-more;
-          marks-are = wrote .marks-are ∙ marks-ext w (on ending) (ends w next) reported same ∙ marks-more;
-          small = subst (λ (x : ℕ). x < 2 ^ 64) (sym (wrote .marks-are)) (marks-small w (on ending) reported);
-          count-is = ap (λ (x : ℕ). count + x) (wrote .reports-are) ∙ count-more ending same;
-          room = r;
-          ids-are =
-              grow (idsOf w s block at) (runIds w (on ending) reported (w .rules)) ids ids₀ ilast count (sym (h .count-is)) (omega (arith, h .ids-long, h .room)) (h .ids-are) (wrote .ids-are)
-              ∙ ap₂ (λ (l : List ℕ) (x : ℕ). l ++ drop (count + x) ids₀) (ap (λ (l : List ℕ). idsOf w s block at ++ l) run ∙ sym ids-next) n;
-          offsets-are =
-              grow (endsOf w s block at) (replicate (length (runIds w (on ending) reported (w .rules))) end) offsets offsets₀ olast count (ends-count w s block at ∙ sym (h .count-is))
-              (omega (arith, h .offsets-long, h .room)) (h .offsets-are) (wrote .offsets-are)
-              ∙ ap₂ (λ (l : List ℕ) (x : ℕ). l ++ drop (count + x) offsets₀)
-              (ap (λ (l : List ℕ). endsOf w s block at ++ l) (ap₂ (λ (l : List ℕ) (x : ℕ). replicate (length l) x) run e) ∙ sym ends-next)
-              (length-replicate (length (runIds w (on ending) reported (w .rules))) end ∙ n);
-          ids-long = li ∙ h .ids-long;
-          offsets-long = lo ∙ h .offsets-long;
-        }
+    -- what was written into the free part of both lists
+    module _ (fit : Bool) (reports marks end : ℕ) (ilast olast : List ℕ)
+        (d : Delivered w next reported end (take (length ids - count) (drop count ids)) (take (length offsets - count) (drop count offsets)) fit reports marks ilast olast) where
+      free : ℕ
+      free = space (take (length ids - count) (drop count ids)) (take (length offsets - count) (drop count offsets))
+
+      free-is : count + free ≡ space ids₀ offsets₀
+      unfolding free
+      free-is =
+          omega (
+            arith, h .room, h .ids-long, h .offsets-long,
+            length-take (length ids - count) (drop count ids), length-drop count ids,
+            length-take (length offsets - count) (drop count offsets), length-drop count offsets,
+          )
+
+      wrote-if : (b : Bool) → fit ≡ b
+          → Wrote w (λ a. b && ends w next a) reported end (take (length ids - count) (drop count ids)) (take (length offsets - count) (drop count offsets)) reports marks ilast olast
+      wrote-if b e =
+          subst (λ (x : Bool). Wrote w (λ a. x && ends w next a) reported end (take (length ids - count) (drop count ids)) (take (length offsets - count) (drop count offsets)) reports marks ilast olast)
+          e (d .wrote)
+
+      -- a byte whose reports fit is taken
+      pub running-room : fit ≡ true → count + reports ≤ space ids₀ offsets₀
+      unfolding free
+      running-room fits =
+          let run = runIds w (ends w next) reported (w .rules) in
+          omega (arith, leb-true (length run) free (sym (d .fit-is) ∙ fits), wrote-if true fits .reports-are, free-is)
+
+      pub running-run : fit ≡ true → at < length block → end ≡ s .taken + (at + 1)
+          → length (putMid count (length ids - count) ids ilast) ≡ length ids → length (putMid count (length offsets - count) offsets olast) ≡ length offsets
+          → Running w s block ids₀ offsets₀ next marks (putMid count (length ids - count) ids ilast) (putMid count (length offsets - count) offsets olast) (count + reports) (at + 1)
+      running-run fits b e li lo =
+          let run = runIds w (ends w next) reported (w .rules) in
+          let wrote = wrote-if true fits in
+          let n : length run ≡ reports = sym (wrote .reports-are) in
+          record {
+            inside = omega arith;
+            live-is = live-more;
+            marks-are = wrote .marks-are ∙ marks-more;
+            small = subst (λ (x : ℕ). x < 2 ^ 64) (sym (wrote .marks-are)) (marks-small w (ends w next) reported);
+            count-is = ap (λ (x : ℕ). count + x) (wrote .reports-are) ∙ count-more;
+            room = running-room fits;
+            ids-are =
+                grow (idsOf w s block at) run ids ids₀ ilast count (sym (h .count-is)) (omega (arith, h .ids-long, h .room)) (h .ids-are) (wrote .ids-are)
+                ∙ ap₂ (λ (l : List ℕ) (x : ℕ). l ++ drop (count + x) ids₀) (sym ids-next) n;
+            offsets-are =
+                grow (endsOf w s block at) (replicate (length run) end) offsets offsets₀ olast count (ends-count w s block at ∙ sym (h .count-is))
+                (omega (arith, h .offsets-long, h .room)) (h .offsets-are) (wrote .offsets-are)
+                ∙ ap₂ (λ (l : List ℕ) (x : ℕ). l ++ drop (count + x) offsets₀)
+                (ap (λ (x : ℕ). endsOf w s block at ++ replicate (length run) x) e ∙ sym ends-next) (length-replicate (length run) end ∙ n);
+            ids-long = li ∙ h .ids-long;
+            offsets-long = lo ∙ h .offsets-long;
+          }
+
+      -- before a byte whose reports do not fit the loop leaves
+      pub running-full : fit ≡ false → space ids₀ offsets₀ < length (idsOf w s block (at + 1))
+      unfolding free
+      running-full full = omega (arith, leb-false (length (runIds w (ends w next) reported (w .rules))) free (sym (d .fit-is) ∙ full), count-more, free-is)
+
+      -- and both lists are as they were
+      pub running-kept : fit ≡ false → length (putMid count (length ids - count) ids ilast) ≡ length ids → length (putMid count (length offsets - count) offsets olast) ≡ length offsets
+          → Running w s block ids₀ offsets₀ live reported (putMid count (length ids - count) ids ilast) (putMid count (length offsets - count) offsets olast) count at
+      running-kept full li lo =
+          let wrote = wrote-if false full in
+          let none = run-none w (λ a. false) reported (w .rules) (λ a l. refl) in
+          record {
+            inside = h .inside;
+            live-is = h .live-is;
+            marks-are = h .marks-are;
+            small = h .small;
+            count-is = h .count-is;
+            room = h .room;
+            ids-are =
+                grow (idsOf w s block at) [] ids ids₀ ilast count (sym (h .count-is)) (omega (arith, h .ids-long, h .room)) (h .ids-are)
+                (wrote .ids-are ∙ ap (λ (l : List ℕ). written l (take (length ids - count) (drop count ids))) none)
+                ∙ ap₂ (λ (l : List ℕ) (x : ℕ). l ++ drop x ids₀) (append-nil (idsOf w s block at)) (add-zero count);
+            offsets-are =
+                grow (endsOf w s block at) [] offsets offsets₀ olast count (ends-count w s block at ∙ sym (h .count-is))
+                (omega (arith, h .offsets-long, h .room)) (h .offsets-are)
+                (wrote .offsets-are ∙ ap (λ (l : List ℕ). written (replicate (length l) end) (take (length offsets - count) (drop count offsets))) none)
+                ∙ ap₂ (λ (l : List ℕ) (x : ℕ). l ++ drop x offsets₀) (append-nil (endsOf w s block at)) (add-zero count);
+            ids-long = li ∙ h .ids-long;
+            offsets-long = lo ∙ h .offsets-long;
+          }
 
     -- a byte with which no rule ends
     pub running-silent : at < length block → ((a : ℕ) → a < w .rules → ends w next a ≡ false) → Running w s block ids₀ offsets₀ next reported ids offsets count (at + 1)
@@ -269,21 +347,3 @@ module _ (w : Automaton) (s : Stream) (block ids₀ offsets₀ : List ℕ) where
           ids-are = h .ids-are ∙ ap (λ (n : ℕ). idsOf w s block at ++ drop n ids₀) (h .count-is);
           offsets-are = h .offsets-are ∙ ap (λ (n : ℕ). endsOf w s block at ++ drop n offsets₀) (h .count-is ∙ sym (ends-count w s block at));
         }
-
-  -- other names for the same locals
-  pub running-same : (live : List ℕ) (reported : ℕ) (ids offsets : List ℕ) (count at : ℕ) → Running w s block ids₀ offsets₀ live reported ids offsets count at
-      → (reported′ : ℕ) (ids′ offsets′ : List ℕ) (count′ : ℕ) → reported′ ≡ reported → ids′ ≡ ids → offsets′ ≡ offsets → count′ ≡ count
-      → Running w s block ids₀ offsets₀ live reported′ ids′ offsets′ count′ at
-  running-same live reported ids offsets count at h reported′ ids′ offsets′ count′ m p q r =
-      record {
-        inside = h .inside;
-        live-is = h .live-is;
-        marks-are = m ∙ h .marks-are;
-        small = omega (arith, m, h .small);
-        count-is = r ∙ h .count-is;
-        room = omega (arith, r, h .room);
-        ids-are = p ∙ h .ids-are ∙ ap (λ (n : ℕ). idsOf w s block at ++ drop n ids₀) (sym r);
-        offsets-are = q ∙ h .offsets-are ∙ ap (λ (n : ℕ). endsOf w s block at ++ drop n offsets₀) (sym r);
-        ids-long = ap length p ∙ h .ids-long;
-        offsets-long = ap length q ∙ h .offsets-long;
-      }

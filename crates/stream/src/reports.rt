@@ -1,5 +1,9 @@
 // One run of reports: one end offset, and the rules that end there by rising place, each a digit of a word.
+use super::checks::least;
+use super::rows::ending;
+use super::rows::meets;
 use table::layout::ID;
+use table::layout::LAST;
 use table::layout::RECORD_WORDS;
 use table::layout::RECORDS_AT;
 use table::layout::RULES_AT;
@@ -8,12 +12,12 @@ ghost use mathlib.Core.Bool.{true, not, _&&_};
 ghost use Prim.Native.Nat.{_≤_};
 ghost use lib.Dec.{ltb};
 ghost use lib.ListN.{length};
-ghost use Rattle.sets.specs.Set.{on, wordOf, count};
-ghost use Rattle.table.specs.Layout.{rulesOf};
+ghost use Rattle.sets.specs.Set.{on, setOf, wordOf, any, count};
+ghost use Rattle.table.specs.Layout.{rulesOf, lastAt, rowHas};
 ghost use Rattle.table.specs.Table.{isTable};
 ghost use Rattle.table.specs.Automaton.{automaton, single};
 ghost use Rattle.stream.specs.Byte.{runIds};
-ghost use Rattle.stream.specs.Invariants.{Wrote};
+ghost use Rattle.stream.specs.Invariants.{Wrote, Delivered};
 
 // What a run leaves: how many reports it wrote, and the marks afterwards.
 pub(super) struct Run {
@@ -56,5 +60,50 @@ pub(super) fn write_run(
     Run {
         reports: n,
         reported: reported | ending & singles,
+    }
+}
+
+// What one byte's run comes to: whether its reports all fit, how many were written, and the marks afterwards.
+pub(super) struct Delivery {
+    pub fits: bool,
+    pub reports: usize,
+    pub reported: u64,
+}
+
+// Writes the run of one byte, whose next live set this is, into what is free of both lists, if all its reports fit there. A rule is looked at only if
+// a live position ends some match.
+pub(super) fn deliver(
+    live: [u64; 4],
+    last: [u64; 4],
+    reported: u64,
+    singles: u64,
+    words: &[u64],
+    end: u64,
+    ids: &mut [u32],
+    offsets: &mut [u64],
+) -> Delivery
+    requires { ⌜ (isTable (now words) ≡ true) × (last ≡ setOf (λ p. any (rulesOf (now words)) (λ a. rowHas (now words) (lastAt a) p))) × (singles ≡ wordOf 64 (λ a. ltb a (rulesOf (now words)) && single (automaton (now words)) a)) ⌝ }
+    ensures { λ r. ⌜ Delivered (automaton (now (words .entry))) live reported end (now (ids .entry)) (now (offsets .entry)) (r .fits) (r .reports) (r .reported) (now (ids .exit)) (now (offsets .exit)) ⌝ }
+{
+    if !meets(live, last) {
+        return Delivery {
+            fits: true,
+            reports: 0,
+            reported,
+        };
+    }
+    let found = ending(live, words, words[RULES_AT] as usize, LAST);
+    if least(ids.len(), offsets.len()) < due(found, reported) {
+        return Delivery {
+            fits: false,
+            reports: 0,
+            reported,
+        };
+    }
+    let run = write_run(found, reported, singles, words, end, ids, offsets);
+    Delivery {
+        fits: true,
+        reports: run.reports,
+        reported: run.reported,
     }
 }

@@ -1,15 +1,11 @@
 // The bytes of a block, one after the other: the next live set, the bytes that change nothing, the loop.
-use super::checks::least;
-use super::reports::due;
-use super::reports::write_run;
-use super::rows::ending;
+use super::reports::deliver;
 use super::rows::lasts;
 use super::rows::meets;
 use super::rows::singles;
 use super::walk::walk;
 use table::layout::FIRST_AT;
 use table::layout::FIRST_AT_START_AT;
-use table::layout::LAST;
 use table::layout::POSITIONS_AT;
 use table::layout::RULES_AT;
 use table::layout::SET_WORDS;
@@ -109,7 +105,6 @@ pub(super) fn run(
     let positions = words[POSITIONS_AT] as usize;
     let last = lasts(words, rules);
     let single = singles(words, rules);
-    let space = least(ids.len(), offsets.len());
     let mut live = from;
     let mut reported = marks;
     let mut count: usize = 0;
@@ -120,23 +115,21 @@ pub(super) fn run(
             break;
         }
         let next = step(live, taken + at as u64, words, positions, block[at]);
-        if meets(next, last) {
-            let found = ending(next, words, rules, LAST);
-            if space - count < due(found, reported) {
-                break;
-            }
-            let run = write_run(
-                found,
-                reported,
-                single,
-                words,
-                taken + at as u64 + 1,
-                &mut ids[count..],
-                &mut offsets[count..],
-            );
-            count += run.reports;
-            reported = run.reported;
+        let r = deliver(
+            next,
+            last,
+            reported,
+            single,
+            words,
+            taken + at as u64 + 1,
+            &mut ids[count..],
+            &mut offsets[count..],
+        );
+        if !r.fits {
+            break;
         }
+        count += r.reports;
+        reported = r.reported;
         live = next;
         at += 1;
     }

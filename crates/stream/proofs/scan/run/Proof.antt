@@ -1,23 +1,27 @@
 -- `stream::scan::run` meets its contract: each turn passes over the bytes that change nothing and takes one more (`Running`), or leaves the loop where its
 -- reports do not fit.
-use mathlib.Core.Logic.{⊎-elim}
+use mathlib.Core.Path.{refl}
 use Prim.Native.Nat.{_+_, _-_, _<_}
 use native.Mathlib.Omega.{arith}
 use denote.Ref.{now}
 use lib.ListN.{length}
 use borrow.Rule.Slice.PartMut.{putMid}
-use Rattle.table.specs.Automaton.{automaton}
+use borrow.Author.Tests.{not-true, not-false}
+use Rattle.table.specs.Layout.{rulesOf}
+use Rattle.table.specs.Automaton.{automaton, single}
 use Rattle.table.proofs.Test.{passes}
 use Rattle.stream.specs.Invariants.{stateOf}
-use Rattle.stream.proofs.Turns.{Settled, gate-shut, found-ends, found-due, Running, running-start, running-skip, running-run, running-silent, running-done, running-same, count-more}
+use Rattle.stream.proofs.Members.{placesBelow}
+use Rattle.stream.proofs.TableSets.{lastsBelow}
+use Rattle.stream.proofs.Turns.{Running, running-start, running-skip, running-room, running-run, running-full, running-kept, running-done}
 use Rattle.stream.proofs.scan.run.Statement.{statement}
 use Rattle.stream.proofs.scan.run.Tie as tie
 
 abbrev Inv-loop : tie.InvT-loop
-Inv-loop marks taken words block ids₀ offsets₀ rules positions last single space live₀ reported₀ count₀ at₀ ids offsets live reported count at = Settled words ids₀ offsets₀ last single space × Running (automaton words) (stateOf live₀ reported₀ taken) block ids₀ offsets₀ live reported ids offsets count at
+Inv-loop marks taken words block ids₀ offsets₀ rules positions last single′ live₀ reported₀ count₀ at₀ ids offsets live reported count at = Running (automaton words) (stateOf live₀ reported₀ taken) block ids₀ offsets₀ live reported ids offsets count at
 
 abbrev μ-loop : tie.MeasureT-loop
-μ-loop marks taken words block ids₀ offsets₀ rules positions last single space live₀ reported₀ count₀ at₀ ids offsets live reported count at = length block - at
+μ-loop marks taken words block ids₀ offsets₀ rules positions last single live₀ reported₀ count₀ at₀ ids offsets live reported count at = length block - at
 
 shared-slice-read-rules : tie.Need-shared-slice-read-rules Inv-loop μ-loop
 shared-slice-read-rules c =
@@ -41,27 +45,17 @@ singles-requires c κs =
     let p = passes (now (c-start .args .words)) (c-start .pre .0) in
     (p .long, p .rules)
 
-least-requires : tie.Need-least-requires Inv-loop μ-loop
-least-requires c κs = tt
-
 loop-holds : tie.Need-loop-holds Inv-loop μ-loop
 loop-holds c =
-    let c-start = c .before .before .before .before .before .before .before .before .before in
-    let c-lasts = c .before .before .lasts in
-    let c-singles = c .before .singles in
-    let c-least = c .least in
-    let a = c-start .args in (
-      record {
-        passed = passes (now (a .words)) (c-start .pre .0);
-        last-is = c-lasts .ensures;
-        singles-are = c-singles .ensures;
-        room-is = c-least .ensures;
-      },
-      running-start (automaton (now (a .words))) (stateOf (a .from) (a .marks) (a .taken)) (now (a .block)) (now (a .ids)) (now (a .offsets)) (omega arith),
-    )
+    let c-start = c .before .before .before .before .before .before .before .before in
+    let a = c-start .args in
+    running-start (automaton (now (a .words))) (stateOf (a .from) (a .marks) (a .taken)) (now (a .block)) (now (a .ids)) (now (a .offsets)) (omega arith)
 
 ahead-requires : tie.Need-ahead-requires Inv-loop μ-loop
-ahead-requires c κs = omega arith
+ahead-requires c κs =
+    let c-start = c .before .before .before .before .before .before .before .before .before .before in
+    let p = passes (now (c-start .args .words)) (c-start .pre .0) in
+    (p .long, refl, c .before .loop .inv .inside, c-start .pre .1)
 
 add-step : tie.Need-add-step Inv-loop μ-loop
 add-step c = omega arith
@@ -70,139 +64,103 @@ shared-slice-read-step : tie.Need-shared-slice-read-step Inv-loop μ-loop
 shared-slice-read-step c = omega arith
 
 step-requires : tie.Need-step-requires Inv-loop μ-loop
-step-requires c κs = omega arith
+step-requires c κs =
+    let c-start = c .before .before .before .before .before .before .before .before .before .before .before .before .before in
+    let p = passes (now (c-start .args .words)) (c-start .pre .0) in
+    (p .long, refl)
 
-meets-requires : tie.Need-meets-requires Inv-loop μ-loop
-meets-requires c κs = tt
+add-deliver : tie.Need-add-deliver Inv-loop μ-loop
+add-deliver c = omega arith
 
-ending-requires : tie.Need-ending-requires Inv-loop μ-loop
-ending-requires c κs = omega arith
+add-deliver-2 : tie.Need-add-deliver-2 Inv-loop μ-loop
+add-deliver-2 c = omega arith
 
-sub-if3 : tie.Need-sub-if3 Inv-loop μ-loop
-sub-if3 c = omega arith
+mul-deliver : tie.Need-mul-deliver Inv-loop μ-loop
+mul-deliver c = omega arith
 
-due-requires : tie.Need-due-requires Inv-loop μ-loop
-due-requires c κs = tt
+sub-deliver : tie.Need-sub-deliver Inv-loop μ-loop
+sub-deliver c = omega arith
 
-add-write-run : tie.Need-add-write-run Inv-loop μ-loop
-add-write-run c = omega arith
+part-deliver-start : tie.Need-part-deliver-start Inv-loop μ-loop
+part-deliver-start c = omega arith
 
-add-write-run-2 : tie.Need-add-write-run-2 Inv-loop μ-loop
-add-write-run-2 c = omega arith
+part-deliver-end : tie.Need-part-deliver-end Inv-loop μ-loop
+part-deliver-end c = omega arith
 
-mul-write-run : tie.Need-mul-write-run Inv-loop μ-loop
-mul-write-run c =
-    let c-loop = c .before .before .before .before .before .before .before .before .before .before .loop in
-    let c-start = c .before .before .before .before .before .before .before .before .before .before .before .before .before .before .before .before .before .before .before .before in
-    omega (arith, c-loop .inv .1 .room, c-loop .inv .1 .ids-long, c-start .good)
+mul-deliver-2 : tie.Need-mul-deliver-2 Inv-loop μ-loop
+mul-deliver-2 c = omega arith
 
-sub-write-run : tie.Need-sub-write-run Inv-loop μ-loop
-sub-write-run c = omega arith
+sub-deliver-2 : tie.Need-sub-deliver-2 Inv-loop μ-loop
+sub-deliver-2 c = omega arith
 
-part-write-run-start : tie.Need-part-write-run-start Inv-loop μ-loop
-part-write-run-start c = omega arith
+part-deliver-start-2 : tie.Need-part-deliver-start-2 Inv-loop μ-loop
+part-deliver-start-2 c = omega arith
 
-part-write-run-end : tie.Need-part-write-run-end Inv-loop μ-loop
-part-write-run-end c = omega arith
+part-deliver-end-2 : tie.Need-part-deliver-end-2 Inv-loop μ-loop
+part-deliver-end-2 c = omega arith
 
-mul-write-run-2 : tie.Need-mul-write-run-2 Inv-loop μ-loop
-mul-write-run-2 c =
-    let c-loop = c .before .before .before .before .before .before .before .before .before .before .before .loop in
-    let c-start = c .before .before .before .before .before .before .before .before .before .before .before .before .before .before .before .before .before .before .before .before .before in
-    omega (arith, c-loop .inv .1 .room, c-loop .inv .1 .offsets-long, c-start .good)
-
-sub-write-run-2 : tie.Need-sub-write-run-2 Inv-loop μ-loop
-sub-write-run-2 c = omega arith
-
-part-write-run-start-2 : tie.Need-part-write-run-start-2 Inv-loop μ-loop
-part-write-run-start-2 c = omega arith
-
-part-write-run-end-2 : tie.Need-part-write-run-end-2 Inv-loop μ-loop
-part-write-run-end-2 c = omega arith
-
-write-run-requires : tie.Need-write-run-requires Inv-loop μ-loop
-write-run-requires c κs =
-    let c-loop = c .before .before .before .before .before .before .before .before .before .before .before .before .loop in
-    let c-start = c .before .before .before .before .before .before .before .before .before .before .before .before .before .before .before .before .before .before .before .before .before .before in
-    let c-lasts = c .before .before .before .before .before .before .before .before .before .before .before .before .before .before .before .lasts in
-    let c-singles = c .before .before .before .before .before .before .before .before .before .before .before .before .before .before .singles in
-    let c-least = c .before .before .before .before .before .before .before .before .before .before .before .before .before .least in
-    let c-step = c .before .before .before .before .before .before .before .step in
-    let c-ending = c .before .before .before .before .ending in
-    let c-due = c .before .before .before .due in
-    let c-if3 = c .before .before .if3 in
-    let c-write-run-arg = c .before .write-run-arg in
-    let c-write-run-arg2 = c .write-run-arg2 in
-    let l = c-loop in
-    let t = now (c-start .args .words) in
-    let n = found-due t (now (c-start .args .ids)) (now (c-start .args .offsets)) (c-lasts .result) (c-singles .result) (c-least .result) (l .inv .0) (c-step .result) (c-ending .result) (c-ending .ensures) (l .reported) (c-due .result) (c-due .ensures) in
-    (c-start .pre .0, l .inv .0 .singles-are, omega (arith, n, c-if3 .left, l .inv .0 .room-is, l .inv .1 .room, l .inv .1 .ids-long, c-write-run-arg .given), omega (arith, n, c-if3 .left, l .inv .0 .room-is, l .inv .1 .room, l .inv .1 .offsets-long, c-write-run-arg2 .given))
+deliver-requires : tie.Need-deliver-requires Inv-loop μ-loop
+deliver-requires c κs =
+    let c-start = c .before .before .before .before .before .before .before .before .before .before .before .before .before .before .before .before in
+    let c-lasts = c .before .before .before .before .before .before .before .before .before .lasts in
+    let c-singles = c .before .before .before .before .before .before .before .before .singles in
+    (c-start .pre .0, c-lasts .ensures, c-singles .ensures)
 
 add-count : tie.Need-add-count Inv-loop μ-loop
-unfolding automaton
 add-count c =
-    let c-loop = c .before .before .before .before .before .before .before .before .before .before .before .before .before .before .before .before .before .before .loop in
-    let c-start = c .before .before .before .before .before .before .before .before .before .before .before .before .before .before .before .before .before .before .before .before .before .before .before .before .before .before .before .before in
-    let c-lasts = c .before .before .before .before .before .before .before .before .before .before .before .before .before .before .before .before .before .before .before .before .before .lasts in
-    let c-singles = c .before .before .before .before .before .before .before .before .before .before .before .before .before .before .before .before .before .before .before .before .singles in
-    let c-least = c .before .before .before .before .before .before .before .before .before .before .before .before .before .before .before .before .before .before .before .least in
-    let c-step = c .before .before .before .before .before .before .before .before .before .before .before .before .before .step in
-    let c-ending = c .before .before .before .before .before .before .before .before .before .before .ending in
-    let c-due = c .before .before .before .before .before .before .before .before .before .due in
-    let c-write-run = c .before .before .before .before .before .write-run in
-    let c-if3 = c .before .before .before .before .before .before .before .before .if3 in
-    let l = c-loop in
-    let t = now (c-start .args .words) in
-    let n = found-due t (now (c-start .args .ids)) (now (c-start .args .offsets)) (c-lasts .result) (c-singles .result) (c-least .result) (l .inv .0) (c-step .result) (c-ending .result) (c-ending .ensures) (l .reported) (c-due .result) (c-due .ensures) in
-    omega (arith, n, c-write-run .ensures .reports-are, c-if3 .left, l .inv .0 .room-is, l .inv .1 .room, c-start .good)
-
-add-at : tie.Need-add-at Inv-loop μ-loop
-add-at c = omega arith
-
-loop-less : tie.Need-loop-less Inv-loop μ-loop
-loop-less c = omega arith
-
-loop-again : tie.Need-loop-again Inv-loop μ-loop
-unfolding automaton
-loop-again c =
-    let c-start = c .before .before .before .before .before .before .before .before .before .before .before .before .before .before .before .before .before in
-    let c-loop = c .before .before .before .before .before .before .before .loop in
-    let c-ahead = c .before .before .before .before .before .ahead in
-    let c-if1 = c .before .before .before .before .if1 in
-    let c-lasts = c .before .before .before .before .before .before .before .before .before .before .lasts in
-    let c-singles = c .before .before .before .before .before .before .before .before .before .singles in
-    let c-least = c .before .before .before .before .before .before .before .before .least in
-    let c-step = c .before .before .step in
-    let c-if2 = c .if2 in
-    let c-meets = c .before .meets in
+    let c-start = c .before .before .before .before .before .before .before .before .before .before .before .before .before .before .before .before .before .before .before .before .before .before .before .before in
+    let c-loop = c .before .before .before .before .before .before .before .before .before .before .before .before .before .before .before .loop in
+    let c-ahead = c .before .before .before .before .before .before .before .before .before .before .before .before .before .ahead in
+    let c-if1 = c .before .before .before .before .before .before .before .before .before .before .before .before .if1 in
+    let c-step = c .before .before .before .before .before .before .before .before .before .before .step in
+    let c-deliver = c .before .before .before .before .before .before .before .deliver in
+    let c-ids = c .before .before .before .before .before .before .ids in
+    let c-offsets = c .before .before .before .before .offsets in
     let a = c-start .args in
     let l = c-loop in
     let t = now (a .words) in
     let s = stateOf (a .from) (a .marks) (a .taken) in
     let at = c-ahead .result in
-    let moved = running-skip (automaton t) s (now (a .block)) (now (a .ids)) (now (a .offsets)) (l .live) (l .reported) (l .ids) (l .offsets) (l .count) (l .at) at (l .inv .1) (c-ahead .ensures) in
-    let inside : at < length (now (a .block)) = omega (arith, moved .inside, c-if1 .left) in (
-      l .inv .0,
-      ⊎-elim
-          (λ w.
-          let found = w .1 .result in
-          let run = w .6 in
-          let ilast = run .last .1 .1 .1 .1 .1 .0 in
-          let olast = run .last .1 .1 .1 .1 .1 .1 .0 in
-          let n = found-due t (now (a .ids)) (now (a .offsets)) (c-lasts .result) (c-singles .result) (c-least .result) (l .inv .0) (c-step .result) found (w .1 .ensures) (l .reported) (w .2 .result) (w .2 .ensures) in
-          running-same (automaton t) s (now (a .block)) (now (a .ids)) (now (a .offsets)) (c-step .result) (run .result .reported)
-          (putMid (l .count) (length (l .ids) - l .count) (l .ids) ilast) (putMid (l .count) (length (l .offsets) - l .count) (l .offsets) olast) (l .count + run .result .reports) (at + 1)
-          (running-run (automaton t) s (now (a .block)) (now (a .ids)) (now (a .offsets)) (l .live) (l .reported) (l .ids) (l .offsets) (l .count) at moved (c-step .result) (c-step .ensures)
-          found (run .result .reports) (run .result .reported) (a .taken + at + 1) ilast olast inside
-          (found-ends t (now (a .ids)) (now (a .offsets)) (c-lasts .result) (c-singles .result) (c-least .result) (l .inv .0) (c-step .result) found (w .1 .ensures))
-          (omega arith) (omega (arith, n, run .ensures .reports-are, w .3 .left, l .inv .0 .room-is, l .inv .1 .room)) (run .ensures) (w .7 .given .1) (w .9 .given .1))
-          (c-if2 .reported) (c-if2 .ids) (c-if2 .offsets) (c-if2 .count) (w .14) (w .12) (w .13) (w .15))
-          (λ w. running-same (automaton t) s (now (a .block)) (now (a .ids)) (now (a .offsets)) (c-step .result) (l .reported) (l .ids) (l .offsets) (l .count) (at + 1)
-          (running-silent (automaton t) s (now (a .block)) (now (a .ids)) (now (a .offsets)) (l .live) (l .reported) (l .ids) (l .offsets) (l .count) at moved (c-step .result) (c-step .ensures) inside
-          (gate-shut t (now (a .ids)) (now (a .offsets)) (c-lasts .result) (c-singles .result) (c-least .result) (l .inv .0) (c-step .result) (c-meets .result) (c-meets .ensures) (w .0 .left)))
-          (c-if2 .reported) (c-if2 .ids) (c-if2 .offsets) (c-if2 .count) (w .3) (w .1) (w .2) (w .4))
-          (c-if2 .came),
-    )
+    let r = c-deliver .result in
+    let ilast = c-deliver .last .1 .1 .1 .1 .1 .1 .0 in
+    let olast = c-deliver .last .1 .1 .1 .1 .1 .1 .1 .0 in
+    let moved = running-skip (automaton t) s (now (a .block)) (now (a .ids)) (now (a .offsets)) (l .live) (l .reported) (l .ids) (l .offsets) (l .count) (l .at) at (l .inv) (c-ahead .ensures) in
+    let room = running-room (automaton t) s (now (a .block)) (now (a .ids)) (now (a .offsets)) (l .live) (l .reported) (l .ids) (l .offsets) (l .count) at moved (c-step .result) (c-step .ensures)
+    (r .fits) (r .reports) (r .reported) (a .taken + at + 1) ilast olast (c-deliver .ensures) (not-false (r .fits) (c .before .if2 .left)) in
+    omega (arith, room, c-start .good)
+
+add-at : tie.Need-add-at Inv-loop μ-loop
+add-at c =
+    let c-ahead = c .before .before .before .before .before .before .before .before .before .before .before .before .before .ahead in
+    let c-if1 = c .before .before .before .before .before .before .before .before .before .before .before .before .if1 in
+    let c-start = c .before .before .before .before .before .before .before .before .before .before .before .before .before .before .before .before .before .before .before .before .before .before .before .before in
+    omega (arith, c-ahead .ensures .inside, c-if1 .left, c-start .pre .1)
+
+loop-less : tie.Need-loop-less Inv-loop μ-loop
+loop-less c = omega arith
+
+loop-again : tie.Need-loop-again Inv-loop μ-loop
+loop-again c =
+    let c-start = c .before .before .before .before .before .before .before .before .before .before .before .before .before .before .before .before .before .before .before .before .before .before .before .before in
+    let c-loop = c .before .before .before .before .before .before .before .before .before .before .before .before .before .before .before .loop in
+    let c-ahead = c .before .before .before .before .before .before .before .before .before .before .before .before .before .ahead in
+    let c-if1 = c .before .before .before .before .before .before .before .before .before .before .before .before .if1 in
+    let c-step = c .before .before .before .before .before .before .before .before .before .before .step in
+    let c-deliver = c .before .before .before .before .before .before .before .deliver in
+    let c-ids = c .before .before .before .before .before .before .ids in
+    let c-offsets = c .before .before .before .before .offsets in
+    let a = c-start .args in
+    let l = c-loop in
+    let t = now (a .words) in
+    let s = stateOf (a .from) (a .marks) (a .taken) in
+    let at = c-ahead .result in
+    let r = c-deliver .result in
+    let ilast = c-deliver .last .1 .1 .1 .1 .1 .1 .0 in
+    let olast = c-deliver .last .1 .1 .1 .1 .1 .1 .1 .0 in
+    let moved = running-skip (automaton t) s (now (a .block)) (now (a .ids)) (now (a .offsets)) (l .live) (l .reported) (l .ids) (l .offsets) (l .count) (l .at) at (l .inv) (c-ahead .ensures) in
+    running-run (automaton t) s (now (a .block)) (now (a .ids)) (now (a .offsets)) (l .live) (l .reported) (l .ids) (l .offsets) (l .count) at moved (c-step .result) (c-step .ensures)
+    (r .fits) (r .reports) (r .reported) (a .taken + at + 1) ilast olast (c-deliver .ensures) (not-false (r .fits) (c .before .if2 .left)) (omega (arith, moved .inside, c-if1 .left)) (omega arith)
+    (c-ids .given .1) (c-offsets .given .1)
 
 same-length : tie.Need-same-length Inv-loop μ-loop
 same-length c = omega arith
@@ -212,11 +170,11 @@ same-length-2 c = omega arith
 
 returns : tie.Need-returns Inv-loop μ-loop
 returns c =
-    let c-start = c .before .before .before .before .before .before .before .before .before .before .before in
+    let c-start = c .before .before .before .before .before .before .before .before .before .before in
     let c-loop = c .before .loop in
     let a = c-start .args in
     let l = c-loop in
-    running-done (automaton (now (a .words))) (stateOf (a .from) (a .marks) (a .taken)) (now (a .block)) (now (a .ids)) (now (a .offsets)) (l .live) (l .reported) (l .ids) (l .offsets) (l .count) (l .at) (l .inv .1)
+    running-done (automaton (now (a .words))) (stateOf (a .from) (a .marks) (a .taken)) (now (a .block)) (now (a .ids)) (now (a .offsets)) (l .live) (l .reported) (l .ids) (l .offsets) (l .count) (l .at) (l .inv)
     (λ b. absurd (omega arith))
 
 same-length-3 : tie.Need-same-length-3 Inv-loop μ-loop
@@ -227,7 +185,7 @@ same-length-4 c = omega arith
 
 returns-2 : tie.Need-returns-2 Inv-loop μ-loop
 returns-2 c =
-    let c-start = c .before .before .before .before .before .before .before .before .before .before .before .before .before in
+    let c-start = c .before .before .before .before .before .before .before .before .before .before .before .before in
     let c-loop = c .before .before .before .loop in
     let c-ahead = c .before .ahead in
     let a = c-start .args in
@@ -235,7 +193,7 @@ returns-2 c =
     let t = now (a .words) in
     let s = stateOf (a .from) (a .marks) (a .taken) in
     running-done (automaton t) s (now (a .block)) (now (a .ids)) (now (a .offsets)) (l .live) (l .reported) (l .ids) (l .offsets) (l .count) (c-ahead .result)
-    (running-skip (automaton t) s (now (a .block)) (now (a .ids)) (now (a .offsets)) (l .live) (l .reported) (l .ids) (l .offsets) (l .count) (l .at) (c-ahead .result) (l .inv .1) (c-ahead .ensures))
+    (running-skip (automaton t) s (now (a .block)) (now (a .ids)) (now (a .offsets)) (l .live) (l .reported) (l .ids) (l .offsets) (l .count) (l .at) (c-ahead .result) (l .inv) (c-ahead .ensures))
     (λ b. absurd (omega arith))
 
 same-length-5 : tie.Need-same-length-5 Inv-loop μ-loop
@@ -245,29 +203,30 @@ same-length-6 : tie.Need-same-length-6 Inv-loop μ-loop
 same-length-6 c = omega arith
 
 returns-3 : tie.Need-returns-3 Inv-loop μ-loop
-unfolding automaton
 returns-3 c =
-    let c-start = c .before .before .before .before .before .before .before .before .before .before .before .before .before .before .before .before .before .before .before .before in
-    let c-loop = c .before .before .before .before .before .before .before .before .before .before .loop in
-    let c-ahead = c .before .before .before .before .before .before .before .before .ahead in
-    let c-lasts = c .before .before .before .before .before .before .before .before .before .before .before .before .before .lasts in
-    let c-singles = c .before .before .before .before .before .before .before .before .before .before .before .before .singles in
-    let c-least = c .before .before .before .before .before .before .before .before .before .before .before .least in
-    let c-step = c .before .before .before .before .before .step in
-    let c-ending = c .before .before .ending in
-    let c-due = c .before .due in
-    let c-if3 = c .if3 in
+    let c-start = c .before .before .before .before .before .before .before .before .before .before .before .before .before .before .before .before .before .before .before .before .before .before .before in
+    let c-loop = c .before .before .before .before .before .before .before .before .before .before .before .before .before .before .loop in
+    let c-ahead = c .before .before .before .before .before .before .before .before .before .before .before .before .ahead in
+    let c-if1 = c .before .before .before .before .before .before .before .before .before .before .before .if1 in
+    let c-step = c .before .before .before .before .before .before .before .before .before .step in
+    let c-deliver = c .before .before .before .before .before .before .deliver in
+    let c-ids = c .before .before .before .before .before .ids in
+    let c-offsets = c .before .before .before .offsets in
     let a = c-start .args in
     let l = c-loop in
     let t = now (a .words) in
     let s = stateOf (a .from) (a .marks) (a .taken) in
     let at = c-ahead .result in
-    let moved = running-skip (automaton t) s (now (a .block)) (now (a .ids)) (now (a .offsets)) (l .live) (l .reported) (l .ids) (l .offsets) (l .count) (l .at) at (l .inv .1) (c-ahead .ensures) in
-    let n = found-due t (now (a .ids)) (now (a .offsets)) (c-lasts .result) (c-singles .result) (c-least .result) (l .inv .0) (c-step .result) (c-ending .result) (c-ending .ensures) (l .reported) (c-due .result) (c-due .ensures) in
-    let total = count-more (automaton t) s (now (a .block)) (now (a .ids)) (now (a .offsets)) (l .live) (l .reported) (l .ids) (l .offsets) (l .count) at moved (c-step .result) (c-step .ensures) (c-ending .result)
-    (found-ends t (now (a .ids)) (now (a .offsets)) (c-lasts .result) (c-singles .result) (c-least .result) (l .inv .0) (c-step .result) (c-ending .result) (c-ending .ensures)) in
-    running-done (automaton t) s (now (a .block)) (now (a .ids)) (now (a .offsets)) (l .live) (l .reported) (l .ids) (l .offsets) (l .count) at moved
-    (λ b. omega (arith, n, total, c-if3 .taken, l .inv .0 .room-is, l .inv .1 .room))
+    let r = c-deliver .result in
+    let ilast = c-deliver .last .1 .1 .1 .1 .1 .1 .0 in
+    let olast = c-deliver .last .1 .1 .1 .1 .1 .1 .1 .0 in
+    let moved = running-skip (automaton t) s (now (a .block)) (now (a .ids)) (now (a .offsets)) (l .live) (l .reported) (l .ids) (l .offsets) (l .count) (l .at) at (l .inv) (c-ahead .ensures) in
+    let full = not-true (r .fits) (c .if2 .taken) in
+    running-done (automaton t) s (now (a .block)) (now (a .ids)) (now (a .offsets)) (l .live) (l .reported) (putMid (l .count) (length (l .ids) - l .count) (l .ids) ilast) (putMid (l .count) (length (l .offsets) - l .count) (l .offsets) olast) (l .count) at
+    (running-kept (automaton t) s (now (a .block)) (now (a .ids)) (now (a .offsets)) (l .live) (l .reported) (l .ids) (l .offsets) (l .count) at moved (c-step .result) (c-step .ensures)
+    (r .fits) (r .reports) (r .reported) (a .taken + at + 1) ilast olast (c-deliver .ensures) full (c-ids .given .1) (c-offsets .given .1))
+    (λ b. running-full (automaton t) s (now (a .block)) (now (a .ids)) (now (a .offsets)) (l .live) (l .reported) (l .ids) (l .offsets) (l .count) at moved (c-step .result) (c-step .ensures)
+    (r .fits) (r .reports) (r .reported) (a .taken + at + 1) ilast olast (c-deliver .ensures) full)
 
 pub run-spec : {M : Type 1} → statement M
 run-spec =
@@ -279,27 +238,22 @@ run-spec =
     shared-slice-read-positions
     lasts-requires
     singles-requires
-    least-requires
     loop-holds
     ahead-requires
     add-step
     shared-slice-read-step
     step-requires
-    meets-requires
-    ending-requires
-    sub-if3
-    due-requires
-    add-write-run
-    add-write-run-2
-    mul-write-run
-    sub-write-run
-    part-write-run-start
-    part-write-run-end
-    mul-write-run-2
-    sub-write-run-2
-    part-write-run-start-2
-    part-write-run-end-2
-    write-run-requires
+    add-deliver
+    add-deliver-2
+    mul-deliver
+    sub-deliver
+    part-deliver-start
+    part-deliver-end
+    mul-deliver-2
+    sub-deliver-2
+    part-deliver-start-2
+    part-deliver-end-2
+    deliver-requires
     add-count
     add-at
     loop-less

@@ -1,0 +1,101 @@
+-- `stream::reports::deliver` meets its contract: each of its three ways has one law, and the run is written where the count of what is due fits.
+use mathlib.Core.Path.{sym, _∙_}
+use native.Mathlib.Omega.{arith}
+use denote.Ref.{now}
+use borrow.Author.Tests.{not-true}
+use Rattle.table.proofs.Test.{passes}
+use Rattle.stream.proofs.Turns.{delivered-none, found-due, delivered-full, delivered-run}
+use Rattle.stream.proofs.reports.deliver.Statement.{statement}
+use Rattle.stream.proofs.reports.deliver.Tie as tie
+
+meets-requires : tie.Need-meets-requires
+meets-requires c κs = tt
+
+returns : tie.Need-returns
+returns c =
+    let c-start = c .before .before .before .before .before in
+    let c-meets = c .before .meets in
+    let c-if1 = c .if1 in
+    let a = c-start .args in
+    let t = now (a .words) in
+    delivered-none t (a .live) (a .reported) (a .end) (now (a .ids)) (now (a .offsets)) (passes t (c-start .pre .0) .rules) (omega arith)
+    (a .last) (c-start .pre .1) (sym (c-meets .ensures) ∙ not-true (c-meets .result) (c-if1 .taken))
+
+shared-slice-read-ending : tie.Need-shared-slice-read-ending
+shared-slice-read-ending c =
+    let c-start = c .before .before .before .before .before .before in
+    omega (arith, passes (now (c-start .args .words)) (c-start .pre .0) .long)
+
+ending-requires : tie.Need-ending-requires
+ending-requires c κs =
+    let c-start = c .before .before .before .before .before .before in
+    let p = passes (now (c-start .args .words)) (c-start .pre .0) in
+    (p .long, p .rules, omega arith)
+
+least-requires : tie.Need-least-requires
+least-requires c κs = tt
+
+due-requires : tie.Need-due-requires
+due-requires c κs = tt
+
+returns-2 : tie.Need-returns-2
+returns-2 c =
+    let c-start = c .before .before .before .before .before .before .before .before .before .before in
+    let c-ending = c .before .before .before .ending in
+    let c-least = c .before .before .least in
+    let c-due = c .before .due in
+    let c-if2 = c .if2 in
+    let a = c-start .args in
+    let t = now (a .words) in
+    delivered-full t (a .live) (a .reported) (a .end) (now (a .ids)) (now (a .offsets)) (passes t (c-start .pre .0) .rules) (omega arith)
+    (c-ending .result) (c-due .result) (c-least .result) (c-ending .ensures) (c-due .ensures) (c-least .ensures) (c-if2 .taken)
+
+write-run-requires : tie.Need-write-run-requires
+write-run-requires c κs =
+    let c-start = c .before .before .before .before .before .before .before .before .before .before .before .before in
+    let c-ending = c .before .before .before .before .before .ending in
+    let c-least = c .before .before .before .before .least in
+    let c-due = c .before .before .before .due in
+    let c-if2 = c .before .before .if2 in
+    let a = c-start .args in
+    let t = now (a .words) in
+    let n = found-due t (a .live) (a .reported) (a .end) (now (a .ids)) (now (a .offsets)) (passes t (c-start .pre .0) .rules) (omega arith)
+    (c-ending .result) (c-due .result) (c-least .result) (c-ending .ensures) (c-due .ensures) (c-least .ensures) in
+    (c-start .pre .0, c-start .pre .2, omega (arith, n, c-if2 .left, c-least .ensures), omega (arith, n, c-if2 .left, c-least .ensures))
+
+same-length : tie.Need-same-length
+same-length c = omega arith
+
+same-length-2 : tie.Need-same-length-2
+same-length-2 c = omega arith
+
+returns-3 : tie.Need-returns-3
+returns-3 c =
+    let c-start = c .before .before .before .before .before .before .before .before .before .before .before .before .before .before .before .before .before in
+    let c-ending = c .before .before .before .before .before .before .before .before .before .before .ending in
+    let c-least = c .before .before .before .before .before .before .before .before .before .least in
+    let c-due = c .before .before .before .before .before .before .before .before .due in
+    let c-if2 = c .before .before .before .before .before .before .before .if2 in
+    let c-write-run = c .before .before .before .before .write-run in
+    let a = c-start .args in
+    let t = now (a .words) in
+    let r = c-write-run .result in
+    delivered-run t (a .live) (a .reported) (a .end) (now (a .ids)) (now (a .offsets)) (passes t (c-start .pre .0) .rules) (omega arith)
+    (c-ending .result) (c-due .result) (c-least .result) (c-ending .ensures) (c-due .ensures) (c-least .ensures) (c-if2 .left)
+    (r .reports) (r .reported) (c-write-run .last .1 .1 .1 .1 .1 .0) (c-write-run .last .1 .1 .1 .1 .1 .1 .0) (c-write-run .ensures)
+
+pub deliver-spec : {M : Type 1} → statement M
+deliver-spec =
+    tie.close
+    (tie.spec
+    meets-requires
+    returns
+    shared-slice-read-ending
+    ending-requires
+    least-requires
+    due-requires
+    returns-2
+    write-run-requires
+    same-length
+    same-length-2
+    returns-3)
