@@ -11,7 +11,7 @@ use lib.ListN.{length, getD, take, drop, replicate, length-take, length-drop, le
 use lib.Seq.{drop-drop, drop-at, take-at, take-all}
 use borrow.Rule.Slice.PartMut.{putMid}
 use borrow.Author.Count.{below-more}
-use borrow.Author.Tests.{lt-ltb, le-leb, lt-leb, leb-true, leb-false}
+use borrow.Author.Tests.{lt-ltb, le-ltb, ltb-true, ltb-false}
 use Rattle.sets.specs.Set.{on, has, any, count, emptySet}
 use Rattle.sets.proofs.Laws.{has-setOf, has-empty, any-none, any-ext, any-never}
 use Rattle.table.specs.Layout.{maxRules, maxPositions, rulesOf, lastAt, lastAtEndAt, rowHas}
@@ -69,13 +69,13 @@ ends-empty w a = any-never maxPositions (λ p. has emptySet p && w .last a p) (�
 module _ (t live : List ℕ) (marks end : ℕ) (ids offsets : List ℕ) (few : rulesOf t ≤ maxRules) (small : marks < 2 ^ 64) where
   -- a live set that does not meet the last sets ends no rule
   pub delivered-none : (last : List ℕ) → last ≡ lastsBelow t (rulesOf t) → any maxPositions (λ q. has live q && has last q) ≡ false
-      → Delivered (automaton t) live marks end ids offsets true 0 marks ids offsets
+      → Delivered (automaton t) live marks end ids offsets false 0 marks ids offsets
   unfolding automaton
   delivered-none last is shut =
       let none : ((a : ℕ) → a < rulesOf t → ends (automaton t) live a ≡ false) =
       λ a l. gate t live a l (ap (λ (x : List ℕ). any maxPositions (λ q. has live q && has x q)) (sym is) ∙ shut) in
       record {
-        fit-is = sym (le-leb (length (runIds (automaton t) (ends (automaton t) live) marks (rulesOf t))) (space ids offsets) (omega (arith, ap length (run-none (automaton t) (ends (automaton t) live) marks (rulesOf t) none))));
+        full-if = sym (le-ltb (space ids offsets) (length (runIds (automaton t) (ends (automaton t) live) marks (rulesOf t))) (omega (arith, ap length (run-none (automaton t) (ends (automaton t) live) marks (rulesOf t) none))));
         wrote = wrote-none (automaton t) (ends (automaton t) live) marks end ids offsets small none;
       }
 
@@ -97,21 +97,21 @@ module _ (t live : List ℕ) (marks end : ℕ) (ids offsets : List ℕ) (few : r
     ends-due = found-due ∙ ap length (run-ext (automaton t) (on found) (ends (automaton t) live) marks (rulesOf t) found-ends)
 
     -- their reports do not all fit
-    pub delivered-full : room < due → Delivered (automaton t) live marks end ids offsets false 0 marks ids offsets
+    pub delivered-full : room < due → Delivered (automaton t) live marks end ids offsets true 0 marks ids offsets
     unfolding automaton
     delivered-full h =
         record {
-          fit-is = sym (lt-leb (length (runIds (automaton t) (ends (automaton t) live) marks (rulesOf t))) (space ids offsets) (omega (arith, ends-due, room-is)));
+          full-if = sym (lt-ltb (space ids offsets) (length (runIds (automaton t) (ends (automaton t) live) marks (rulesOf t))) (omega (arith, ends-due, room-is)));
           wrote = wrote-none (automaton t) (λ a. false) marks end ids offsets small (λ a l. refl);
         }
 
     -- they do, and are written
     pub delivered-run : due ≤ room → (reports marks′ : ℕ) (ids′ offsets′ : List ℕ) → Wrote (automaton t) (on found) marks end ids offsets reports marks′ ids′ offsets′
-        → Delivered (automaton t) live marks end ids offsets true reports marks′ ids′ offsets′
+        → Delivered (automaton t) live marks end ids offsets false reports marks′ ids′ offsets′
     unfolding automaton
     delivered-run h reports marks′ ids′ offsets′ wrote =
         record {
-          fit-is = sym (le-leb (length (runIds (automaton t) (ends (automaton t) live) marks (rulesOf t))) (space ids offsets) (omega (arith, ends-due, room-is)));
+          full-if = sym (le-ltb (space ids offsets) (length (runIds (automaton t) (ends (automaton t) live) marks (rulesOf t))) (omega (arith, ends-due, room-is)));
           wrote = wrote-ext (automaton t) (on found) (ends (automaton t) live) marks end ids offsets reports marks′ ids′ offsets′ found-ends wrote;
         }
 
@@ -177,6 +177,13 @@ module _ (w : Automaton) (s : Stream) (block ids₀ offsets₀ : List ℕ) where
     offsets-long = refl;
   }
 
+  -- the reports written lie inside both lists
+  pub ids-hold : (live : List ℕ) (reported : ℕ) (ids offsets : List ℕ) (count at : ℕ) → Running w s block ids₀ offsets₀ live reported ids offsets count at → count ≤ length ids
+  ids-hold live reported ids offsets count at h = omega (arith, h .room, h .ids-long)
+
+  pub offsets-hold : (live : List ℕ) (reported : ℕ) (ids offsets : List ℕ) (count at : ℕ) → Running w s block ids₀ offsets₀ live reported ids offsets count at → count ≤ length offsets
+  offsets-hold live reported ids offsets count at h = omega (arith, h .room, h .offsets-long)
+
   module _ (live : List ℕ) (reported : ℕ) (ids offsets : List ℕ) (count at : ℕ) (h : Running w s block ids₀ offsets₀ live reported ids offsets count at)
       (next : List ℕ) (step : next ≡ nextLive w (stateOf live 0 (s .taken + at)) (getD block at 0)) where
     -- what the definitions say of the next byte, in terms of the locals
@@ -210,8 +217,8 @@ module _ (w : Automaton) (s : Stream) (block ids₀ offsets₀ : List ℕ) where
         ∙ sym (ap length ids-next ∙ length-append (idsOf w s block at) (runIds w (ends w next) reported (w .rules)))
 
     -- what was written into the free part of both lists
-    module _ (fit : Bool) (reports marks end : ℕ) (ilast olast : List ℕ)
-        (d : Delivered w next reported end (take (length ids - count) (drop count ids)) (take (length offsets - count) (drop count offsets)) fit reports marks ilast olast) where
+    module _ (full : Bool) (reports marks end : ℕ) (ilast olast : List ℕ)
+        (d : Delivered w next reported end (take (length ids - count) (drop count ids)) (take (length offsets - count) (drop count offsets)) full reports marks ilast olast) where
       free : ℕ
       free = space (take (length ids - count) (drop count ids)) (take (length offsets - count) (drop count offsets))
 
@@ -224,25 +231,25 @@ module _ (w : Automaton) (s : Stream) (block ids₀ offsets₀ : List ℕ) where
             length-take (length offsets - count) (drop count offsets), length-drop count offsets,
           )
 
-      wrote-if : (b : Bool) → fit ≡ b
-          → Wrote w (λ a. b && ends w next a) reported end (take (length ids - count) (drop count ids)) (take (length offsets - count) (drop count offsets)) reports marks ilast olast
+      wrote-if : (b : Bool) → full ≡ b
+          → Wrote w (λ a. not b && ends w next a) reported end (take (length ids - count) (drop count ids)) (take (length offsets - count) (drop count offsets)) reports marks ilast olast
       wrote-if b e =
-          subst (λ (x : Bool). Wrote w (λ a. x && ends w next a) reported end (take (length ids - count) (drop count ids)) (take (length offsets - count) (drop count offsets)) reports marks ilast olast)
+          subst (λ (x : Bool). Wrote w (λ a. not x && ends w next a) reported end (take (length ids - count) (drop count ids)) (take (length offsets - count) (drop count offsets)) reports marks ilast olast)
           e (d .wrote)
 
       -- a byte whose reports fit is taken
-      pub running-room : fit ≡ true → count + reports ≤ space ids₀ offsets₀
+      pub running-room : full ≡ false → count + reports ≤ space ids₀ offsets₀
       unfolding free
       running-room fits =
           let run = runIds w (ends w next) reported (w .rules) in
-          omega (arith, leb-true (length run) free (sym (d .fit-is) ∙ fits), wrote-if true fits .reports-are, free-is)
+          omega (arith, ltb-false free (length run) (sym (d .full-if) ∙ fits), wrote-if false fits .reports-are, free-is)
 
-      pub running-run : fit ≡ true → at < length block → end ≡ s .taken + (at + 1)
+      pub running-run : full ≡ false → at < length block → end ≡ s .taken + (at + 1)
           → length (putMid count (length ids - count) ids ilast) ≡ length ids → length (putMid count (length offsets - count) offsets olast) ≡ length offsets
           → Running w s block ids₀ offsets₀ next marks (putMid count (length ids - count) ids ilast) (putMid count (length offsets - count) offsets olast) (count + reports) (at + 1)
       running-run fits b e li lo =
           let run = runIds w (ends w next) reported (w .rules) in
-          let wrote = wrote-if true fits in
+          let wrote = wrote-if false fits in
           let n : length run ≡ reports = sym (wrote .reports-are) in
           record {
             inside = omega arith;
@@ -264,15 +271,15 @@ module _ (w : Automaton) (s : Stream) (block ids₀ offsets₀ : List ℕ) where
           }
 
       -- before a byte whose reports do not fit the loop leaves
-      pub running-full : fit ≡ false → space ids₀ offsets₀ < length (idsOf w s block (at + 1))
+      pub running-full : full ≡ true → space ids₀ offsets₀ < length (idsOf w s block (at + 1))
       unfolding free
-      running-full full = omega (arith, leb-false (length (runIds w (ends w next) reported (w .rules))) free (sym (d .fit-is) ∙ full), count-more, free-is)
+      running-full e = omega (arith, ltb-true free (length (runIds w (ends w next) reported (w .rules))) (sym (d .full-if) ∙ e), count-more, free-is)
 
       -- and both lists are as they were
-      pub running-kept : fit ≡ false → length (putMid count (length ids - count) ids ilast) ≡ length ids → length (putMid count (length offsets - count) offsets olast) ≡ length offsets
+      pub running-kept : full ≡ true → length (putMid count (length ids - count) ids ilast) ≡ length ids → length (putMid count (length offsets - count) offsets olast) ≡ length offsets
           → Running w s block ids₀ offsets₀ live reported (putMid count (length ids - count) ids ilast) (putMid count (length offsets - count) offsets olast) count at
-      running-kept full li lo =
-          let wrote = wrote-if false full in
+      running-kept e li lo =
+          let wrote = wrote-if true e in
           let none = run-none w (λ a. false) reported (w .rules) (λ a l. refl) in
           record {
             inside = h .inside;

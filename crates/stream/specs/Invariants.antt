@@ -1,9 +1,9 @@
 -- What the private functions promise, where that is not an equation with a definition that a reader must believe. Assumes nothing: these are definitions.
 use mathlib.Core.Path.{_≡_}
-use mathlib.Core.Bool.{Bool, false, _&&_}
+use mathlib.Core.Bool.{Bool, false, not, _&&_}
 use mathlib.Core.List.{List}
 use Prim.Native.Nat.{ℕ, zero, suc, _+_, _<_, _≤_}
-use lib.Dec.{leb}
+use lib.Dec.{ltb}
 use lib.ListN.{length, getD, replicate}
 use Rattle.sets.specs.Set.{setOf, unionOf, emptySet}
 use Rattle.table.specs.Layout.{followAt, rowHas}
@@ -25,9 +25,9 @@ pub record Wrote (w : Automaton) (test : ℕ → Bool) (marks end : ℕ) (ids of
   pub offsets-are : offsets′ ≡ written (replicate (length (runIds w test marks (w .rules))) end) offsets
 
 -- the run of the rules that a live set ends, written if all its reports fit; if not, a run of none: both lists and the marks are as they were
-pub record Delivered (w : Automaton) (live : List ℕ) (marks end : ℕ) (ids offsets : List ℕ) (fit : Bool) (reports marks′ : ℕ) (ids′ offsets′ : List ℕ) : Type 0 where
-  pub fit-is : fit ≡ leb (length (runIds w (ends w live) marks (w .rules))) (space ids offsets)
-  pub wrote : Wrote w (λ a. fit && ends w live a) marks end ids offsets reports marks′ ids′ offsets′
+pub record Delivered (w : Automaton) (live : List ℕ) (marks end : ℕ) (ids offsets : List ℕ) (full : Bool) (reports marks′ : ℕ) (ids′ offsets′ : List ℕ) : Type 0 where
+  pub full-if : full ≡ ltb (space ids offsets) (length (runIds w (ends w live) marks (w .rules)))
+  pub wrote : Wrote w (λ a. not full && ends w live a) marks end ids offsets reports marks′ ids′ offsets′
 
 -- a set joined with what follows the positions that the first n turns of the walk over a word ask; digit k of the word is position base + k
 unfoldable pub joined : (t : List ℕ) → (word base : ℕ) → (from : List ℕ) → ℕ → List ℕ

@@ -63,9 +63,9 @@ pub(super) fn write_run(
     }
 }
 
-// What one byte's run comes to: whether its reports all fit, how many were written, and the marks afterwards.
+// What one byte's run comes to: whether the free space is too small for its reports, how many were written, and the marks afterwards.
 pub(super) struct Delivery {
-    pub fits: bool,
+    pub full: bool,
     pub reports: usize,
     pub reported: u64,
 }
@@ -83,11 +83,11 @@ pub(super) fn deliver(
     offsets: &mut [u64],
 ) -> Delivery
     requires { ⌜ (isTable (now words) ≡ true) × (last ≡ setOf (λ p. any (rulesOf (now words)) (λ a. rowHas (now words) (lastAt a) p))) × (singles ≡ wordOf 64 (λ a. ltb a (rulesOf (now words)) && single (automaton (now words)) a)) ⌝ }
-    ensures { λ r. ⌜ Delivered (automaton (now (words .entry))) live reported end (now (ids .entry)) (now (offsets .entry)) (r .fits) (r .reports) (r .reported) (now (ids .exit)) (now (offsets .exit)) ⌝ }
+    ensures { λ r. ⌜ Delivered (automaton (now (words .entry))) live reported end (now (ids .entry)) (now (offsets .entry)) (r .full) (r .reports) (r .reported) (now (ids .exit)) (now (offsets .exit)) ⌝ }
 {
     if !meets(live, last) {
         return Delivery {
-            fits: true,
+            full: false,
             reports: 0,
             reported,
         };
@@ -95,14 +95,14 @@ pub(super) fn deliver(
     let found = ending(live, words, words[RULES_AT] as usize, LAST);
     if least(ids.len(), offsets.len()) < due(found, reported) {
         return Delivery {
-            fits: false,
+            full: true,
             reports: 0,
             reported,
         };
     }
     let run = write_run(found, reported, singles, words, end, ids, offsets);
     Delivery {
-        fits: true,
+        full: false,
         reports: run.reports,
         reported: run.reported,
     }

@@ -90,8 +90,8 @@ pub(super) struct Taken {
 
 // Takes bytes of the block up to its end, or up to the first whose reports do not all fit in the free space.
 pub(super) fn run(
-    from: [u64; 4],
-    marks: u64,
+    mut live: [u64; 4],
+    mut reported: u64,
     taken: u64,
     words: &[u64],
     block: &[u8],
@@ -99,14 +99,12 @@ pub(super) fn run(
     offsets: &mut [u64],
 ) -> Taken
     requires { ⌜ (isTable (now words) ≡ true) × (taken + length (now block) < 2 ^ 64) ⌝ }
-    ensures { λ r. ⌜ Ran (automaton (now (words .entry))) (stateOf from marks taken) (now (block .entry)) (now (ids .entry)) (now (offsets .entry)) (r .live) (r .reported) (r .taken) (r .reports) (now (ids .exit)) (now (offsets .exit)) ⌝ }
+    ensures { λ r. ⌜ Ran (automaton (now (words .entry))) (stateOf live reported taken) (now (block .entry)) (now (ids .entry)) (now (offsets .entry)) (r .live) (r .reported) (r .taken) (r .reports) (now (ids .exit)) (now (offsets .exit)) ⌝ }
 {
     let rules = words[RULES_AT] as usize;
     let positions = words[POSITIONS_AT] as usize;
     let last = lasts(words, rules);
     let single = singles(words, rules);
-    let mut live = from;
-    let mut reported = marks;
     let mut count: usize = 0;
     let mut at: usize = 0;
     while at < block.len() {
@@ -114,18 +112,19 @@ pub(super) fn run(
         if at == block.len() {
             break;
         }
-        let next = step(live, taken + at as u64, words, positions, block[at]);
+        let before = taken + at as u64;
+        let next = step(live, before, words, positions, block[at]);
         let r = deliver(
             next,
             last,
             reported,
             single,
             words,
-            taken + at as u64 + 1,
+            before + 1,
             &mut ids[count..],
             &mut offsets[count..],
         );
-        if !r.fits {
+        if r.full {
             break;
         }
         count += r.reports;

@@ -1,0 +1,46 @@
+-- What the code asks of numbers: places inside a list, sums and products that fit a word, measures that fall. Each is stated over plain numbers, since `omega` is
+-- dear where all that is known of a call is in reach.
+use mathlib.Core.Path.{_≡_}
+use Prim.Native.Nat.{ℕ, _+_, _*_, _-_, _^_, _<_, _≤_, min}
+use native.Mathlib.Omega.{arith}
+use mir.Syntax.{w64}
+use mir.Val.{Fits}
+use Rattle.table.specs.Layout.{tableWords}
+
+-- the words of a table's header
+pub rules-word : (n : ℕ) → tableWords ≤ n → 1 < n
+rules-word n h = omega arith
+
+pub positions-word : (n : ℕ) → tableWords ≤ n → 2 < n
+positions-word n h = omega arith
+
+-- a place up to the end is inside, unless it is the end
+pub inside : (at n : ℕ) → at ≤ n → (at ≡ n → ⊥) → at < n
+inside at n h e = omega arith
+
+pub not-both : {A : Type 0} (a b : ℕ) → a < b → b ≤ a → A
+not-both a b h l = absurd (omega arith)
+
+-- what is left falls
+pub less-left : (n from at : ℕ) → from ≤ at → at < n → n - (at + 1) < n - from
+less-left n from at h l = omega arith
+
+-- sums and products
+pub sum-fits : (a b n : ℕ) → a + n < 2 ^ 64 → b ≤ n → Fits w64 (a + b)
+sum-fits a b n h l = record { fits = omega arith }
+
+pub next-fits : (a b n : ℕ) → a + n < 2 ^ 64 → b < n → Fits w64 (a + b + 1)
+next-fits a b n h l = record { fits = omega arith }
+
+pub after-fits : (a b n : ℕ) → a + n < 2 ^ 64 → b < n → Fits w64 (b + 1)
+after-fits a b n h l = record { fits = omega arith }
+
+-- a count of elements of a list, and their bytes
+pub count-fits : (n a b : ℕ) → n ≤ min a b → a * 4 < 2 ^ 63 → Fits w64 n
+count-fits n a b h l = record { fits = omega arith }
+
+pub ids-fit : (n a b : ℕ) → n ≤ min a b → a * 4 < 2 ^ 63 → Fits w64 (n * 4)
+ids-fit n a b h l = record { fits = omega arith }
+
+pub offsets-fit : (n a b : ℕ) → n ≤ min a b → b * 8 < 2 ^ 63 → Fits w64 (n * 8)
+offsets-fit n a b h l = record { fits = omega arith }
