@@ -5,7 +5,7 @@ use Prim.Native.Nat.{ℕ, _+_, _*_, _-_, _^_, _<_, _≤_, min}
 use native.Mathlib.Omega.{arith}
 use mir.Syntax.{w64}
 use mir.Val.{Fits}
-use Rattle.table.specs.Layout.{tableWords}
+use Rattle.table.specs.Layout.{tableWords, maxRules, recordAt}
 
 -- the words of a table's header
 pub rules-word : (n : ℕ) → tableWords ≤ n → 1 < n
@@ -44,3 +44,42 @@ ids-fit n a b h l = record { fits = omega arith }
 
 pub offsets-fit : (n a b : ℕ) → n ≤ min a b → b * 8 < 2 ^ 63 → Fits w64 (n * 8)
 offsets-fit n a b h l = record { fits = omega arith }
+
+-- ---- the records of a table's rules
+
+-- a word has a digit for each rule
+pub digits : (n : ℕ) → n ≤ maxRules → n ≤ 64
+digits n h = omega arith
+
+module _ (a : ℕ) (h : a < maxRules) where
+  pub place-digit : a < 64
+  place-digit = omega arith
+
+  pub place-fits : Fits w64 (a * 16)
+  place-fits = record { fits = omega arith }
+
+  pub record-fits : Fits w64 (recordAt a)
+  record-fits = record { fits = omega arith }
+
+  pub field-fits : (i : ℕ) → i < 16 → Fits w64 (recordAt a + i)
+  field-fits i l = record { fits = omega arith }
+
+  pub field-bytes-fit : (i : ℕ) → i < 16 → Fits w64 ((recordAt a + i) * 8)
+  field-bytes-fit i l = record { fits = omega arith }
+
+  pub field-inside : (i n : ℕ) → i < 16 → tableWords ≤ n → recordAt a + i < n
+  field-inside i n l m = omega arith
+
+  pub next-place-fits : Fits w64 (a + 1)
+  next-place-fits = record { fits = omega arith }
+
+  -- a number up to the place, as that of the reports before it
+  module _ (n : ℕ) (few : n ≤ a) where
+    pub few-fit : Fits w64 (n + 1)
+    few-fit = record { fits = omega arith }
+
+    pub few-ids-fit : Fits w64 (n * 4)
+    few-ids-fit = record { fits = omega arith }
+
+    pub few-offsets-fit : Fits w64 (n * 8)
+    few-offsets-fit = record { fits = omega arith }

@@ -1,21 +1,23 @@
 -- `stream::reports::write_run` meets its contract: each turn asks one rule and writes its report where it is due (`Writing`).
-use mathlib.Core.Path.{_≡_, refl, ap, _∙_}
+use mathlib.Core.Path.{_≡_, refl, sym, ap, _∙_, subst}
 use mathlib.Core.Logic.{⊎-elim}
-use Prim.Native.Nat.{ℕ, _-_, _^_}
-use native.Mathlib.Omega.{arith}
+use Prim.Native.Nat.{ℕ, _-_, _^_, _<_}
+use native.Mathlib.Nat.{le-refl, lt-of-lt-of-le}
 use denote.Ref.{now}
 use lib.Bits.{bitAnd, bitOr}
+use lib.Dec.{lit<}
 use lib.ListN.{length, set}
 use Rattle.table.specs.Layout.{rulesOf}
 use Rattle.table.specs.Automaton.{automaton}
 use Rattle.table.proofs.Test.{Passes, passes}
+use Rattle.stream.proofs.Bounds.{rules-word, less-left, digits, place-digit, place-fits, record-fits, field-fits, field-bytes-fit, field-inside, next-place-fits, few-fit, few-ids-fit, few-offsets-fit}
 use Rattle.stream.proofs.Runs.{Writing, writing-start, writing-room, writing-hit, writing-miss, writing-done, marks-words}
 use Rattle.stream.proofs.TableSets.{id-word}
 use Rattle.stream.proofs.reports.write_run.Statement.{statement}
 use Rattle.stream.proofs.reports.write_run.Tie as tie
 
 abbrev Inv-loop : tie.InvT-loop
-Inv-loop ending reported singles words end ids₀ offsets₀ rules due n₀ a₀ ids offsets n a = Passes words × (rules ≡ rulesOf words) × (due ≡ bitAnd ending (2 ^ 64 - 1 - reported)) × Writing (automaton words) ending reported end ids₀ offsets₀ ids offsets n a
+Inv-loop ending reported singles words end ids₀ offsets₀ rules due n₀ a₀ ids offsets n a = Passes words × (due ≡ bitAnd ending (2 ^ 64 - 1 - reported)) × Writing (automaton words) ending reported end ids₀ offsets₀ ids offsets n a
 
 abbrev μ-loop : tie.MeasureT-loop
 μ-loop ending reported singles words end ids₀ offsets₀ rules due n₀ a₀ ids offsets n a = rules - a
@@ -23,118 +25,158 @@ abbrev μ-loop : tie.MeasureT-loop
 shared-slice-read-rules : tie.Need-shared-slice-read-rules Inv-loop μ-loop
 shared-slice-read-rules c =
     let c-start = c .before in
-    omega (arith, passes (now (c-start .args .words)) (c-start .pre .0) .long)
+    let t = now (c-start .args .words) in
+    rules-word (length t) (passes t (c-start .pre .0) .long)
 
 loop-holds : tie.Need-loop-holds Inv-loop μ-loop
 loop-holds c =
     let c-start = c .before in
     let a = c-start .args in
-    (passes (now (a .words)) (c-start .pre .0), refl, refl, writing-start (automaton (now (a .words))) (a .ending) (a .reported) (a .end) (now (a .ids)) (now (a .offsets)))
+    (passes (now (a .words)) (c-start .pre .0), refl, writing-start (automaton (now (a .words))) (a .ending) (a .reported) (a .end) (now (a .ids)) (now (a .offsets)))
 
 shr-if1 : tie.Need-shr-if1 Inv-loop μ-loop
-shr-if1 c = omega arith
+shr-if1 c =
+    let c-loop = c .before .loop in
+    let c-loop-test = c .loop-test in
+    place-digit (c-loop .a) (lt-of-lt-of-le (c-loop-test .taken) (c-loop .inv .0 .rules))
 
 mul-ids : tie.Need-mul-ids Inv-loop μ-loop
-mul-ids c = omega arith
+mul-ids c =
+    let c-loop = c .before .before .loop in
+    let c-loop-test = c .before .loop-test in
+    place-fits (c-loop .a) (lt-of-lt-of-le (c-loop-test .taken) (c-loop .inv .0 .rules))
 
 add-ids : tie.Need-add-ids Inv-loop μ-loop
-add-ids c = omega arith
+add-ids c =
+    let c-loop = c .before .before .loop in
+    let c-loop-test = c .before .loop-test in
+    record-fits (c-loop .a) (lt-of-lt-of-le (c-loop-test .taken) (c-loop .inv .0 .rules))
 
 add-ids-2 : tie.Need-add-ids-2 Inv-loop μ-loop
-add-ids-2 c = omega arith
+add-ids-2 c =
+    let c-loop = c .before .before .loop in
+    let c-loop-test = c .before .loop-test in
+    field-fits (c-loop .a) (lt-of-lt-of-le (c-loop-test .taken) (c-loop .inv .0 .rules)) 0 (lit< tt)
 
 mul-ids-2 : tie.Need-mul-ids-2 Inv-loop μ-loop
-mul-ids-2 c = omega arith
+mul-ids-2 c =
+    let c-loop = c .before .before .loop in
+    let c-loop-test = c .before .loop-test in
+    field-bytes-fit (c-loop .a) (lt-of-lt-of-le (c-loop-test .taken) (c-loop .inv .0 .rules)) 0 (lit< tt)
 
 shared-slice-read-ids : tie.Need-shared-slice-read-ids Inv-loop μ-loop
-shared-slice-read-ids c = omega arith
+shared-slice-read-ids c =
+    let c-loop = c .before .before .before .loop in
+    let c-loop-test = c .before .before .loop-test in
+    let c-start = c .before .before .before .before .before in
+    field-inside (c-loop .a) (lt-of-lt-of-le (c-loop-test .taken) (c-loop .inv .0 .rules)) 0 (length (now (c-start .args .words))) (lit< tt) (c-loop .inv .0 .long)
 
 cast-ids : tie.Need-cast-ids Inv-loop μ-loop
 cast-ids c =
     let c-loop = c .before .before .before .loop in
-    omega (arith, c-loop .inv .0 .small (c-loop .a) (omega arith))
+    let c-loop-test = c .before .before .loop-test in
+    record { fits = c-loop .inv .0 .small (c-loop .a) (c-loop-test .taken) }
 
 mul-ids-3 : tie.Need-mul-ids-3 Inv-loop μ-loop
-mul-ids-3 c = omega arith
+mul-ids-3 c =
+    let c-loop = c .before .before .before .loop in
+    let c-loop-test = c .before .before .loop-test in
+    few-ids-fit (c-loop .a) (lt-of-lt-of-le (c-loop-test .taken) (c-loop .inv .0 .rules)) (c-loop .n) (c-loop .inv .2 .few)
 
 slice-write-ids : tie.Need-slice-write-ids Inv-loop μ-loop
 unfolding automaton
 slice-write-ids c =
     let c-start = c .before .before .before .before .before in
     let c-loop = c .before .before .before .loop in
+    let c-loop-test = c .before .before .loop-test in
     let c-if1 = c .before .if1 in
     let a = c-start .args in
     let l = c-loop in
-    let room = writing-room (automaton (now (a .words))) (a .ending) (a .reported) (a .end) (now (a .ids)) (now (a .offsets)) (l .ids) (l .offsets) (l .n) (l .a) (l .inv .3) (omega arith) (omega arith) (omega arith) (bitAnd (a .ending) (2 ^ 64 - 1 - a .reported)) refl in
-    omega (arith, room (length (now (a .ids))) (c-if1 .taken) (c-start .pre .2))
+    let t = now (a .words) in
+    let room = writing-room (automaton t) (a .ending) (a .reported) (a .end) (now (a .ids)) (now (a .offsets)) (l .ids) (l .offsets) (l .n) (l .a) (l .inv .2) (c-loop-test .taken) (digits (rulesOf t) (l .inv .0 .rules)) (c-start .fits .reported .fits) (bitAnd (a .ending) (2 ^ 64 - 1 - a .reported)) refl in
+    subst (λ (x : ℕ). l .n < x) (sym (l .inv .2 .ids-long)) (room (length (now (a .ids))) (c-if1 .taken) (c-start .pre .2))
 
 mul-offsets : tie.Need-mul-offsets Inv-loop μ-loop
-mul-offsets c = omega arith
+mul-offsets c =
+    let c-loop = c .before .before .before .loop in
+    let c-loop-test = c .before .before .loop-test in
+    few-offsets-fit (c-loop .a) (lt-of-lt-of-le (c-loop-test .taken) (c-loop .inv .0 .rules)) (c-loop .n) (c-loop .inv .2 .few)
 
 slice-write-offsets : tie.Need-slice-write-offsets Inv-loop μ-loop
 unfolding automaton
 slice-write-offsets c =
     let c-start = c .before .before .before .before .before in
     let c-loop = c .before .before .before .loop in
+    let c-loop-test = c .before .before .loop-test in
     let c-if1 = c .before .if1 in
     let a = c-start .args in
     let l = c-loop in
-    let room = writing-room (automaton (now (a .words))) (a .ending) (a .reported) (a .end) (now (a .ids)) (now (a .offsets)) (l .ids) (l .offsets) (l .n) (l .a) (l .inv .3) (omega arith) (omega arith) (omega arith) (bitAnd (a .ending) (2 ^ 64 - 1 - a .reported)) refl in
-    omega (arith, room (length (now (a .offsets))) (c-if1 .taken) (c-start .pre .3))
+    let t = now (a .words) in
+    let room = writing-room (automaton t) (a .ending) (a .reported) (a .end) (now (a .ids)) (now (a .offsets)) (l .ids) (l .offsets) (l .n) (l .a) (l .inv .2) (c-loop-test .taken) (digits (rulesOf t) (l .inv .0 .rules)) (c-start .fits .reported .fits) (bitAnd (a .ending) (2 ^ 64 - 1 - a .reported)) refl in
+    subst (λ (x : ℕ). l .n < x) (sym (l .inv .2 .offsets-long)) (room (length (now (a .offsets))) (c-if1 .taken) (c-start .pre .3))
 
 add-n : tie.Need-add-n Inv-loop μ-loop
-add-n c = omega arith
+add-n c =
+    let c-loop = c .before .before .before .loop in
+    let c-loop-test = c .before .before .loop-test in
+    few-fit (c-loop .a) (lt-of-lt-of-le (c-loop-test .taken) (c-loop .inv .0 .rules)) (c-loop .n) (c-loop .inv .2 .few)
 
 add-a : tie.Need-add-a Inv-loop μ-loop
-add-a c = omega arith
+add-a c =
+    let c-loop = c .before .before .loop in
+    let c-loop-test = c .before .loop-test in
+    next-place-fits (c-loop .a) (lt-of-lt-of-le (c-loop-test .taken) (c-loop .inv .0 .rules))
 
 loop-less : tie.Need-loop-less Inv-loop μ-loop
-loop-less c = omega arith
+loop-less c =
+    let c-start = c .before .before .before .before in
+    let c-loop = c .before .before .loop in
+    let c-loop-test = c .before .loop-test in
+    less-left (rulesOf (now (c-start .args .words))) (c-loop .a) (c-loop .a) (le-refl (c-loop .a)) (c-loop-test .taken)
 
 loop-again : tie.Need-loop-again Inv-loop μ-loop
 unfolding automaton
 loop-again c =
     let c-start = c .before .before .before .before in
     let c-loop = c .before .before .loop in
+    let c-loop-test = c .before .loop-test in
     let c-if1 = c .if1 in
     let a = c-start .args in
     let l = c-loop in
     let t = now (a .words) in
-    let asked = bitAnd (a .ending) (2 ^ 64 - 1 - a .reported) in
-    let room = writing-room (automaton t) (a .ending) (a .reported) (a .end) (now (a .ids)) (now (a .offsets)) (l .ids) (l .offsets) (l .n) (l .a) (l .inv .3) (omega arith) (omega arith) (omega arith) asked refl in (
+    let room = writing-room (automaton t) (a .ending) (a .reported) (a .end) (now (a .ids)) (now (a .offsets)) (l .ids) (l .offsets) (l .n) (l .a) (l .inv .2) (c-loop-test .taken) (digits (rulesOf t) (l .inv .0 .rules)) (c-start .fits .reported .fits) (bitAnd (a .ending) (2 ^ 64 - 1 - a .reported)) refl in
+    (
       l .inv .0,
       l .inv .1,
-      l .inv .2,
       ⊎-elim
-          (λ w. writing-hit (automaton t) (a .ending) (a .reported) (a .end) (now (a .ids)) (now (a .offsets)) (l .ids) (l .offsets) (l .n) (l .a) (l .inv .3) (omega arith) (omega arith) (omega arith) asked refl
-          (c-if1 .ids) (c-if1 .offsets) (c-if1 .n) (w .0 .taken) (room (length (now (a .ids))) (w .0 .taken) (c-start .pre .2)) (room (length (now (a .offsets))) (w .0 .taken) (c-start .pre .3))
-          (w .2 ∙ ap (set (l .ids) (l .n)) (id-word t (l .a) (omega arith))) (w .3) (w .4))
-          (λ w. writing-miss (automaton t) (a .ending) (a .reported) (a .end) (now (a .ids)) (now (a .offsets)) (l .ids) (l .offsets) (l .n) (l .a) (l .inv .3) (omega arith) (omega arith) (omega arith) asked refl
-          (c-if1 .ids) (c-if1 .offsets) (c-if1 .n) (w .0 .left) (w .1) (w .2) (w .3))
+          (λ w. writing-hit (automaton t) (a .ending) (a .reported) (a .end) (now (a .ids)) (now (a .offsets)) (l .ids) (l .offsets) (l .n) (l .a) (l .inv .2) (c-loop-test .taken) (digits (rulesOf t) (l .inv .0 .rules)) (c-start .fits .reported .fits) (bitAnd (a .ending) (2 ^ 64 - 1 - a .reported)) refl (c-if1 .ids) (c-if1 .offsets) (c-if1 .n) (w .0 .taken) (room (length (now (a .ids))) (w .0 .taken) (c-start .pre .2)) (room (length (now (a .offsets))) (w .0 .taken) (c-start .pre .3))
+          (w .2 ∙ ap (set (l .ids) (l .n)) (id-word t (l .a) (lt-of-lt-of-le (c-loop-test .taken) (c-loop .inv .0 .rules)))) (w .3) (w .4))
+          (λ w. writing-miss (automaton t) (a .ending) (a .reported) (a .end) (now (a .ids)) (now (a .offsets)) (l .ids) (l .offsets) (l .n) (l .a) (l .inv .2) (c-loop-test .taken) (digits (rulesOf t) (l .inv .0 .rules)) (c-start .fits .reported .fits) (bitAnd (a .ending) (2 ^ 64 - 1 - a .reported)) refl (c-if1 .ids) (c-if1 .offsets) (c-if1 .n) (w .0 .left) (w .1) (w .2) (w .3))
           (c-if1 .came),
     )
 
 same-length : tie.Need-same-length Inv-loop μ-loop
 same-length c =
     let c-loop = c .before .loop in
-    omega (arith, c-loop .inv .3 .ids-long)
+    c-loop .inv .2 .ids-long
 
 same-length-2 : tie.Need-same-length-2 Inv-loop μ-loop
 same-length-2 c =
     let c-loop = c .before .loop in
-    omega (arith, c-loop .inv .3 .offsets-long)
+    c-loop .inv .2 .offsets-long
 
 returns : tie.Need-returns Inv-loop μ-loop
 unfolding automaton
 returns c =
     let c-start = c .before .before .before in
     let c-loop = c .before .loop in
+    let c-loop-test = c .loop-test in
     let a = c-start .args in
     let l = c-loop in
     let t = now (a .words) in
-    writing-done (automaton t) (a .ending) (a .reported) (a .end) (now (a .ids)) (now (a .offsets)) (l .ids) (l .offsets) (l .n) (l .a) (l .inv .3) (omega arith)
+    writing-done (automaton t) (a .ending) (a .reported) (a .end) (now (a .ids)) (now (a .offsets)) (l .ids) (l .offsets) (l .n) (l .a) (l .inv .2) (c-loop-test .left)
     (bitOr (a .reported) (bitAnd (a .ending) (a .singles)))
-    (ap (λ (x : ℕ). bitOr (a .reported) (bitAnd (a .ending) x)) (c-start .pre .1) ∙ marks-words (automaton t) (a .ending) (a .reported) (omega arith))
+    (ap (λ (x : ℕ). bitOr (a .reported) (bitAnd (a .ending) x)) (c-start .pre .1) ∙ marks-words (automaton t) (a .ending) (a .reported) (c-start .fits .reported .fits))
 
 pub write-run-spec : {M : Type 1} → statement M
 write-run-spec =
