@@ -107,7 +107,7 @@ pub(super) fn run(
     let single = singles(words, rules);
     let mut count: usize = 0;
     let mut at: usize = 0;
-    while at < block.len() {
+    loop {
         at = ahead(live, taken, words, positions, block, at);
         if at == block.len() {
             break;

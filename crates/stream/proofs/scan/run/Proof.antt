@@ -52,31 +52,31 @@ loop-holds c =
 
 ahead-requires : tie.Need-ahead-requires Inv-loop μ-loop
 ahead-requires c κs =
-    let c-start = c .before .before .before .before .before .before .before .before .before .before in
-    let c-loop = c .before .loop in
+    let c-start = c .before .before .before .before .before .before .before .before .before in
+    let c-loop = c .loop in
     (passes (now (c-start .args .words)) (c-start .pre .0) .long, refl, c-loop .inv .inside, c-start .pre .1)
 
 add-before : tie.Need-add-before Inv-loop μ-loop
 add-before c =
-    let c-start = c .before .before .before .before .before .before .before .before .before .before .before .before in
+    let c-start = c .before .before .before .before .before .before .before .before .before .before .before in
     let c-ahead = c .before .ahead in
     sum-fits (c-start .args .taken) (c-ahead .result) (length (now (c-start .args .block))) (c-start .pre .1) (c-ahead .ensures .inside)
 
 shared-slice-read-step : tie.Need-shared-slice-read-step Inv-loop μ-loop
 shared-slice-read-step c =
     let c-ahead = c .before .before .ahead in
-    let c-start = c .before .before .before .before .before .before .before .before .before .before .before .before .before in
+    let c-start = c .before .before .before .before .before .before .before .before .before .before .before .before in
     let c-if1 = c .before .if1 in
     inside (c-ahead .result) (length (now (c-start .args .block))) (c-ahead .ensures .inside) (c-if1 .left)
 
 step-requires : tie.Need-step-requires Inv-loop μ-loop
 step-requires c κs =
-    let c-start = c .before .before .before .before .before .before .before .before .before .before .before .before .before in
+    let c-start = c .before .before .before .before .before .before .before .before .before .before .before .before in
     (passes (now (c-start .args .words)) (c-start .pre .0) .long, refl)
 
 add-deliver : tie.Need-add-deliver Inv-loop μ-loop
 add-deliver c =
-    let c-start = c .before .before .before .before .before .before .before .before .before .before .before .before .before .before in
+    let c-start = c .before .before .before .before .before .before .before .before .before .before .before .before .before in
     let c-ahead = c .before .before .before .ahead in
     let c-if1 = c .before .before .if1 in
     let n = length (now (c-start .args .block)) in
@@ -84,14 +84,14 @@ add-deliver c =
 
 mul-deliver : tie.Need-mul-deliver Inv-loop μ-loop
 mul-deliver c =
-    let c-loop = c .before .before .before .before .before .loop in
-    let c-start = c .before .before .before .before .before .before .before .before .before .before .before .before .before .before in
+    let c-loop = c .before .before .before .before .loop in
+    let c-start = c .before .before .before .before .before .before .before .before .before .before .before .before .before in
     ids-fit (c-loop .count) (length (now (c-start .args .ids))) (length (now (c-start .args .offsets))) (c-loop .inv .room) (c-start .good .1 .1 .1 .1 .1 .0 .1)
 
 sub-deliver : tie.Need-sub-deliver Inv-loop μ-loop
 sub-deliver c =
-    let c-start = c .before .before .before .before .before .before .before .before .before .before .before .before .before .before in
-    let c-loop = c .before .before .before .before .before .loop in
+    let c-start = c .before .before .before .before .before .before .before .before .before .before .before .before .before in
+    let c-loop = c .before .before .before .before .loop in
     let a = c-start .args in
     let l = c-loop in
     let t = now (a .words) in
@@ -100,8 +100,8 @@ sub-deliver c =
 
 part-deliver-start : tie.Need-part-deliver-start Inv-loop μ-loop
 part-deliver-start c =
-    let c-start = c .before .before .before .before .before .before .before .before .before .before .before .before .before .before in
-    let c-loop = c .before .before .before .before .before .loop in
+    let c-start = c .before .before .before .before .before .before .before .before .before .before .before .before .before in
+    let c-loop = c .before .before .before .before .loop in
     let a = c-start .args in
     let l = c-loop in
     let t = now (a .words) in
@@ -110,19 +110,19 @@ part-deliver-start c =
 
 part-deliver-end : tie.Need-part-deliver-end Inv-loop μ-loop
 part-deliver-end c =
-    let c-loop = c .before .before .before .before .before .loop in
+    let c-loop = c .before .before .before .before .loop in
     le-refl (length (c-loop .ids))
 
 mul-deliver-2 : tie.Need-mul-deliver-2 Inv-loop μ-loop
 mul-deliver-2 c =
-    let c-loop = c .before .before .before .before .before .before .loop in
-    let c-start = c .before .before .before .before .before .before .before .before .before .before .before .before .before .before .before in
+    let c-loop = c .before .before .before .before .before .loop in
+    let c-start = c .before .before .before .before .before .before .before .before .before .before .before .before .before .before in
     offsets-fit (c-loop .count) (length (now (c-start .args .ids))) (length (now (c-start .args .offsets))) (c-loop .inv .room) (c-start .good .1 .1 .1 .1 .1 .1 .0 .1)
 
 sub-deliver-2 : tie.Need-sub-deliver-2 Inv-loop μ-loop
 sub-deliver-2 c =
-    let c-start = c .before .before .before .before .before .before .before .before .before .before .before .before .before .before .before in
-    let c-loop = c .before .before .before .before .before .before .loop in
+    let c-start = c .before .before .before .before .before .before .before .before .before .before .before .before .before .before in
+    let c-loop = c .before .before .before .before .before .loop in
     let a = c-start .args in
     let l = c-loop in
     let t = now (a .words) in
@@ -131,8 +131,8 @@ sub-deliver-2 c =
 
 part-deliver-start-2 : tie.Need-part-deliver-start-2 Inv-loop μ-loop
 part-deliver-start-2 c =
-    let c-start = c .before .before .before .before .before .before .before .before .before .before .before .before .before .before .before in
-    let c-loop = c .before .before .before .before .before .before .loop in
+    let c-start = c .before .before .before .before .before .before .before .before .before .before .before .before .before .before in
+    let c-loop = c .before .before .before .before .before .loop in
     let a = c-start .args in
     let l = c-loop in
     let t = now (a .words) in
@@ -141,20 +141,20 @@ part-deliver-start-2 c =
 
 part-deliver-end-2 : tie.Need-part-deliver-end-2 Inv-loop μ-loop
 part-deliver-end-2 c =
-    let c-loop = c .before .before .before .before .before .before .loop in
+    let c-loop = c .before .before .before .before .before .loop in
     le-refl (length (c-loop .offsets))
 
 deliver-requires : tie.Need-deliver-requires Inv-loop μ-loop
 deliver-requires c κs =
-    let c-start = c .before .before .before .before .before .before .before .before .before .before .before .before .before .before .before .before in
-    let c-lasts = c .before .before .before .before .before .before .before .before .before .lasts in
-    let c-singles = c .before .before .before .before .before .before .before .before .singles in
+    let c-start = c .before .before .before .before .before .before .before .before .before .before .before .before .before .before .before in
+    let c-lasts = c .before .before .before .before .before .before .before .before .lasts in
+    let c-singles = c .before .before .before .before .before .before .before .singles in
     (c-start .pre .0, c-lasts .ensures, c-singles .ensures)
 
 add-count : tie.Need-add-count Inv-loop μ-loop
 add-count c =
-    let c-start = c .before .before .before .before .before .before .before .before .before .before .before .before .before .before .before .before .before .before .before .before .before .before .before in
-    let c-loop = c .before .before .before .before .before .before .before .before .before .before .before .before .before .before .loop in
+    let c-start = c .before .before .before .before .before .before .before .before .before .before .before .before .before .before .before .before .before .before .before .before .before .before in
+    let c-loop = c .before .before .before .before .before .before .before .before .before .before .before .before .before .loop in
     let c-ahead = c .before .before .before .before .before .before .before .before .before .before .before .before .ahead in
     let c-deliver = c .before .before .before .before .before .before .deliver in
     let c-step = c .before .before .before .before .before .before .before .before .before .step in
@@ -172,7 +172,7 @@ add-count c =
 
 add-at : tie.Need-add-at Inv-loop μ-loop
 add-at c =
-    let c-start = c .before .before .before .before .before .before .before .before .before .before .before .before .before .before .before .before .before .before .before .before .before .before .before in
+    let c-start = c .before .before .before .before .before .before .before .before .before .before .before .before .before .before .before .before .before .before .before .before .before .before in
     let c-ahead = c .before .before .before .before .before .before .before .before .before .before .before .before .ahead in
     let c-if1 = c .before .before .before .before .before .before .before .before .before .before .before .if1 in
     let n = length (now (c-start .args .block)) in
@@ -180,8 +180,8 @@ add-at c =
 
 loop-less : tie.Need-loop-less Inv-loop μ-loop
 loop-less c =
-    let c-start = c .before .before .before .before .before .before .before .before .before .before .before .before .before .before .before .before .before .before .before .before .before .before .before in
-    let c-loop = c .before .before .before .before .before .before .before .before .before .before .before .before .before .before .loop in
+    let c-start = c .before .before .before .before .before .before .before .before .before .before .before .before .before .before .before .before .before .before .before .before .before .before in
+    let c-loop = c .before .before .before .before .before .before .before .before .before .before .before .before .before .loop in
     let c-ahead = c .before .before .before .before .before .before .before .before .before .before .before .before .ahead in
     let c-if1 = c .before .before .before .before .before .before .before .before .before .before .before .if1 in
     let n = length (now (c-start .args .block)) in
@@ -189,8 +189,8 @@ loop-less c =
 
 loop-again : tie.Need-loop-again Inv-loop μ-loop
 loop-again c =
-    let c-start = c .before .before .before .before .before .before .before .before .before .before .before .before .before .before .before .before .before .before .before .before .before .before .before in
-    let c-loop = c .before .before .before .before .before .before .before .before .before .before .before .before .before .before .loop in
+    let c-start = c .before .before .before .before .before .before .before .before .before .before .before .before .before .before .before .before .before .before .before .before .before .before in
+    let c-loop = c .before .before .before .before .before .before .before .before .before .before .before .before .before .loop in
     let c-ahead = c .before .before .before .before .before .before .before .before .before .before .before .before .ahead in
     let c-deliver = c .before .before .before .before .before .before .deliver in
     let c-step = c .before .before .before .before .before .before .before .before .before .step in
@@ -211,39 +211,18 @@ loop-again c =
 
 same-length : tie.Need-same-length Inv-loop μ-loop
 same-length c =
-    let c-loop = c .before .loop in
+    let c-loop = c .before .before .loop in
     c-loop .inv .ids-long
 
 same-length-2 : tie.Need-same-length-2 Inv-loop μ-loop
 same-length-2 c =
-    let c-loop = c .before .loop in
+    let c-loop = c .before .before .loop in
     c-loop .inv .offsets-long
 
 returns : tie.Need-returns Inv-loop μ-loop
 returns c =
-    let c-start = c .before .before .before .before .before .before .before .before .before .before in
-    let c-loop = c .before .loop in
-    let c-loop-test = c .loop-test in
-    let a = c-start .args in
-    let l = c-loop in
-    let t = now (a .words) in
-    let s = stateOf (a .live) (a .reported) (a .taken) in
-    running-done (automaton t) s (now (a .block)) (now (a .ids)) (now (a .offsets)) (l .live) (l .reported) (l .ids) (l .offsets) (l .count) (l .at) (l .inv) (λ b. not-both (l .at) (length (now (a .block))) b (c-loop-test .left))
-
-same-length-3 : tie.Need-same-length-3 Inv-loop μ-loop
-same-length-3 c =
-    let c-loop = c .before .before .before .loop in
-    c-loop .inv .ids-long
-
-same-length-4 : tie.Need-same-length-4 Inv-loop μ-loop
-same-length-4 c =
-    let c-loop = c .before .before .before .loop in
-    c-loop .inv .offsets-long
-
-returns-2 : tie.Need-returns-2 Inv-loop μ-loop
-returns-2 c =
-    let c-start = c .before .before .before .before .before .before .before .before .before .before .before .before in
-    let c-loop = c .before .before .before .loop in
+    let c-start = c .before .before .before .before .before .before .before .before .before .before .before in
+    let c-loop = c .before .before .loop in
     let c-ahead = c .before .ahead in
     let c-if1 = c .if1 in
     let a = c-start .args in
@@ -252,22 +231,22 @@ returns-2 c =
     let s = stateOf (a .live) (a .reported) (a .taken) in
     running-done (automaton t) s (now (a .block)) (now (a .ids)) (now (a .offsets)) (l .live) (l .reported) (l .ids) (l .offsets) (l .count) (c-ahead .result) (running-skip (automaton t) s (now (a .block)) (now (a .ids)) (now (a .offsets)) (l .live) (l .reported) (l .ids) (l .offsets) (l .count) (l .at) (c-ahead .result) (l .inv) (c-ahead .ensures)) (λ b. not-both (c-ahead .result) (length (now (a .block))) b (le-of-eq (sym (c-if1 .taken))))
 
-same-length-5 : tie.Need-same-length-5 Inv-loop μ-loop
-same-length-5 c =
+same-length-3 : tie.Need-same-length-3 Inv-loop μ-loop
+same-length-3 c =
     let c-ids = c .before .before .before .before .ids in
-    let c-loop = c .before .before .before .before .before .before .before .before .before .before .before .before .before .loop in
+    let c-loop = c .before .before .before .before .before .before .before .before .before .before .before .before .loop in
     c-ids .given .1 ∙ c-loop .inv .ids-long
 
-same-length-6 : tie.Need-same-length-6 Inv-loop μ-loop
-same-length-6 c =
+same-length-4 : tie.Need-same-length-4 Inv-loop μ-loop
+same-length-4 c =
     let c-offsets = c .before .before .offsets in
-    let c-loop = c .before .before .before .before .before .before .before .before .before .before .before .before .before .loop in
+    let c-loop = c .before .before .before .before .before .before .before .before .before .before .before .before .loop in
     c-offsets .given .1 ∙ c-loop .inv .offsets-long
 
-returns-3 : tie.Need-returns-3 Inv-loop μ-loop
-returns-3 c =
-    let c-start = c .before .before .before .before .before .before .before .before .before .before .before .before .before .before .before .before .before .before .before .before .before .before in
-    let c-loop = c .before .before .before .before .before .before .before .before .before .before .before .before .before .loop in
+returns-2 : tie.Need-returns-2 Inv-loop μ-loop
+returns-2 c =
+    let c-start = c .before .before .before .before .before .before .before .before .before .before .before .before .before .before .before .before .before .before .before .before .before in
+    let c-loop = c .before .before .before .before .before .before .before .before .before .before .before .before .loop in
     let c-ahead = c .before .before .before .before .before .before .before .before .before .before .before .ahead in
     let c-deliver = c .before .before .before .before .before .deliver in
     let c-step = c .before .before .before .before .before .before .before .before .step in
@@ -321,7 +300,4 @@ run-spec =
     returns
     same-length-3
     same-length-4
-    returns-2
-    same-length-5
-    same-length-6
-    returns-3)
+    returns-2)
