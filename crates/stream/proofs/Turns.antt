@@ -226,9 +226,14 @@ module _ (w : Automaton) (s : Stream) (block ids₀ offsets₀ : List ℕ) where
       unfolding free
       free-is =
           omega (
-            arith, h .room, h .ids-long, h .offsets-long,
-            length-take (length ids - count) (drop count ids), length-drop count ids,
-            length-take (length offsets - count) (drop count offsets), length-drop count offsets,
+            arith,
+            h .room,
+            h .ids-long,
+            h .offsets-long,
+            length-take (length ids - count) (drop count ids),
+            length-drop count ids,
+            length-take (length offsets - count) (drop count offsets),
+            length-drop count offsets,
           )
 
       wrote-if : (b : Bool) → full ≡ b

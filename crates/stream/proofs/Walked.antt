@@ -8,8 +8,8 @@ use native.Mathlib.Nat.{add-zero}
 use native.Mathlib.Omega.{arith}
 use lib.Count.{ones}
 use lib.ListN.{getD}
-use Rattle.sets.specs.Set.{on, has, setOf, any, unionOf}
-use Rattle.sets.proofs.Laws.{Words, has-at, setOf-has, setOf-ext}
+use Rattle.sets.specs.Set.{on, has, setOf, any, unionOf, sizeOf}
+use Rattle.sets.proofs.Laws.{Words, has-at, setOf-has, setOf-ext, size-words}
 use Rattle.table.specs.Layout.{followAt, rowHas}
 use Rattle.stream.specs.Walk.{asked}
 use Rattle.stream.specs.Invariants.{joined}
@@ -69,3 +69,8 @@ walked-all t live s a b c d l h ea eb ec ed = word 3 (omega arith) d (ed ∙ joi
     word : (i : ℕ) → i < 4 → (x : List ℕ)
         → x ≡ joined t (getD live i 0) (i * 64) (reached t live (has s) (i * 64)) (ones (getD live i 0)) → x ≡ reached t live (has s) (i * 64 + 64)
     word i g x e = e ∙ walked-word t live (has s) i (l .small i g)
+
+-- in as many turns as the live set has members
+pub turns-all : (live : List ℕ) → Words live → (a b c d : ℕ) → a ≡ ones (getD live 0 0) → b ≡ ones (getD live 1 0) → c ≡ ones (getD live 2 0) → d ≡ ones (getD live 3 0)
+    → a + b + c + d ≡ sizeOf live
+turns-all live l a b c d ea eb ec ed = omega (arith, ea, eb, ec, ed, size-words live l)

@@ -2,10 +2,9 @@
 use super::checks::least;
 use super::rows::ending;
 use super::rows::meets;
+use super::rows::record_word;
 use table::layout::ID;
 use table::layout::LAST;
-use table::layout::RECORD_WORDS;
-use table::layout::RECORDS_AT;
 use table::layout::RULES_AT;
 ghost use mathlib.Core.Path.{_≡_};
 ghost use mathlib.Core.Bool.{true, not, _&&_};
@@ -51,7 +50,7 @@ pub(super) fn write_run(
     let mut a: usize = 0;
     while a < rules {
         if due >> a & 1 == 1 {
-            ids[n] = words[RECORDS_AT + a * RECORD_WORDS + ID] as u32;
+            ids[n] = record_word(words, a, ID) as u32;
             offsets[n] = end;
             n += 1;
         }

@@ -5,12 +5,20 @@ use table::layout::RECORD_WORDS;
 use table::layout::RECORDS_AT;
 ghost use mathlib.Core.Path.{_≡_};
 ghost use mathlib.Core.Bool.{_&&_};
-ghost use Prim.Native.Nat.{_+_, _≤_};
+ghost use Prim.Native.Nat.{_+_, _<_, _≤_};
 ghost use lib.Dec.{ltb};
 ghost use lib.ListN.{length};
 ghost use Rattle.sets.specs.Set.{has, setOf, wordOf, any};
-ghost use Rattle.table.specs.Layout.{tableWords, maxRules, maxPositions, recordAt, lastAt, rowHas};
+ghost use Rattle.table.specs.Layout.{tableWords, maxRules, maxPositions, recordAt, lastAt, recordWord, rowHas};
 ghost use Rattle.table.specs.Automaton.{automaton, single};
+
+// A word of the record of the rule in this place.
+pub(super) fn record_word(words: &[u64], place: usize, field: usize) -> u64
+    requires { ⌜ (tableWords ≤ length (now words)) × (place < maxRules) × (field < 16) ⌝ }
+    ensures { λ r. ⌜ r ≡ recordWord (now (words .entry)) place field ⌝ }
+{
+    words[RECORDS_AT + place * RECORD_WORDS + field]
+}
 
 // Whether two sets have a member in common.
 pub(super) fn meets(s: [u64; 4], t: [u64; 4]) -> bool
@@ -64,7 +72,7 @@ pub(super) fn singles(words: &[u64], rules: usize) -> u64
     let mut found: u64 = 0;
     let mut a: usize = 0;
     while a < rules {
-        if words[RECORDS_AT + a * RECORD_WORDS + FLAGS] / SINGLE % 2 == 1 {
+        if record_word(words, a, FLAGS) / SINGLE % 2 == 1 {
             found = found | 1 << a;
         }
         a += 1;

@@ -63,10 +63,7 @@ fn ahead(
     requires { ⌜ (tableWords ≤ length (now words)) × (positions ≡ positionsOf (now words)) × (from ≤ length (now block)) × (taken + length (now block) < 2 ^ 64) ⌝ }
     ensures { λ r. ⌜ Skipped (automaton (now (words .entry))) live (now (block .entry)) taken from r ⌝ }
 {
-    if !sets::is_empty(live) {
-        return from;
-    }
-    if taken + from as u64 == 0 {
+    if !sets::is_empty(live) | (taken + from as u64 == 0) {
         return from;
     }
     let first = sets::below(table::row(words, FIRST_AT), positions);

@@ -1,17 +1,18 @@
 -- `stream::Stream::close` meets its contract: the number settles which way it goes, and the rules that need the end are written as one run.
-use borrow.Author.Needs.{needs}
 use mathlib.Core.Path.{_≡_, sym, ap, ap₂, _∙_}
 use mathlib.Core.Bool.{not, _&&_}
 use Prim.Native.Nat.{ℕ, _-_, _^_, _<_}
-use native.Mathlib.Omega.{arith}
 use denote.Ref.{now}
 use lib.Bits.{bitAnd}
+use lib.Dec.{lit≤}
+use lib.ListN.{length}
 use Rattle.sets.specs.Set.{on}
 use Rattle.table.specs.Layout.{rulesOf}
 use Rattle.table.specs.Automaton.{automaton}
 use Rattle.table.proofs.Test.{passes}
-use Rattle.stream.specs.Byte.{ends, endsAtEnd}
+use Rattle.stream.specs.Byte.{ends, endsAtEnd, runIds}
 use Rattle.stream.specs.Calls.{space, scanNumber}
+use Rattle.stream.proofs.Bounds.{rules-word, enough-left, enough-right}
 use Rattle.stream.proofs.Runs.{run-few}
 use Rattle.stream.proofs.Accepting.{accepted, close-number}
 use Rattle.stream.proofs.Answers.{closing-word, close-refused, close-refused-ids, close-refused-offsets, close-accepted, close-accepted-ids, close-accepted-offsets}
@@ -19,10 +20,10 @@ use Rattle.stream.proofs.Stream.close.Statement.{statement}
 use Rattle.stream.proofs.Stream.close.Tie as tie
 
 least-requires : tie.Need-least-requires
-least-requires c κs = search needs
+least-requires c κs = tt
 
 refusal-requires : tie.Need-refusal-requires
-refusal-requires c κs = search needs
+refusal-requires c κs = tt
 
 returns : tie.Need-returns
 returns c =
@@ -48,7 +49,7 @@ shared-slice-read-rules c =
     let c-if1 = c .before .before .if1 in
     let a = c-start .args in
     let ok = accepted (now (a .words)) (a .self) 0 (c-least .result) (sym (c-refusal .ensures) ∙ c-if1 .left) in
-    omega (arith, passes (now (a .words)) (ok .table) .long)
+    rules-word (length (now (a .words))) (passes (now (a .words)) (ok .table) .long)
 
 ending-requires : tie.Need-ending-requires
 ending-requires c κs =
@@ -59,7 +60,7 @@ ending-requires c κs =
     let a = c-start .args in
     let ok = accepted (now (a .words)) (a .self) 0 (c-least .result) (sym (c-refusal .ensures) ∙ c-if1 .left) in
     let p = passes (now (a .words)) (ok .table) in
-    (p .long, p .rules, omega arith)
+    (p .long, p .rules, lit≤ tt)
 
 ending-requires-2 : tie.Need-ending-requires-2
 ending-requires-2 c κs =
@@ -70,7 +71,7 @@ ending-requires-2 c κs =
     let a = c-start .args in
     let ok = accepted (now (a .words)) (a .self) 0 (c-least .result) (sym (c-refusal .ensures) ∙ c-if1 .left) in
     let p = passes (now (a .words)) (ok .table) in
-    (p .long, p .rules, omega arith)
+    (p .long, p .rules, lit≤ tt)
 
 singles-requires : tie.Need-singles-requires
 singles-requires c κs =
@@ -95,14 +96,19 @@ write-run-requires c κs =
     let a = c-start .args in
     let t = now (a .words) in
     let ok = accepted t (a .self) 0 (c-least .result) (sym (c-refusal .ensures) ∙ c-if1 .left) in
+    let n = length (runIds (automaton t) (on (bitAnd (c-ending .result) (2 ^ 64 - 1 - c-ending2 .result))) (a .self .reported) (rulesOf t)) in
     let few = run-few (automaton t) (on (bitAnd (c-ending .result) (2 ^ 64 - 1 - c-ending2 .result))) (a .self .reported) (rulesOf t) in
-    (ok .table, c-singles .ensures, omega (arith, few, ok .space, c-least .ensures), omega (arith, few, ok .space, c-least .ensures))
+    (ok .table, c-singles .ensures, enough-left n (rulesOf t) (c-least .result) (length (now (a .ids))) (length (now (a .offsets))) few (ok .space) (c-least .ensures), enough-right n (rulesOf t) (c-least .result) (length (now (a .ids))) (length (now (a .offsets))) few (ok .space) (c-least .ensures))
 
 same-length : tie.Need-same-length
-same-length c = search needs
+same-length c =
+    let c-ids = c .before .before .before .ids in
+    c-ids .given
 
 same-length-2 : tie.Need-same-length-2
-same-length-2 c = search needs
+same-length-2 c =
+    let c-offsets = c .before .offsets in
+    c-offsets .given
 
 returns-2 : tie.Need-returns-2
 returns-2 c =

@@ -1,12 +1,12 @@
 -- `stream::Stream::scan` meets its contract: the number settles which way it goes, and what the loop leaves is put back into the state.
-use borrow.Author.Needs.{needs}
-use mathlib.Core.Path.{sym, ap, _∙_}
-use native.Mathlib.Omega.{arith}
+use mathlib.Core.Path.{sym, ap, _∙_, subst}
+use Prim.Native.Nat.{ℕ, _≤_}
 use denote.Ref.{now}
 use lib.ListN.{length}
 use Rattle.table.specs.Automaton.{automaton}
 use Rattle.stream.specs.Calls.{space, scanNumber}
 use Rattle.stream.specs.Invariants.{stateOf}
+use Rattle.stream.proofs.Bounds.{sum-fits, short-fits}
 use Rattle.stream.proofs.Blocks.{fits-le}
 use Rattle.stream.proofs.Accepting.{accepted}
 use Rattle.stream.proofs.Answers.{scan-refused, scan-refused-ids, scan-refused-offsets, scan-accepted, scan-accepted-ids, scan-accepted-offsets}
@@ -14,10 +14,10 @@ use Rattle.stream.proofs.Stream.scan.Statement.{statement}
 use Rattle.stream.proofs.Stream.scan.Tie as tie
 
 least-requires : tie.Need-least-requires
-least-requires c κs = search needs
+least-requires c κs = tt
 
 refusal-requires : tie.Need-refusal-requires
-refusal-requires c κs = search needs
+refusal-requires c κs = tt
 
 returns : tie.Need-returns
 returns c =
@@ -43,7 +43,7 @@ run-requires c κs =
     let c-if1 = c .before .before .before .if1 in
     let a = c-start .args in
     let ok = accepted (now (a .words)) (a .self) (length (now (a .block))) (c-least .result) (sym (c-refusal .ensures) ∙ c-if1 .left) in
-    (ok .table, omega (arith, ok .short, ok .state .limit))
+    (ok .table, short-fits (a .self .taken) (length (now (a .block))) (ok .short))
 
 add-self : tie.Need-add-self
 add-self c =
@@ -55,15 +55,18 @@ add-self c =
     let a = c-start .args in
     let s = a .self in
     let ok = accepted (now (a .words)) s (length (now (a .block))) (c-least .result) (sym (c-refusal .ensures) ∙ c-if1 .left) in
-    let taken = c-run .ensures .taken-is in
     let few = fits-le (automaton (now (a .words))) (stateOf (s .live) (s .reported) (s .taken)) (now (a .block)) (space (now (a .ids)) (now (a .offsets))) (length (now (a .block))) in
-    omega (arith, ok .short, ok .state .limit, taken, few)
+    sum-fits (s .taken) (c-run .result .taken) (length (now (a .block))) (short-fits (s .taken) (length (now (a .block))) (ok .short)) (subst (λ (x : ℕ). x ≤ length (now (a .block))) (sym (c-run .ensures .taken-is)) few)
 
 same-length : tie.Need-same-length
-same-length c = search needs
+same-length c =
+    let c-ids = c .before .before .before .before .before .ids in
+    c-ids .given
 
 same-length-2 : tie.Need-same-length-2
-same-length-2 c = search needs
+same-length-2 c =
+    let c-offsets = c .before .before .before .offsets in
+    c-offsets .given
 
 returns-2 : tie.Need-returns-2
 returns-2 c =

@@ -1,9 +1,16 @@
 -- `stream::reports::deliver` meets its contract: each of its three ways has one law, and the run is written where the count of what is due fits.
 use mathlib.Core.Path.{sym, _∙_}
-use native.Mathlib.Omega.{arith}
+use native.Mathlib.Nat.{le-of-eq}
 use denote.Ref.{now}
+use lib.Dec.{lit≤}
+use lib.ListN.{length}
 use borrow.Author.Tests.{not-true}
+use Rattle.sets.specs.Set.{on}
+use Rattle.table.specs.Layout.{rulesOf}
+use Rattle.table.specs.Automaton.{automaton}
 use Rattle.table.proofs.Test.{passes}
+use Rattle.stream.specs.Byte.{runIds}
+use Rattle.stream.proofs.Bounds.{rules-word, enough-left, enough-right}
 use Rattle.stream.proofs.Turns.{delivered-none, found-due, delivered-full, delivered-run}
 use Rattle.stream.proofs.reports.deliver.Statement.{statement}
 use Rattle.stream.proofs.reports.deliver.Tie as tie
@@ -18,19 +25,19 @@ returns c =
     let c-if1 = c .if1 in
     let a = c-start .args in
     let t = now (a .words) in
-    delivered-none t (a .live) (a .reported) (a .end) (now (a .ids)) (now (a .offsets)) (passes t (c-start .pre .0) .rules) (omega arith)
+    delivered-none t (a .live) (a .reported) (a .end) (now (a .ids)) (now (a .offsets)) (passes t (c-start .pre .0) .rules) (c-start .fits .reported .fits)
     (a .last) (c-start .pre .1) (sym (c-meets .ensures) ∙ not-true (c-meets .result) (c-if1 .taken))
 
 shared-slice-read-ending : tie.Need-shared-slice-read-ending
 shared-slice-read-ending c =
     let c-start = c .before .before .before .before .before .before in
-    omega (arith, passes (now (c-start .args .words)) (c-start .pre .0) .long)
+    rules-word (length (now (c-start .args .words))) (passes (now (c-start .args .words)) (c-start .pre .0) .long)
 
 ending-requires : tie.Need-ending-requires
 ending-requires c κs =
     let c-start = c .before .before .before .before .before .before in
     let p = passes (now (c-start .args .words)) (c-start .pre .0) in
-    (p .long, p .rules, omega arith)
+    (p .long, p .rules, lit≤ tt)
 
 least-requires : tie.Need-least-requires
 least-requires c κs = tt
@@ -47,7 +54,7 @@ returns-2 c =
     let c-if2 = c .if2 in
     let a = c-start .args in
     let t = now (a .words) in
-    delivered-full t (a .live) (a .reported) (a .end) (now (a .ids)) (now (a .offsets)) (passes t (c-start .pre .0) .rules) (omega arith)
+    delivered-full t (a .live) (a .reported) (a .end) (now (a .ids)) (now (a .offsets)) (passes t (c-start .pre .0) .rules) (c-start .fits .reported .fits)
     (c-ending .result) (c-due .result) (c-least .result) (c-ending .ensures) (c-due .ensures) (c-least .ensures) (c-if2 .taken)
 
 write-run-requires : tie.Need-write-run-requires
@@ -59,15 +66,24 @@ write-run-requires c κs =
     let c-if2 = c .before .before .if2 in
     let a = c-start .args in
     let t = now (a .words) in
-    let n = found-due t (a .live) (a .reported) (a .end) (now (a .ids)) (now (a .offsets)) (passes t (c-start .pre .0) .rules) (omega arith)
+    let n = found-due t (a .live) (a .reported) (a .end) (now (a .ids)) (now (a .offsets)) (passes t (c-start .pre .0) .rules) (c-start .fits .reported .fits)
     (c-ending .result) (c-due .result) (c-least .result) (c-ending .ensures) (c-due .ensures) (c-least .ensures) in
-    (c-start .pre .0, c-start .pre .2, omega (arith, n, c-if2 .left, c-least .ensures), omega (arith, n, c-if2 .left, c-least .ensures))
+    let run = length (runIds (automaton t) (on (c-ending .result)) (a .reported) (rulesOf t)) in (
+      c-start .pre .0,
+      c-start .pre .2,
+      enough-left run (c-due .result) (c-least .result) (length (now (a .ids))) (length (now (a .offsets))) (le-of-eq (sym n)) (c-if2 .left) (c-least .ensures),
+      enough-right run (c-due .result) (c-least .result) (length (now (a .ids))) (length (now (a .offsets))) (le-of-eq (sym n)) (c-if2 .left) (c-least .ensures),
+    )
 
 same-length : tie.Need-same-length
-same-length c = omega arith
+same-length c =
+    let c-ids = c .before .before .before .ids in
+    c-ids .given
 
 same-length-2 : tie.Need-same-length-2
-same-length-2 c = omega arith
+same-length-2 c =
+    let c-offsets = c .before .offsets in
+    c-offsets .given
 
 returns-3 : tie.Need-returns-3
 returns-3 c =
@@ -80,7 +96,7 @@ returns-3 c =
     let a = c-start .args in
     let t = now (a .words) in
     let r = c-write-run .result in
-    delivered-run t (a .live) (a .reported) (a .end) (now (a .ids)) (now (a .offsets)) (passes t (c-start .pre .0) .rules) (omega arith)
+    delivered-run t (a .live) (a .reported) (a .end) (now (a .ids)) (now (a .offsets)) (passes t (c-start .pre .0) .rules) (c-start .fits .reported .fits)
     (c-ending .result) (c-due .result) (c-least .result) (c-ending .ensures) (c-due .ensures) (c-least .ensures) (c-if2 .left)
     (r .reports) (r .reported) (c-write-run .last .1 .1 .1 .1 .1 .0) (c-write-run .last .1 .1 .1 .1 .1 .1 .0) (c-write-run .ensures)
 

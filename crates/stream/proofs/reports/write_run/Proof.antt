@@ -10,7 +10,7 @@ use lib.ListN.{length, set}
 use Rattle.table.specs.Layout.{rulesOf}
 use Rattle.table.specs.Automaton.{automaton}
 use Rattle.table.proofs.Test.{Passes, passes}
-use Rattle.stream.proofs.Bounds.{rules-word, less-left, digits, place-digit, place-fits, record-fits, field-fits, field-bytes-fit, field-inside, next-place-fits, few-fit, few-ids-fit, few-offsets-fit}
+use Rattle.stream.proofs.Bounds.{rules-word, less-left, digits, place-digit, next-place-fits, few-fit, few-ids-fit, few-offsets-fit}
 use Rattle.stream.proofs.Runs.{Writing, writing-start, writing-room, writing-hit, writing-miss, writing-done, marks-words}
 use Rattle.stream.proofs.TableSets.{id-word}
 use Rattle.stream.proofs.reports.write_run.Statement.{statement}
@@ -24,13 +24,13 @@ abbrev μ-loop : tie.MeasureT-loop
 
 shared-slice-read-rules : tie.Need-shared-slice-read-rules Inv-loop μ-loop
 shared-slice-read-rules c =
-    let c-start = c .before in
+    let c-start = c .before .before .before .before in
     let t = now (c-start .args .words) in
     rules-word (length t) (passes t (c-start .pre .0) .long)
 
 loop-holds : tie.Need-loop-holds Inv-loop μ-loop
 loop-holds c =
-    let c-start = c .before in
+    let c-start = c .before .before .before .before in
     let a = c-start .args in
     (passes (now (a .words)) (c-start .pre .0), refl, writing-start (automaton (now (a .words))) (a .ending) (a .reported) (a .end) (now (a .ids)) (now (a .offsets)))
 
@@ -40,45 +40,21 @@ shr-if1 c =
     let c-loop-test = c .loop-test in
     place-digit (c-loop .a) (lt-of-lt-of-le (c-loop-test .taken) (c-loop .inv .0 .rules))
 
-mul-ids : tie.Need-mul-ids Inv-loop μ-loop
-mul-ids c =
+record-word-requires : tie.Need-record-word-requires Inv-loop μ-loop
+record-word-requires c κs =
     let c-loop = c .before .before .loop in
     let c-loop-test = c .before .loop-test in
-    place-fits (c-loop .a) (lt-of-lt-of-le (c-loop-test .taken) (c-loop .inv .0 .rules))
-
-add-ids : tie.Need-add-ids Inv-loop μ-loop
-add-ids c =
-    let c-loop = c .before .before .loop in
-    let c-loop-test = c .before .loop-test in
-    record-fits (c-loop .a) (lt-of-lt-of-le (c-loop-test .taken) (c-loop .inv .0 .rules))
-
-add-ids-2 : tie.Need-add-ids-2 Inv-loop μ-loop
-add-ids-2 c =
-    let c-loop = c .before .before .loop in
-    let c-loop-test = c .before .loop-test in
-    field-fits (c-loop .a) (lt-of-lt-of-le (c-loop-test .taken) (c-loop .inv .0 .rules)) 0 (lit< tt)
-
-mul-ids-2 : tie.Need-mul-ids-2 Inv-loop μ-loop
-mul-ids-2 c =
-    let c-loop = c .before .before .loop in
-    let c-loop-test = c .before .loop-test in
-    field-bytes-fit (c-loop .a) (lt-of-lt-of-le (c-loop-test .taken) (c-loop .inv .0 .rules)) 0 (lit< tt)
-
-shared-slice-read-ids : tie.Need-shared-slice-read-ids Inv-loop μ-loop
-shared-slice-read-ids c =
-    let c-loop = c .before .before .before .loop in
-    let c-loop-test = c .before .before .loop-test in
-    let c-start = c .before .before .before .before .before in
-    field-inside (c-loop .a) (lt-of-lt-of-le (c-loop-test .taken) (c-loop .inv .0 .rules)) 0 (length (now (c-start .args .words))) (lit< tt) (c-loop .inv .0 .long)
+    (c-loop .inv .0 .long, lt-of-lt-of-le (c-loop-test .taken) (c-loop .inv .0 .rules), lit< tt)
 
 cast-ids : tie.Need-cast-ids Inv-loop μ-loop
 cast-ids c =
+    let c-record-word = c .record-word in
     let c-loop = c .before .before .before .loop in
     let c-loop-test = c .before .before .loop-test in
-    record { fits = c-loop .inv .0 .small (c-loop .a) (c-loop-test .taken) }
+    record { fits = subst (λ (x : ℕ). x < 2 ^ 32) (sym (c-record-word .ensures)) (c-loop .inv .0 .small (c-loop .a) (c-loop-test .taken)) }
 
-mul-ids-3 : tie.Need-mul-ids-3 Inv-loop μ-loop
-mul-ids-3 c =
+mul-ids : tie.Need-mul-ids Inv-loop μ-loop
+mul-ids c =
     let c-loop = c .before .before .before .loop in
     let c-loop-test = c .before .before .loop-test in
     few-ids-fit (c-loop .a) (lt-of-lt-of-le (c-loop-test .taken) (c-loop .inv .0 .rules)) (c-loop .n) (c-loop .inv .2 .few)
@@ -86,7 +62,7 @@ mul-ids-3 c =
 slice-write-ids : tie.Need-slice-write-ids Inv-loop μ-loop
 unfolding automaton
 slice-write-ids c =
-    let c-start = c .before .before .before .before .before in
+    let c-start = c .before .before .before .before .before .before .before .before in
     let c-loop = c .before .before .before .loop in
     let c-loop-test = c .before .before .loop-test in
     let c-if1 = c .before .if1 in
@@ -105,7 +81,7 @@ mul-offsets c =
 slice-write-offsets : tie.Need-slice-write-offsets Inv-loop μ-loop
 unfolding automaton
 slice-write-offsets c =
-    let c-start = c .before .before .before .before .before in
+    let c-start = c .before .before .before .before .before .before .before .before in
     let c-loop = c .before .before .before .loop in
     let c-loop-test = c .before .before .loop-test in
     let c-if1 = c .before .if1 in
@@ -129,7 +105,7 @@ add-a c =
 
 loop-less : tie.Need-loop-less Inv-loop μ-loop
 loop-less c =
-    let c-start = c .before .before .before .before in
+    let c-start = c .before .before .before .before .before .before .before in
     let c-loop = c .before .before .loop in
     let c-loop-test = c .before .loop-test in
     less-left (rulesOf (now (c-start .args .words))) (c-loop .a) (c-loop .a) (le-refl (c-loop .a)) (c-loop-test .taken)
@@ -137,20 +113,19 @@ loop-less c =
 loop-again : tie.Need-loop-again Inv-loop μ-loop
 unfolding automaton
 loop-again c =
-    let c-start = c .before .before .before .before in
+    let c-start = c .before .before .before .before .before .before .before in
     let c-loop = c .before .before .loop in
     let c-loop-test = c .before .loop-test in
     let c-if1 = c .if1 in
     let a = c-start .args in
     let l = c-loop in
     let t = now (a .words) in
-    let room = writing-room (automaton t) (a .ending) (a .reported) (a .end) (now (a .ids)) (now (a .offsets)) (l .ids) (l .offsets) (l .n) (l .a) (l .inv .2) (c-loop-test .taken) (digits (rulesOf t) (l .inv .0 .rules)) (c-start .fits .reported .fits) (bitAnd (a .ending) (2 ^ 64 - 1 - a .reported)) refl in
-    (
+    let room = writing-room (automaton t) (a .ending) (a .reported) (a .end) (now (a .ids)) (now (a .offsets)) (l .ids) (l .offsets) (l .n) (l .a) (l .inv .2) (c-loop-test .taken) (digits (rulesOf t) (l .inv .0 .rules)) (c-start .fits .reported .fits) (bitAnd (a .ending) (2 ^ 64 - 1 - a .reported)) refl in (
       l .inv .0,
       l .inv .1,
       ⊎-elim
           (λ w. writing-hit (automaton t) (a .ending) (a .reported) (a .end) (now (a .ids)) (now (a .offsets)) (l .ids) (l .offsets) (l .n) (l .a) (l .inv .2) (c-loop-test .taken) (digits (rulesOf t) (l .inv .0 .rules)) (c-start .fits .reported .fits) (bitAnd (a .ending) (2 ^ 64 - 1 - a .reported)) refl (c-if1 .ids) (c-if1 .offsets) (c-if1 .n) (w .0 .taken) (room (length (now (a .ids))) (w .0 .taken) (c-start .pre .2)) (room (length (now (a .offsets))) (w .0 .taken) (c-start .pre .3))
-          (w .2 ∙ ap (set (l .ids) (l .n)) (id-word t (l .a) (lt-of-lt-of-le (c-loop-test .taken) (c-loop .inv .0 .rules)))) (w .3) (w .4))
+          (w .2 ∙ ap (set (l .ids) (l .n)) (w .1 .ensures ∙ id-word t (l .a) (lt-of-lt-of-le (c-loop-test .taken) (c-loop .inv .0 .rules)))) (w .3) (w .4))
           (λ w. writing-miss (automaton t) (a .ending) (a .reported) (a .end) (now (a .ids)) (now (a .offsets)) (l .ids) (l .offsets) (l .n) (l .a) (l .inv .2) (c-loop-test .taken) (digits (rulesOf t) (l .inv .0 .rules)) (c-start .fits .reported .fits) (bitAnd (a .ending) (2 ^ 64 - 1 - a .reported)) refl (c-if1 .ids) (c-if1 .offsets) (c-if1 .n) (w .0 .left) (w .1) (w .2) (w .3))
           (c-if1 .came),
     )
@@ -168,7 +143,7 @@ same-length-2 c =
 returns : tie.Need-returns Inv-loop μ-loop
 unfolding automaton
 returns c =
-    let c-start = c .before .before .before in
+    let c-start = c .before .before .before .before .before .before in
     let c-loop = c .before .loop in
     let c-loop-test = c .loop-test in
     let a = c-start .args in
@@ -187,13 +162,9 @@ write-run-spec =
     shared-slice-read-rules
     loop-holds
     shr-if1
-    mul-ids
-    add-ids
-    add-ids-2
-    mul-ids-2
-    shared-slice-read-ids
+    record-word-requires
     cast-ids
-    mul-ids-3
+    mul-ids
     slice-write-ids
     mul-offsets
     slice-write-offsets

@@ -1,20 +1,22 @@
 -- `stream::scan::ahead` meets its contract: a live set with a member is not passed over, nor is the first byte of the stream, and each turn passes one byte that
 -- starts nothing.
-use borrow.Author.Needs.{needs}
-use mathlib.Core.Path.{_≡_, sym, ap₂, _∙_}
-use mathlib.Core.Bool.{_&&_}
+use mathlib.Core.Path.{_≡_, refl, sym, ap₂, _∙_}
+use mathlib.Core.Bool.{Bool, true, false, not, _||_, _&&_, true≢false}
 use mathlib.Core.List.{List}
-use Prim.Native.Nat.{ℕ, _+_, _-_, _<_}
+use Prim.Native.Nat.{ℕ, _+_, _-_, _<_, _≤_}
+use native.Mathlib.Nat.{le-refl}
 use native.Mathlib.Omega.{arith}
 use denote.Ref.{now}
+use lib.Dec.{eqb}
 use lib.ListN.{length, getD}
-use borrow.Author.Tests.{not-false}
+use borrow.Author.Tests.{not-false, eqb-false}
 use Rattle.sets.specs.Set.{has, any, setOf, keptBelow, emptySet}
-use Rattle.sets.proofs.Laws.{words-owned, empty-is}
-use Rattle.table.specs.Layout.{maxPositions, firstAt, positionsOf, rowHas}
+use Rattle.sets.proofs.Laws.{empty-is}
+use Rattle.table.specs.Layout.{tableWords, maxPositions, firstAt, positionsOf, rowHas}
 use Rattle.table.specs.Automaton.{automaton}
 use Rattle.table.proofs.Rows.{row-there}
 use Rattle.stream.specs.Invariants.{Skipped}
+use Rattle.stream.proofs.Bounds.{words-good, less-left, sum-fits, after-fits}
 use Rattle.stream.proofs.Steps.{next-quiet}
 use Rattle.stream.proofs.Turns.{skipped-none, skipped-more, skipped-live}
 use Rattle.stream.proofs.scan.ahead.Statement.{statement}
@@ -26,23 +28,32 @@ Inv-loop taken words positions block from first at₀ at = (0 < taken + from) ×
 abbrev μ-loop : tie.MeasureT-loop
 μ-loop taken words positions block from first at₀ at = length block - at
 
+either : (x y : Bool) → (x || y) ≡ false → (x ≡ false) × (y ≡ false)
+either true y e = absurd (true≢false e)
+either false y e = (refl, e)
+
+positive : (n : ℕ) → eqb n 0 ≡ false → 0 < n
+positive n e = omega (arith, eqb-false n 0 e)
+
+positive-more : (a b n : ℕ) → 0 < a + b → b ≤ n → 0 < a + n
+positive-more a b n h l = omega arith
+
+first-inside : (n : ℕ) → tableWords ≤ n → firstAt + 4 ≤ n
+first-inside n h = omega arith
+
 is-empty-requires : tie.Need-is-empty-requires Inv-loop μ-loop
 is-empty-requires c κs = tt
+
+add-if1 : tie.Need-add-if1 Inv-loop μ-loop
+add-if1 c =
+    let c-start = c .before .before .before in
+    sum-fits (c-start .args .taken) (c-start .args .from) (length (now (c-start .args .block))) (c-start .pre .3) (c-start .pre .2)
 
 returns : tie.Need-returns Inv-loop μ-loop
 returns c =
     let c-start = c .before .before .before .before in
     let a = c-start .args in
-    skipped-none (automaton (now (a .words))) (now (a .block)) (a .taken) (a .from) (a .live) (omega arith)
-
-add-if2 : tie.Need-add-if2 Inv-loop μ-loop
-add-if2 c = omega arith
-
-returns-2 : tie.Need-returns-2 Inv-loop μ-loop
-returns-2 c =
-    let c-start = c .before .before .before .before .before in
-    let a = c-start .args in
-    skipped-none (automaton (now (a .words))) (now (a .block)) (a .taken) (a .from) (a .live) (omega arith)
+    skipped-none (automaton (now (a .words))) (now (a .block)) (a .taken) (a .from) (a .live) (c-start .pre .2)
 
 row-requires : tie.Need-row-requires Inv-loop μ-loop
 row-requires c κs = tt
@@ -52,68 +63,83 @@ below-requires c κs = tt
 
 loop-holds : tie.Need-loop-holds Inv-loop μ-loop
 loop-holds c =
-    let c-start = c .before .before .before .before .before .before .before in
+    let c-start = c .before .before .before .before .before .before in
+    let c-is-empty = c .before .before .before .is-empty in
+    let c-if1 = c .before .before .if1 in
     let c-below = c .below in
     let c-row = c .before .row in
     let a = c-start .args in (
-      omega arith,
-      c-below .ensures ∙ ap₂ keptBelow (c-row .ensures ∙ row-there (now (a .words)) firstAt (omega arith)) (c-start .pre .1),
-      skipped-none (automaton (now (a .words))) (now (a .block)) (a .taken) (a .from) emptySet (omega arith),
+      positive (a .taken + a .from) (either (not (c-is-empty .result)) (eqb (a .taken + a .from) 0) (c-if1 .left) .1),
+      c-below .ensures ∙ ap₂ keptBelow (c-row .ensures ∙ row-there (now (a .words)) firstAt (first-inside (length (now (a .words))) (c-start .pre .0))) (c-start .pre .1),
+      skipped-none (automaton (now (a .words))) (now (a .block)) (a .taken) (a .from) emptySet (c-start .pre .2),
     )
 
 shared-slice-read-takers : tie.Need-shared-slice-read-takers Inv-loop μ-loop
-shared-slice-read-takers c = omega arith
+shared-slice-read-takers c =
+    let c-loop-test = c .before .loop-test in
+    c-loop-test .taken
 
 takers-requires : tie.Need-takers-requires Inv-loop μ-loop
-takers-requires c κs = omega arith
+takers-requires c κs =
+    let c-start = c .before .before .before .before .before .before .before .before .before in
+    c-start .pre .0
 
 meets-requires : tie.Need-meets-requires Inv-loop μ-loop
 meets-requires c κs = tt
 
-returns-3 : tie.Need-returns-3 Inv-loop μ-loop
-returns-3 c =
-    let c-start = c .before .before .before .before .before .before .before .before .before .before .before .before .before in
+returns-2 : tie.Need-returns-2 Inv-loop μ-loop
+returns-2 c =
+    let c-start = c .before .before .before .before .before .before .before .before .before .before .before .before in
+    let c-is-empty = c .before .before .before .before .before .before .before .before .before .is-empty in
+    let c-if1 = c .before .before .before .before .before .before .before .before .if1 in
     let c-loop = c .before .before .before .before .before .loop in
-    let c-is-empty = c .before .before .before .before .before .before .before .before .before .before .is-empty in
-    let c-if1 = c .before .before .before .before .before .before .before .before .before .if1 in
     let a = c-start .args in
-    skipped-live (automaton (now (a .words))) (now (a .block)) (a .taken) (a .from) (c-loop .at) (a .live)
-    (empty-is (a .live) (words-owned (a .live) (search needs) (λ i. search needs)) (sym (c-is-empty .ensures) ∙ not-false (c-is-empty .result) (c-if1 .left))) (c-loop .inv .2)
+    let none = not-false (c-is-empty .result) (either (not (c-is-empty .result)) (eqb (a .taken + a .from) 0) (c-if1 .left) .0) in
+    skipped-live (automaton (now (a .words))) (now (a .block)) (a .taken) (a .from) (c-loop .at) (a .live) (empty-is (a .live) (words-good (a .live) _ (c-start .good .0)) (sym (c-is-empty .ensures) ∙ none)) (c-loop .inv .2)
 
 add-at : tie.Need-add-at Inv-loop μ-loop
-add-at c = omega arith
+add-at c =
+    let c-start = c .before .before .before .before .before .before .before .before .before .before .before .before in
+    let c-loop = c .before .before .before .before .before .loop in
+    let c-loop-test = c .before .before .before .before .loop-test in
+    after-fits (c-start .args .taken) (c-loop .at) (length (now (c-start .args .block))) (c-start .pre .3) (c-loop-test .taken)
 
 loop-less : tie.Need-loop-less Inv-loop μ-loop
-loop-less c = omega arith
+loop-less c =
+    let c-start = c .before .before .before .before .before .before .before .before .before .before .before .before in
+    let c-loop = c .before .before .before .before .before .loop in
+    let c-loop-test = c .before .before .before .before .loop-test in
+    less-left (length (now (c-start .args .block))) (c-loop .at) (c-loop .at) (le-refl (c-loop .at)) (c-loop-test .taken)
 
 loop-again : tie.Need-loop-again Inv-loop μ-loop
 loop-again c =
-    let c-start = c .before .before .before .before .before .before .before .before .before .before .before .before .before in
+    let c-start = c .before .before .before .before .before .before .before .before .before .before .before .before in
     let c-loop = c .before .before .before .before .before .loop in
-    let c-shared-slice-known3 = c .before .before .before .shared-slice-known3 in
     let c-meets = c .before .meets in
     let c-takers = c .before .before .takers in
-    let c-if3 = c .if3 in
+    let c-if2 = c .if2 in
+    let c-loop-test = c .before .before .before .before .loop-test in
+    let c-shared-slice-known3 = c .before .before .before .shared-slice-known3 in
     let a = c-start .args in
     let l = c-loop in
     let t = now (a .words) in
     let byte = getD (now (a .block)) (l .at) 0 in
-    let small : byte < 256 = omega (arith, c-shared-slice-known3 .given (l .at)) in
-    let apart = sym (c-meets .ensures ∙ ap₂ (λ (x y : List ℕ). any maxPositions (λ q. has x q && has y q)) (l .inv .1) (c-takers .ensures)) ∙ c-if3 .left in (
+    let apart = sym (c-meets .ensures ∙ ap₂ (λ (x y : List ℕ). any maxPositions (λ q. has x q && has y q)) (l .inv .1) (c-takers .ensures)) ∙ c-if2 .left in (
       l .inv .0,
       l .inv .1,
-      skipped-more (automaton t) (now (a .block)) (a .taken) (a .from) (l .at) (l .inv .2) (omega arith) (next-quiet t (a .taken + l .at) byte (omega arith) small apart),
+      skipped-more (automaton t) (now (a .block)) (a .taken) (a .from) (l .at) (l .inv .2) (c-loop-test .taken)
+          (next-quiet t (a .taken + l .at) byte (positive-more (a .taken) (a .from) (l .at) (l .inv .0) (l .inv .2 .rises)) (c-shared-slice-known3 .given (l .at) .fits) apart),
     )
 
-returns-4 : tie.Need-returns-4 Inv-loop μ-loop
-returns-4 c =
-    let c-start = c .before .before .before .before .before .before .before .before .before in
+returns-3 : tie.Need-returns-3 Inv-loop μ-loop
+returns-3 c =
+    let c-start = c .before .before .before .before .before .before .before .before in
+    let c-is-empty = c .before .before .before .before .before .is-empty in
+    let c-if1 = c .before .before .before .before .if1 in
     let c-loop = c .before .loop in
-    let c-is-empty = c .before .before .before .before .before .before .is-empty in
-    let c-if1 = c .before .before .before .before .before .if1 in
     let a = c-start .args in
-    skipped-live (automaton (now (a .words))) (now (a .block)) (a .taken) (a .from) (c-loop .at) (a .live)
-    (empty-is (a .live) (words-owned (a .live) (search needs) (λ i. search needs)) (sym (c-is-empty .ensures) ∙ not-false (c-is-empty .result) (c-if1 .left))) (c-loop .inv .2)
+    let none = not-false (c-is-empty .result) (either (not (c-is-empty .result)) (eqb (a .taken + a .from) 0) (c-if1 .left) .0) in
+    skipped-live (automaton (now (a .words))) (now (a .block)) (a .taken) (a .from) (c-loop .at) (a .live) (empty-is (a .live) (words-good (a .live) _ (c-start .good .0)) (sym (c-is-empty .ensures) ∙ none)) (c-loop .inv .2)
 
 pub ahead-spec : {M : Type 1} → statement M
 ahead-spec =
@@ -122,17 +148,16 @@ ahead-spec =
     Inv-loop
     μ-loop
     is-empty-requires
+    add-if1
     returns
-    add-if2
-    returns-2
     row-requires
     below-requires
     loop-holds
     shared-slice-read-takers
     takers-requires
     meets-requires
-    returns-3
+    returns-2
     add-at
     loop-less
     loop-again
-    returns-4)
+    returns-3)
