@@ -91,7 +91,8 @@ pub(super) fn deliver(
             reported,
         };
     }
-    let found = ending(live, words, words[RULES_AT] as usize, LAST);
+    let rules = words[RULES_AT] as usize;
+    let found = ending(live, words, rules, LAST);
     if least(ids.len(), offsets.len()) < due(found, reported) {
         return Delivery {
             full: true,

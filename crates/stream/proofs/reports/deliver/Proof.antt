@@ -28,8 +28,8 @@ returns c =
     delivered-none t (a .live) (a .reported) (a .end) (now (a .ids)) (now (a .offsets)) (passes t (c-start .pre .0) .rules) (c-start .fits .reported .fits)
     (a .last) (c-start .pre .1) (sym (c-meets .ensures) ∙ not-true (c-meets .result) (c-if1 .taken))
 
-shared-slice-read-ending : tie.Need-shared-slice-read-ending
-shared-slice-read-ending c =
+shared-slice-read-rules : tie.Need-shared-slice-read-rules
+shared-slice-read-rules c =
     let c-start = c .before .before .before .before .before .before in
     rules-word (length (now (c-start .args .words))) (passes (now (c-start .args .words)) (c-start .pre .0) .long)
 
@@ -106,7 +106,7 @@ deliver-spec =
     (tie.spec
     meets-requires
     returns
-    shared-slice-read-ending
+    shared-slice-read-rules
     ending-requires
     least-requires
     due-requires
