@@ -17,19 +17,17 @@ pub(super) struct Walked {
 }
 
 // Joins what follows the positions of one live word, whose digit k is position base + k.
-fn walk_word(word: u64, base: usize, from: [u64; 4], words: &[u64]) -> Walked
+fn walk_word(mut word: u64, base: usize, mut set: [u64; 4], words: &[u64]) -> Walked
     requires { ⌜ (tableWords ≤ length (now words)) × (base ≤ 192) ⌝ }
-    ensures { λ r. ⌜ (r .turns ≡ ones word) × (r .set ≡ joined (now (words .entry)) word base from (ones word)) ⌝ }
+    ensures { λ r. ⌜ (r .turns ≡ ones word) × (r .set ≡ joined (now (words .entry)) word base set (ones word)) ⌝ }
 {
-    let mut set = from;
-    let mut left = word;
     let mut turns: u32 = 0;
-    while left != 0 {
-        let p = base + u64::trailing_zeros(left) as usize;
+    while word != 0 {
+        let p = base + u64::trailing_zeros(word) as usize;
         let after = table::row(words, FOLLOW_AT + p * SET_WORDS);
         let more = sets::union(set, after);
         set = more;
-        left = left & (left - 1);
+        word = word & (word - 1);
         turns += 1;
     }
     Walked { set, turns }
