@@ -2,6 +2,7 @@
 use mathlib.Core.Path.{_≡_, sym, ap, ap₂, _∙_}
 use mathlib.Core.Bool.{not, _&&_}
 use Prim.Native.Nat.{ℕ, _-_, _^_, _<_}
+use native.Mathlib.Omega.{arith}
 use denote.Ref.{now}
 use lib.Bits.{bitAnd}
 use lib.Dec.{lit≤}
@@ -71,7 +72,7 @@ ending-requires-2 c κs =
     let a = c-start .args in
     let ok = accepted (now (a .words)) (a .self) 0 (c-least .result) (sym (c-refusal .ensures) ∙ c-if1 .left) in
     let p = passes (now (a .words)) (ok .table) in
-    (p .long, p .rules, lit≤ tt)
+    (p .long, omega (arith, p .rules), lit≤ tt)
 
 singles-requires : tie.Need-singles-requires
 singles-requires c κs =

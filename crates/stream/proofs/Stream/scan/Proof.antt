@@ -45,6 +45,26 @@ run-requires c κs =
     let ok = accepted (now (a .words)) (a .self) (length (now (a .block))) (c-least .result) (sym (c-refusal .ensures) ∙ c-if1 .left) in
     (ok .table, short-fits (a .self .taken) (length (now (a .block))) (ok .short))
 
+returns-2 : tie.Need-returns-2
+returns-2 c =
+    let c-start = c .before .before .before .before .before .before .before .before .before .before .before .before .before .before .before .before .before in
+    let c-refusal = c .before .before .before .before .before .before .before .before .before .before .before .refusal in
+    let c-least = c .before .before .before .before .before .before .before .before .before .before .before .before .least in
+    let c-run = c .before .before .before .before .before .before .run in
+    let c-if1 = c .before .before .before .before .before .before .before .before .before .before .if1 in
+    let a = c-start .args in
+    let t = now (a .words) in
+    let number = c-refusal .ensures ∙ ap (scanNumber t (a .self) (length (now (a .block)))) (c-least .ensures) in
+    let r = c-run .result in
+    let ilast = c-run .last .1 .1 .1 .1 .1 .0 in
+    let olast = c-run .last .1 .1 .1 .1 .1 .1 .0 in (
+      scan-accepted t (a .self) (now (a .block)) (now (a .ids)) (now (a .offsets)) (c-refusal .result) number (c-if1 .left) (r .live) (r .reported) (r .taken) (r .reports) ilast olast (c-run .ensures),
+      (
+        scan-accepted-ids t (a .self) (now (a .block)) (now (a .ids)) (now (a .offsets)) (c-refusal .result) number (c-if1 .left) (r .live) (r .reported) (r .taken) (r .reports) ilast olast (c-run .ensures),
+        scan-accepted-offsets t (a .self) (now (a .block)) (now (a .ids)) (now (a .offsets)) (c-refusal .result) number (c-if1 .left) (r .live) (r .reported) (r .taken) (r .reports) ilast olast (c-run .ensures),
+      ),
+    )
+
 add-self : tie.Need-add-self
 add-self c =
     let c-start = c .before .before .before .before .before .before .before .before .before .before .before .before .before .before .before .before .before in
@@ -67,26 +87,6 @@ same-length-2 : tie.Need-same-length-2
 same-length-2 c =
     let c-offsets = c .before .before .before .offsets in
     c-offsets .given
-
-returns-2 : tie.Need-returns-2
-returns-2 c =
-    let c-start = c .before .before .before .before .before .before .before .before .before .before .before .before .before .before .before .before .before in
-    let c-refusal = c .before .before .before .before .before .before .before .before .before .before .before .refusal in
-    let c-least = c .before .before .before .before .before .before .before .before .before .before .before .before .least in
-    let c-run = c .before .before .before .before .before .before .run in
-    let c-if1 = c .before .before .before .before .before .before .before .before .before .before .if1 in
-    let a = c-start .args in
-    let t = now (a .words) in
-    let number = c-refusal .ensures ∙ ap (scanNumber t (a .self) (length (now (a .block)))) (c-least .ensures) in
-    let r = c-run .result in
-    let ilast = c-run .last .1 .1 .1 .1 .1 .0 in
-    let olast = c-run .last .1 .1 .1 .1 .1 .1 .0 in (
-      scan-accepted t (a .self) (now (a .block)) (now (a .ids)) (now (a .offsets)) (c-refusal .result) number (c-if1 .left) (r .live) (r .reported) (r .taken) (r .reports) ilast olast (c-run .ensures),
-      (
-        scan-accepted-ids t (a .self) (now (a .block)) (now (a .ids)) (now (a .offsets)) (c-refusal .result) number (c-if1 .left) (r .live) (r .reported) (r .taken) (r .reports) ilast olast (c-run .ensures),
-        scan-accepted-offsets t (a .self) (now (a .block)) (now (a .ids)) (now (a .offsets)) (c-refusal .result) number (c-if1 .left) (r .live) (r .reported) (r .taken) (r .reports) ilast olast (c-run .ensures),
-      ),
-    )
 
 pub scan-spec : {M : Type 1} → statement M
 scan-spec =

@@ -1,6 +1,7 @@
 -- `stream::reports::deliver` meets its contract: each of its three ways has one law, and the run is written where the count of what is due fits.
 use mathlib.Core.Path.{sym, _∙_}
 use native.Mathlib.Nat.{le-of-eq}
+use native.Mathlib.Omega.{arith}
 use denote.Ref.{now}
 use lib.Dec.{lit≤}
 use lib.ListN.{length}
@@ -37,7 +38,7 @@ ending-requires : tie.Need-ending-requires
 ending-requires c κs =
     let c-start = c .before .before .before .before .before .before in
     let p = passes (now (c-start .args .words)) (c-start .pre .0) in
-    (p .long, p .rules, lit≤ tt)
+    (p .long, omega (arith, p .rules), lit≤ tt)
 
 least-requires : tie.Need-least-requires
 least-requires c κs = tt

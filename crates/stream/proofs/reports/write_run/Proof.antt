@@ -34,6 +34,26 @@ loop-holds c =
     let a = c-start .args in
     (passes (now (a .words)) (c-start .pre .0), refl, writing-start (automaton (now (a .words))) (a .ending) (a .reported) (a .end) (now (a .ids)) (now (a .offsets)))
 
+loop-again : tie.Need-loop-again Inv-loop μ-loop
+unfolding automaton
+loop-again c =
+    let c-start = c .before .before .before .before .before .before .before in
+    let c-loop = c .before .before .loop in
+    let c-loop-test = c .before .loop-test in
+    let c-if1 = c .if1 in
+    let a = c-start .args in
+    let l = c-loop in
+    let t = now (a .words) in
+    let room = writing-room (automaton t) (a .ending) (a .reported) (a .end) (now (a .ids)) (now (a .offsets)) (l .ids) (l .offsets) (l .n) (l .a) (l .inv .2) (c-loop-test .taken) (digits (rulesOf t) (l .inv .0 .rules)) (c-start .fits .reported .fits) (bitAnd (a .ending) (2 ^ 64 - 1 - a .reported)) refl in (
+      l .inv .0,
+      l .inv .1,
+      ⊎-elim
+          (λ w. writing-hit (automaton t) (a .ending) (a .reported) (a .end) (now (a .ids)) (now (a .offsets)) (l .ids) (l .offsets) (l .n) (l .a) (l .inv .2) (c-loop-test .taken) (digits (rulesOf t) (l .inv .0 .rules)) (c-start .fits .reported .fits) (bitAnd (a .ending) (2 ^ 64 - 1 - a .reported)) refl (c-if1 .ids) (c-if1 .offsets) (c-if1 .n) (w .0 .taken) (room (length (now (a .ids))) (w .0 .taken) (c-start .pre .2)) (room (length (now (a .offsets))) (w .0 .taken) (c-start .pre .3))
+          (w .2 ∙ ap (set (l .ids) (l .n)) (w .1 .ensures ∙ id-word t (l .a) (lt-of-lt-of-le (c-loop-test .taken) (c-loop .inv .0 .rules)))) (w .3) (w .4))
+          (λ w. writing-miss (automaton t) (a .ending) (a .reported) (a .end) (now (a .ids)) (now (a .offsets)) (l .ids) (l .offsets) (l .n) (l .a) (l .inv .2) (c-loop-test .taken) (digits (rulesOf t) (l .inv .0 .rules)) (c-start .fits .reported .fits) (bitAnd (a .ending) (2 ^ 64 - 1 - a .reported)) refl (c-if1 .ids) (c-if1 .offsets) (c-if1 .n) (w .0 .left) (w .1) (w .2) (w .3))
+          (c-if1 .came),
+    )
+
 shr-if1 : tie.Need-shr-if1 Inv-loop μ-loop
 shr-if1 c =
     let c-loop = c .before .loop in
@@ -109,26 +129,6 @@ loop-less c =
     let c-loop = c .before .before .loop in
     let c-loop-test = c .before .loop-test in
     less-left (rulesOf (now (c-start .args .words))) (c-loop .a) (c-loop .a) (le-refl (c-loop .a)) (c-loop-test .taken)
-
-loop-again : tie.Need-loop-again Inv-loop μ-loop
-unfolding automaton
-loop-again c =
-    let c-start = c .before .before .before .before .before .before .before in
-    let c-loop = c .before .before .loop in
-    let c-loop-test = c .before .loop-test in
-    let c-if1 = c .if1 in
-    let a = c-start .args in
-    let l = c-loop in
-    let t = now (a .words) in
-    let room = writing-room (automaton t) (a .ending) (a .reported) (a .end) (now (a .ids)) (now (a .offsets)) (l .ids) (l .offsets) (l .n) (l .a) (l .inv .2) (c-loop-test .taken) (digits (rulesOf t) (l .inv .0 .rules)) (c-start .fits .reported .fits) (bitAnd (a .ending) (2 ^ 64 - 1 - a .reported)) refl in (
-      l .inv .0,
-      l .inv .1,
-      ⊎-elim
-          (λ w. writing-hit (automaton t) (a .ending) (a .reported) (a .end) (now (a .ids)) (now (a .offsets)) (l .ids) (l .offsets) (l .n) (l .a) (l .inv .2) (c-loop-test .taken) (digits (rulesOf t) (l .inv .0 .rules)) (c-start .fits .reported .fits) (bitAnd (a .ending) (2 ^ 64 - 1 - a .reported)) refl (c-if1 .ids) (c-if1 .offsets) (c-if1 .n) (w .0 .taken) (room (length (now (a .ids))) (w .0 .taken) (c-start .pre .2)) (room (length (now (a .offsets))) (w .0 .taken) (c-start .pre .3))
-          (w .2 ∙ ap (set (l .ids) (l .n)) (w .1 .ensures ∙ id-word t (l .a) (lt-of-lt-of-le (c-loop-test .taken) (c-loop .inv .0 .rules)))) (w .3) (w .4))
-          (λ w. writing-miss (automaton t) (a .ending) (a .reported) (a .end) (now (a .ids)) (now (a .offsets)) (l .ids) (l .offsets) (l .n) (l .a) (l .inv .2) (c-loop-test .taken) (digits (rulesOf t) (l .inv .0 .rules)) (c-start .fits .reported .fits) (bitAnd (a .ending) (2 ^ 64 - 1 - a .reported)) refl (c-if1 .ids) (c-if1 .offsets) (c-if1 .n) (w .0 .left) (w .1) (w .2) (w .3))
-          (c-if1 .came),
-    )
 
 same-length : tie.Need-same-length Inv-loop μ-loop
 same-length c =

@@ -50,6 +50,18 @@ loop-holds c =
     let a = c-start .args in
     running-start (automaton (now (a .words))) (stateOf (a .live) (a .reported) (a .taken)) (now (a .block)) (now (a .ids)) (now (a .offsets)) (c-start .fits .reported .fits)
 
+returns : tie.Need-returns Inv-loop μ-loop
+returns c =
+    let c-start = c .before .before .before .before .before .before .before .before .before .before .before in
+    let c-loop = c .before .before .loop in
+    let c-ahead = c .before .ahead in
+    let c-if1 = c .if1 in
+    let a = c-start .args in
+    let l = c-loop in
+    let t = now (a .words) in
+    let s = stateOf (a .live) (a .reported) (a .taken) in
+    running-done (automaton t) s (now (a .block)) (now (a .ids)) (now (a .offsets)) (l .live) (l .reported) (l .ids) (l .offsets) (l .count) (c-ahead .result) (running-skip (automaton t) s (now (a .block)) (now (a .ids)) (now (a .offsets)) (l .live) (l .reported) (l .ids) (l .offsets) (l .count) (l .at) (c-ahead .result) (l .inv) (c-ahead .ensures)) (λ b. not-both (c-ahead .result) (length (now (a .block))) b (le-of-eq (sym (c-if1 .taken))))
+
 ahead-requires : tie.Need-ahead-requires Inv-loop μ-loop
 ahead-requires c κs =
     let c-start = c .before .before .before .before .before .before .before .before .before in
@@ -218,18 +230,6 @@ same-length-2 : tie.Need-same-length-2 Inv-loop μ-loop
 same-length-2 c =
     let c-loop = c .before .before .loop in
     c-loop .inv .offsets-long
-
-returns : tie.Need-returns Inv-loop μ-loop
-returns c =
-    let c-start = c .before .before .before .before .before .before .before .before .before .before .before in
-    let c-loop = c .before .before .loop in
-    let c-ahead = c .before .ahead in
-    let c-if1 = c .if1 in
-    let a = c-start .args in
-    let l = c-loop in
-    let t = now (a .words) in
-    let s = stateOf (a .live) (a .reported) (a .taken) in
-    running-done (automaton t) s (now (a .block)) (now (a .ids)) (now (a .offsets)) (l .live) (l .reported) (l .ids) (l .offsets) (l .count) (c-ahead .result) (running-skip (automaton t) s (now (a .block)) (now (a .ids)) (now (a .offsets)) (l .live) (l .reported) (l .ids) (l .offsets) (l .count) (l .at) (c-ahead .result) (l .inv) (c-ahead .ensures)) (λ b. not-both (c-ahead .result) (length (now (a .block))) b (le-of-eq (sym (c-if1 .taken))))
 
 same-length-3 : tie.Need-same-length-3 Inv-loop μ-loop
 same-length-3 c =

@@ -72,6 +72,23 @@ positive n h = omega arith
 turns-fit : (n m : ℕ) → n ≤ m → m ≤ 64 → Fits w32 (n + 1)
 turns-fit n m h l = record { fits = omega arith }
 
+loop-again : tie.Need-loop-again Inv-loop μ-loop
+loop-again c =
+    let c-start = c .before .before .before .before .before in
+    let c-loop = c .before .before .before .loop in
+    let c-loop-test = c .before .before .loop-test in
+    let c-union = c .union in
+    let c-row = c .before .row in
+    let a = c-start .args in
+    let l = c-loop in
+    let w = now (a .words) in
+    let t = turn (c-start .args .word) (c-loop .turns) (c-loop .word) (c-start .fits .word .fits) (c-loop .inv .0) (c-loop .inv .1) (c-loop-test .taken) in (
+      up (l .turns) (ones (a .word)) (t .0),
+      left-turn (a .word) (l .turns) (l .word) (l .inv .1),
+      c-union .ensures ∙ ap (unionOf (l .set)) (c-row .ensures ∙ row-there w (followAt (a .base + trailingZeros 64 (l .word))) (row-inside (a .base) (trailingZeros 64 (l .word)) (c-start .pre .1) (t .1) (length w) (c-start .pre .0)))
+          ∙ joined-turn w (a .set) (l .set) (a .word) (a .base) (l .turns) (l .word) (l .inv .1) (l .inv .2),
+    )
+
 cast-p : tie.Need-cast-p Inv-loop μ-loop
 cast-p c =
     let c-loop = c .before .loop in
@@ -124,23 +141,6 @@ loop-less c =
     let c-loop = c .before .before .before .loop in
     let c-loop-test = c .before .before .loop-test in
     less-left (ones (c-start .args .word)) (c-loop .turns) (c-loop .turns) (le-refl (c-loop .turns)) (turn (c-start .args .word) (c-loop .turns) (c-loop .word) (c-start .fits .word .fits) (c-loop .inv .0) (c-loop .inv .1) (c-loop-test .taken) .0)
-
-loop-again : tie.Need-loop-again Inv-loop μ-loop
-loop-again c =
-    let c-start = c .before .before .before .before .before in
-    let c-loop = c .before .before .before .loop in
-    let c-loop-test = c .before .before .loop-test in
-    let c-union = c .union in
-    let c-row = c .before .row in
-    let a = c-start .args in
-    let l = c-loop in
-    let w = now (a .words) in
-    let t = turn (c-start .args .word) (c-loop .turns) (c-loop .word) (c-start .fits .word .fits) (c-loop .inv .0) (c-loop .inv .1) (c-loop-test .taken) in (
-      up (l .turns) (ones (a .word)) (t .0),
-      left-turn (a .word) (l .turns) (l .word) (l .inv .1),
-      c-union .ensures ∙ ap (unionOf (l .set)) (c-row .ensures ∙ row-there w (followAt (a .base + trailingZeros 64 (l .word))) (row-inside (a .base) (trailingZeros 64 (l .word)) (c-start .pre .1) (t .1) (length w) (c-start .pre .0)))
-          ∙ joined-turn w (a .set) (l .set) (a .word) (a .base) (l .turns) (l .word) (l .inv .1) (l .inv .2),
-    )
 
 returns : tie.Need-returns Inv-loop μ-loop
 returns c =
