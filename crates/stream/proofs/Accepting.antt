@@ -144,6 +144,14 @@ accepted t s len room e =
     go true a false b c d f g h i z = absurd (omega arith)
     go false a b c d f g h i j z = absurd (omega arith)
 
+-- a call's number, as it was computed
+module _ (t : List ℕ) (s : Stream) (len room number : ℕ) (is : number ≡ scanNumber t s len room) where
+  pub taken-up : number ≡ 0 → Accepted t s len room
+  taken-up e = accepted t s len room (sym is ∙ e)
+
+  pub numbered : (space : ℕ) → room ≡ space → number ≡ scanNumber t s len space
+  numbered space e = is ∙ ap (scanNumber t s len) e
+
 -- a closing is numbered as a scan of no bytes
 pub close-number : (t : List ℕ) (s : Stream) (room : ℕ) → scanNumber t s 0 room ≡ closeNumber t s room
 unfolding scanNumber closeNumber
@@ -157,3 +165,6 @@ close-number t s room =
         ap (λ (c : Bool). cond (s .closed) 19 (cond c 21 (spaceNumber t room)))
         (le-ltb streamLimit (s .taken + 0) (omega (arith, fitting (automaton t) s e .limit)))
     go false e = refl
+
+pub close-numbered : (t : List ℕ) (s : Stream) (room space number : ℕ) → number ≡ scanNumber t s 0 room → room ≡ space → number ≡ closeNumber t s space
+close-numbered t s room space number is e = numbered t s 0 room number is space e ∙ close-number t s space

@@ -1,5 +1,6 @@
--- The scanning loop. `Running` says what holds once `at` bytes are taken: live set, marks and lists are those of the definitions. Each way through a turn has
--- one law: a byte whose run is written, a byte with which no rule ends, bytes passed over; and where the loop leaves, `at` is what `fits` says.
+-- The scanning loop. A byte's run is delivered in one of three ways, each with its law: no rule ends, the reports do not fit, they are written. `Running` says
+-- what holds once `at` bytes are taken: live set, marks and lists are those of the definitions. A byte that is taken and bytes passed over keep it; where the
+-- loop leaves, `at` is what `fits` says.
 use mathlib.Core.Path.{_≡_, refl, sym, ap, ap₂, _∙_, subst}
 use mathlib.Core.Bool.{Bool, true, false, not, _&&_}
 use mathlib.Core.List.{List, [], _++_, append-nil, append-assoc}
@@ -15,7 +16,7 @@ use borrow.Author.Tests.{lt-ltb, le-ltb, ltb-true, ltb-false}
 use Rattle.sets.specs.Set.{on, has, any, count, emptySet}
 use Rattle.sets.proofs.Laws.{has-setOf, has-empty, any-none, any-ext, any-never}
 use Rattle.table.specs.Layout.{maxRules, maxPositions, rulesOf, lastAt, lastAtEndAt, rowHas}
-use Rattle.table.specs.Automaton.{Automaton, automaton, single}
+use Rattle.table.specs.Automaton.{Automaton, automaton}
 use Rattle.stream.specs.declared.Stream.{Stream}
 use Rattle.stream.specs.Byte.{nextLive, ends, endsAtEnd, runIds, runMarks, byteIds, byteState, stateAfter, idsOf, endsOf}
 use Rattle.stream.specs.Calls.{space, written}
@@ -24,7 +25,7 @@ use Rattle.stream.proofs.Members.{placesBelow, on-places}
 use Rattle.stream.proofs.TableSets.{meeting, lastsBelow}
 use Rattle.stream.proofs.Runs.{run-ext, run-none, marks-none, marks-small, due-count, wrote-ext, wrote-none}
 use Rattle.stream.proofs.Steps.{next-parts}
-use Rattle.stream.proofs.Blocks.{state-more, ids-more, ends-more, taken-after, ends-count, fits-is}
+use Rattle.stream.proofs.Blocks.{state-more, ids-more, ends-more, taken-after, ends-count, fits-le, fits-is}
 
 -- ---- the rules that end, as a word
 
@@ -359,3 +360,8 @@ module _ (w : Automaton) (s : Stream) (block ids₀ offsets₀ : List ℕ) where
           ids-are = h .ids-are ∙ ap (λ (n : ℕ). idsOf w s block at ++ drop n ids₀) (h .count-is);
           offsets-are = h .offsets-are ∙ ap (λ (n : ℕ). endsOf w s block at ++ drop n offsets₀) (h .count-is ∙ sym (ends-count w s block at));
         }
+
+-- no more bytes are taken than there are
+pub ran-inside : (w : Automaton) (s : Stream) (block ids offsets live : List ℕ) (reported taken reports : ℕ) (ids′ offsets′ : List ℕ)
+    → Ran w s block ids offsets live reported taken reports ids′ offsets′ → taken ≤ length block
+ran-inside w s block ids offsets live reported taken reports ids′ offsets′ h = omega (arith, h .taken-is, fits-le w s block (space ids offsets) (length block))

@@ -1,4 +1,4 @@
-// Reads of a table's words: the union of the rules' last sets, and rules as a word with a digit for each place.
+// Reads of a table's words: a word of a rule's record, the union of the rules' last sets, and rules as a word with a digit for each place.
 use table::layout::FLAGS;
 use table::layout::LAST;
 use table::layout::RECORD_WORDS;

@@ -1,5 +1,5 @@
 -- `stream::Stream::close` meets its contract: the number settles which way it goes, and the rules that need the end are written as one run.
-use mathlib.Core.Path.{_≡_, sym, ap, ap₂, _∙_}
+use mathlib.Core.Path.{_≡_, ap₂, _∙_}
 use mathlib.Core.Bool.{not, _&&_}
 use Prim.Native.Nat.{ℕ, _-_, _^_, _<_}
 use native.Mathlib.Omega.{arith}
@@ -12,10 +12,10 @@ use Rattle.table.specs.Layout.{rulesOf}
 use Rattle.table.specs.Automaton.{automaton}
 use Rattle.table.proofs.Test.{passes}
 use Rattle.stream.specs.Byte.{ends, endsAtEnd, runIds}
-use Rattle.stream.specs.Calls.{space, scanNumber}
+use Rattle.stream.specs.Calls.{space}
 use Rattle.stream.proofs.Bounds.{rules-word, enough-left, enough-right}
 use Rattle.stream.proofs.Runs.{run-few}
-use Rattle.stream.proofs.Accepting.{accepted, close-number}
+use Rattle.stream.proofs.Accepting.{taken-up, close-numbered}
 use Rattle.stream.proofs.Answers.{closing-word, close-refused, close-refused-ids, close-refused-offsets, close-accepted, close-accepted-ids, close-accepted-offsets}
 use Rattle.stream.proofs.Stream.close.Statement.{statement}
 use Rattle.stream.proofs.Stream.close.Tie as tie
@@ -34,7 +34,7 @@ returns c =
     let c-if1 = c .if1 in
     let a = c-start .args in
     let t = now (a .words) in
-    let number = c-refusal .ensures ∙ ap (scanNumber t (a .self) 0) (c-least .ensures) ∙ close-number t (a .self) (space (now (a .ids)) (now (a .offsets))) in (
+    let number = close-numbered t (a .self) (c-least .result) (space (now (a .ids)) (now (a .offsets))) (c-refusal .result) (c-refusal .ensures) (c-least .ensures) in (
       close-refused t (a .self) (now (a .ids)) (now (a .offsets)) (c-refusal .result) number (c-if1 .taken),
       (
         close-refused-ids t (a .self) (now (a .ids)) (now (a .offsets)) (c-refusal .result) number (c-if1 .taken),
@@ -49,7 +49,7 @@ shared-slice-read-rules c =
     let c-refusal = c .before .before .before .refusal in
     let c-if1 = c .before .before .if1 in
     let a = c-start .args in
-    let ok = accepted (now (a .words)) (a .self) 0 (c-least .result) (sym (c-refusal .ensures) ∙ c-if1 .left) in
+    let ok = taken-up (now (a .words)) (a .self) 0 (c-least .result) (c-refusal .result) (c-refusal .ensures) (c-if1 .left) in
     rules-word (length (now (a .words))) (passes (now (a .words)) (ok .table) .long)
 
 ending-requires : tie.Need-ending-requires
@@ -59,7 +59,7 @@ ending-requires c κs =
     let c-refusal = c .before .before .before .refusal in
     let c-if1 = c .before .before .if1 in
     let a = c-start .args in
-    let ok = accepted (now (a .words)) (a .self) 0 (c-least .result) (sym (c-refusal .ensures) ∙ c-if1 .left) in
+    let ok = taken-up (now (a .words)) (a .self) 0 (c-least .result) (c-refusal .result) (c-refusal .ensures) (c-if1 .left) in
     let p = passes (now (a .words)) (ok .table) in
     (p .long, p .rules, lit≤ tt)
 
@@ -70,7 +70,7 @@ ending-requires-2 c κs =
     let c-refusal = c .before .before .before .before .refusal in
     let c-if1 = c .before .before .before .if1 in
     let a = c-start .args in
-    let ok = accepted (now (a .words)) (a .self) 0 (c-least .result) (sym (c-refusal .ensures) ∙ c-if1 .left) in
+    let ok = taken-up (now (a .words)) (a .self) 0 (c-least .result) (c-refusal .result) (c-refusal .ensures) (c-if1 .left) in
     let p = passes (now (a .words)) (ok .table) in
     (p .long, omega (arith, p .rules), lit≤ tt)
 
@@ -81,7 +81,7 @@ singles-requires c κs =
     let c-refusal = c .before .before .before .before .before .refusal in
     let c-if1 = c .before .before .before .before .if1 in
     let a = c-start .args in
-    let ok = accepted (now (a .words)) (a .self) 0 (c-least .result) (sym (c-refusal .ensures) ∙ c-if1 .left) in
+    let ok = taken-up (now (a .words)) (a .self) 0 (c-least .result) (c-refusal .result) (c-refusal .ensures) (c-if1 .left) in
     let p = passes (now (a .words)) (ok .table) in
     (p .long, p .rules)
 
@@ -96,7 +96,7 @@ write-run-requires c κs =
     let c-singles = c .before .before .singles in
     let a = c-start .args in
     let t = now (a .words) in
-    let ok = accepted t (a .self) 0 (c-least .result) (sym (c-refusal .ensures) ∙ c-if1 .left) in
+    let ok = taken-up t (a .self) 0 (c-least .result) (c-refusal .result) (c-refusal .ensures) (c-if1 .left) in
     let n = length (runIds (automaton t) (on (bitAnd (c-ending .result) (2 ^ 64 - 1 - c-ending2 .result))) (a .self .reported) (rulesOf t)) in
     let few = run-few (automaton t) (on (bitAnd (c-ending .result) (2 ^ 64 - 1 - c-ending2 .result))) (a .self .reported) (rulesOf t) in
     (ok .table, c-singles .ensures, enough-left n (rulesOf t) (c-least .result) (length (now (a .ids))) (length (now (a .offsets))) few (ok .space) (c-least .ensures), enough-right n (rulesOf t) (c-least .result) (length (now (a .ids))) (length (now (a .offsets))) few (ok .space) (c-least .ensures))
@@ -122,8 +122,8 @@ returns-2 c =
     let c-write-run = c .before .before .before .before .write-run in
     let a = c-start .args in
     let t = now (a .words) in
-    let number = c-refusal .ensures ∙ ap (scanNumber t (a .self) 0) (c-least .ensures) ∙ close-number t (a .self) (space (now (a .ids)) (now (a .offsets))) in
-    let ok = accepted t (a .self) 0 (c-least .result) (sym (c-refusal .ensures) ∙ c-if1 .left) in
+    let number = close-numbered t (a .self) (c-least .result) (space (now (a .ids)) (now (a .offsets))) (c-refusal .result) (c-refusal .ensures) (c-least .ensures) in
+    let ok = taken-up t (a .self) 0 (c-least .result) (c-refusal .result) (c-refusal .ensures) (c-if1 .left) in
     let found = bitAnd (c-ending .result) (2 ^ 64 - 1 - c-ending2 .result) in
     let same : ((k : ℕ) → k < rulesOf t → on found k ≡ (endsAtEnd (automaton t) (a .self .live) k && not (ends (automaton t) (a .self .live) k))) =
     λ k h. ap₂ (λ (x y : ℕ). on (bitAnd x (2 ^ 64 - 1 - y)) k) (c-ending .ensures) (c-ending2 .ensures) ∙ closing-word t (a .self .live) k (passes t (ok .table) .rules) h in

@@ -1,14 +1,12 @@
 -- `stream::Stream::scan` meets its contract: the number settles which way it goes, and what the loop leaves is put back into the state.
-use mathlib.Core.Path.{sym, ap, _∙_, subst}
-use Prim.Native.Nat.{ℕ, _≤_}
 use denote.Ref.{now}
 use lib.ListN.{length}
 use Rattle.table.specs.Automaton.{automaton}
-use Rattle.stream.specs.Calls.{space, scanNumber}
+use Rattle.stream.specs.Calls.{space}
 use Rattle.stream.specs.Invariants.{stateOf}
 use Rattle.stream.proofs.Bounds.{sum-fits, short-fits}
-use Rattle.stream.proofs.Blocks.{fits-le}
-use Rattle.stream.proofs.Accepting.{accepted}
+use Rattle.stream.proofs.Turns.{ran-inside}
+use Rattle.stream.proofs.Accepting.{taken-up, numbered}
 use Rattle.stream.proofs.Answers.{scan-refused, scan-refused-ids, scan-refused-offsets, scan-accepted, scan-accepted-ids, scan-accepted-offsets}
 use Rattle.stream.proofs.Stream.scan.Statement.{statement}
 use Rattle.stream.proofs.Stream.scan.Tie as tie
@@ -27,7 +25,7 @@ returns c =
     let c-if1 = c .if1 in
     let a = c-start .args in
     let t = now (a .words) in
-    let number = c-refusal .ensures ∙ ap (scanNumber t (a .self) (length (now (a .block)))) (c-least .ensures) in (
+    let number = numbered t (a .self) (length (now (a .block))) (c-least .result) (c-refusal .result) (c-refusal .ensures) (space (now (a .ids)) (now (a .offsets))) (c-least .ensures) in (
       scan-refused t (a .self) (now (a .block)) (now (a .ids)) (now (a .offsets)) (c-refusal .result) number (c-if1 .taken),
       (
         scan-refused-ids t (a .self) (now (a .block)) (now (a .ids)) (now (a .offsets)) (c-refusal .result) number (c-if1 .taken),
@@ -42,7 +40,7 @@ run-requires c κs =
     let c-refusal = c .before .before .before .before .refusal in
     let c-if1 = c .before .before .before .if1 in
     let a = c-start .args in
-    let ok = accepted (now (a .words)) (a .self) (length (now (a .block))) (c-least .result) (sym (c-refusal .ensures) ∙ c-if1 .left) in
+    let ok = taken-up (now (a .words)) (a .self) (length (now (a .block))) (c-least .result) (c-refusal .result) (c-refusal .ensures) (c-if1 .left) in
     (ok .table, short-fits (a .self .taken) (length (now (a .block))) (ok .short))
 
 returns-2 : tie.Need-returns-2
@@ -54,7 +52,7 @@ returns-2 c =
     let c-if1 = c .before .before .before .before .before .before .before .before .before .before .if1 in
     let a = c-start .args in
     let t = now (a .words) in
-    let number = c-refusal .ensures ∙ ap (scanNumber t (a .self) (length (now (a .block)))) (c-least .ensures) in
+    let number = numbered t (a .self) (length (now (a .block))) (c-least .result) (c-refusal .result) (c-refusal .ensures) (space (now (a .ids)) (now (a .offsets))) (c-least .ensures) in
     let r = c-run .result in
     let ilast = c-run .last .1 .1 .1 .1 .1 .0 in
     let olast = c-run .last .1 .1 .1 .1 .1 .1 .0 in (
@@ -74,9 +72,11 @@ add-self c =
     let c-run = c .before .before .before .before .before .before .run in
     let a = c-start .args in
     let s = a .self in
-    let ok = accepted (now (a .words)) s (length (now (a .block))) (c-least .result) (sym (c-refusal .ensures) ∙ c-if1 .left) in
-    let few = fits-le (automaton (now (a .words))) (stateOf (s .live) (s .reported) (s .taken)) (now (a .block)) (space (now (a .ids)) (now (a .offsets))) (length (now (a .block))) in
-    sum-fits (s .taken) (c-run .result .taken) (length (now (a .block))) (short-fits (s .taken) (length (now (a .block))) (ok .short)) (subst (λ (x : ℕ). x ≤ length (now (a .block))) (sym (c-run .ensures .taken-is)) few)
+    let ok = taken-up (now (a .words)) s (length (now (a .block))) (c-least .result) (c-refusal .result) (c-refusal .ensures) (c-if1 .left) in
+    let r = c-run .result in
+    let n = length (now (a .block)) in
+    sum-fits (s .taken) (r .taken) n (short-fits (s .taken) n (ok .short))
+    (ran-inside (automaton (now (a .words))) (stateOf (s .live) (s .reported) (s .taken)) (now (a .block)) (now (a .ids)) (now (a .offsets)) (r .live) (r .reported) (r .taken) (r .reports) (c-run .last .1 .1 .1 .1 .1 .0) (c-run .last .1 .1 .1 .1 .1 .1 .0) (c-run .ensures))
 
 same-length : tie.Need-same-length
 same-length c =
