@@ -185,6 +185,19 @@ module _ (w : Automaton) (s : Stream) (block ids₀ offsets₀ : List ℕ) where
   pub offsets-hold : (live : List ℕ) (reported : ℕ) (ids offsets : List ℕ) (count at : ℕ) → Running w s block ids₀ offsets₀ live reported ids offsets count at → count ≤ length offsets
   offsets-hold live reported ids offsets count at h = omega (arith, h .room, h .offsets-long)
 
+  -- where the loop leaves: at the block's end, or before a byte whose reports do not fit
+  pub running-done : (live : List ℕ) (reported : ℕ) (ids offsets : List ℕ) (count at : ℕ) → Running w s block ids₀ offsets₀ live reported ids offsets count at
+      → (at < length block → space ids₀ offsets₀ < length (idsOf w s block (at + 1))) → Ran w s block ids₀ offsets₀ live reported at count ids offsets
+  running-done live reported ids offsets count at h stopped =
+      record {
+        taken-is = sym (fits-is w s block (space ids₀ offsets₀) at (length block) (h .inside) (omega (arith, h .count-is, h .room)) stopped);
+        live-is = h .live-is;
+        marks-are = h .marks-are;
+        reports-are = h .count-is;
+        ids-are = h .ids-are ∙ ap (λ (n : ℕ). idsOf w s block at ++ drop n ids₀) (h .count-is);
+        offsets-are = h .offsets-are ∙ ap (λ (n : ℕ). endsOf w s block at ++ drop n offsets₀) (h .count-is ∙ sym (ends-count w s block at));
+      }
+
   module _ (live : List ℕ) (reported : ℕ) (ids offsets : List ℕ) (count at : ℕ) (h : Running w s block ids₀ offsets₀ live reported ids offsets count at)
       (next : List ℕ) (step : next ≡ nextLive w (stateOf live 0 (s .taken + at)) (getD block at 0)) where
     -- what the definitions say of the next byte, in terms of the locals
@@ -277,12 +290,12 @@ module _ (w : Automaton) (s : Stream) (block ids₀ offsets₀ : List ℕ) where
           }
 
       -- before a byte whose reports do not fit the loop leaves
-      pub running-full : full ≡ true → space ids₀ offsets₀ < length (idsOf w s block (at + 1))
+      running-full : full ≡ true → space ids₀ offsets₀ < length (idsOf w s block (at + 1))
       unfolding free
       running-full e = omega (arith, ltb-true free (length (runIds w (ends w next) reported (w .rules))) (sym (d .full-if) ∙ e), count-more, free-is)
 
       -- and both lists are as they were
-      pub running-kept : full ≡ true → length (putMid count (length ids - count) ids ilast) ≡ length ids → length (putMid count (length offsets - count) offsets olast) ≡ length offsets
+      running-kept : full ≡ true → length (putMid count (length ids - count) ids ilast) ≡ length ids → length (putMid count (length offsets - count) offsets olast) ≡ length offsets
           → Running w s block ids₀ offsets₀ live reported (putMid count (length ids - count) ids ilast) (putMid count (length offsets - count) offsets olast) count at
       running-kept e li lo =
           let wrote = wrote-if true e in
@@ -306,6 +319,11 @@ module _ (w : Automaton) (s : Stream) (block ids₀ offsets₀ : List ℕ) where
             ids-long = li ∙ h .ids-long;
             offsets-long = lo ∙ h .offsets-long;
           }
+
+      pub running-stop : full ≡ true → length (putMid count (length ids - count) ids ilast) ≡ length ids → length (putMid count (length offsets - count) offsets olast) ≡ length offsets
+          → Ran w s block ids₀ offsets₀ live reported at count (putMid count (length ids - count) ids ilast) (putMid count (length offsets - count) offsets olast)
+      running-stop e li lo =
+          running-done live reported (putMid count (length ids - count) ids ilast) (putMid count (length offsets - count) offsets olast) count at (running-kept e li lo) (λ b. running-full e)
 
     -- a byte with which no rule ends
     pub running-silent : at < length block → ((a : ℕ) → a < w .rules → ends w next a ≡ false) → Running w s block ids₀ offsets₀ next reported ids offsets count (at + 1)
@@ -347,19 +365,6 @@ module _ (w : Automaton) (s : Stream) (block ids₀ offsets₀ : List ℕ) where
         over (suc d) l =
             let next : at + d + 1 ≡ at + suc d = omega arith in
             subst (λ (n : ℕ). Running w s block ids₀ offsets₀ live reported ids offsets count n) next (one (at + d) (omega arith) (omega arith) (over d (omega arith)))
-
-    -- where the loop leaves: at the block's end, or before a byte whose reports do not fit
-    pub running-done : (at : ℕ) → Running w s block ids₀ offsets₀ live reported ids offsets count at
-        → (at < length block → space ids₀ offsets₀ < length (idsOf w s block (at + 1))) → Ran w s block ids₀ offsets₀ live reported at count ids offsets
-    running-done at h stopped =
-        record {
-          taken-is = sym (fits-is w s block (space ids₀ offsets₀) at (length block) (h .inside) (omega (arith, h .count-is, h .room)) stopped);
-          live-is = h .live-is;
-          marks-are = h .marks-are;
-          reports-are = h .count-is;
-          ids-are = h .ids-are ∙ ap (λ (n : ℕ). idsOf w s block at ++ drop n ids₀) (h .count-is);
-          offsets-are = h .offsets-are ∙ ap (λ (n : ℕ). endsOf w s block at ++ drop n offsets₀) (h .count-is ∙ sym (ends-count w s block at));
-        }
 
 -- no more bytes are taken than there are
 pub ran-inside : (w : Automaton) (s : Stream) (block ids offsets live : List ℕ) (reported taken reports : ℕ) (ids′ offsets′ : List ℕ)

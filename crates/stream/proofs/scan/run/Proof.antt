@@ -5,12 +5,11 @@ use Prim.Native.Nat.{_+_, _-_}
 use native.Mathlib.Nat.{add-assoc, le-refl, le-of-eq}
 use denote.Ref.{now}
 use lib.ListN.{length}
-use borrow.Rule.Slice.PartMut.{putMid}
 use Rattle.table.specs.Automaton.{automaton}
 use Rattle.table.proofs.Test.{passes}
 use Rattle.stream.specs.Invariants.{stateOf}
 use Rattle.stream.proofs.Bounds.{rules-word, positions-word, inside, not-both, less-left, sum-fits, next-fits, after-fits, count-fits, ids-fit, offsets-fit}
-use Rattle.stream.proofs.Turns.{Running, running-start, ids-hold, offsets-hold, running-skip, running-room, running-run, running-full, running-kept, running-done}
+use Rattle.stream.proofs.Turns.{Running, running-start, ids-hold, offsets-hold, running-skip, running-room, running-run, running-stop, running-done}
 use Rattle.stream.proofs.scan.run.Statement.{statement}
 use Rattle.stream.proofs.scan.run.Tie as tie
 
@@ -262,9 +261,7 @@ returns-2 c =
     let ilast = c-deliver .last .1 .1 .1 .1 .1 .1 .0 in
     let olast = c-deliver .last .1 .1 .1 .1 .1 .1 .1 .0 in
     let moved = running-skip (automaton t) s (now (a .block)) (now (a .ids)) (now (a .offsets)) (l .live) (l .reported) (l .ids) (l .offsets) (l .count) (l .at) (c-ahead .result) (l .inv) (c-ahead .ensures) in
-    running-done (automaton t) s (now (a .block)) (now (a .ids)) (now (a .offsets)) (l .live) (l .reported) (putMid (l .count) (length (l .ids) - l .count) (l .ids) ilast) (putMid (l .count) (length (l .offsets) - l .count) (l .offsets) olast) (l .count) at
-    (running-kept (automaton t) s (now (a .block)) (now (a .ids)) (now (a .offsets)) (l .live) (l .reported) (l .ids) (l .offsets) (l .count) at moved (c-step .result) (c-step .ensures) (r .full) (r .reports) (r .reported) (a .taken + at + 1) ilast olast (c-deliver .ensures) (c-if2 .taken) (c-ids .given .1) (c-offsets .given .1))
-    (λ b. running-full (automaton t) s (now (a .block)) (now (a .ids)) (now (a .offsets)) (l .live) (l .reported) (l .ids) (l .offsets) (l .count) at moved (c-step .result) (c-step .ensures) (r .full) (r .reports) (r .reported) (a .taken + at + 1) ilast olast (c-deliver .ensures) (c-if2 .taken))
+    running-stop (automaton t) s (now (a .block)) (now (a .ids)) (now (a .offsets)) (l .live) (l .reported) (l .ids) (l .offsets) (l .count) at moved (c-step .result) (c-step .ensures) (r .full) (r .reports) (r .reported) (a .taken + at + 1) ilast olast (c-deliver .ensures) (c-if2 .taken) (c-ids .given .1) (c-offsets .given .1)
 
 pub run-spec : {M : Type 1} → statement M
 run-spec =
