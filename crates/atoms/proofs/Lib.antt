@@ -4,3 +4,6 @@ pub mod Digits
 pub mod Escapes
 pub mod Sizes
 pub mod Ranges
+pub mod Gaps
+pub mod Spellings
+pub mod NameTable

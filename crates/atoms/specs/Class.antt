@@ -11,21 +11,30 @@ use Rattle.atoms.specs.declared.Atom.{Atom}
 use Rattle.atoms.specs.declared.Atom.the-variants.{Byte, OfKind, NotOfKind, Dot, NotNewline, Start, End}
 use Rattle.atoms.specs.declared.Part.{Part}
 use Rattle.atoms.specs.declared.Member.{Member}
+use Rattle.atoms.specs.declared.Gap.{Gap}
+use Rattle.atoms.specs.declared.Joint.{Joint}
 use Rattle.atoms.specs.declared.Class.{Class}
 use Rattle.atoms.specs.Fault.{lower}
 use Rattle.atoms.specs.Escape.{good, bad, escapeOf}
+use Rattle.atoms.specs.Quote.{isMark, opensQuote, gapOf}
+use Rattle.atoms.specs.Name.{nameOf}
 
--- "`[:`, `[.`, `[=` in a class" are 14: the second byte of such an opening
-unfoldable pub opensName : ℕ → Bool
-opensName c = eqb c 58 || eqb c 46 || eqb c 61
+-- What `[` begins in a class, with v after it: a class by name after `[:`, "`[.` and `[=` stay 14", else a byte that stands for itself.
+unfoldable pub bracketOf : Bool → List ℕ → Part
+bracketOf caseless v =
+    cond (eqb (getD v 0 0) 58) (nameOf caseless (drop 1 v))
+    (cond (eqb (getD v 0 0) 46 || eqb (getD v 0 0) 61) (bad 14 2)
+    (good 1 (Byte 91)))
 
--- The member at the front of v, or an end of a range: an escape, or a byte that stands for itself. (At the pattern's end there is none: nothing asks.)
-unfoldable pub memberOf : List ℕ → Part
-memberOf [] = bad 6 0
-memberOf (c ∷ v) =
-    cond (eqb c 92) (escapeOf true v)
-    (cond (eqb c 91 && opensName (getD v 0 0)) (bad 14 2)
-    (good 1 (Byte c)))
+-- The member at the front of v, or an end of a range: in a quote a byte that stands for itself; else an escape, a class by name, or such a byte. (At the
+-- pattern's end there is none: nothing asks.)
+unfoldable pub memberOf : (caseless quoted : Bool) → List ℕ → Part
+memberOf caseless quoted [] = bad 6 0
+memberOf caseless quoted (c ∷ v) =
+    cond quoted (good 1 (Byte c))
+    (cond (eqb c 92) (escapeOf true v)
+    (cond (eqb c 91) (bracketOf caseless v)
+    (good 1 (Byte c))))
 
 -- "a type such as `\d`"
 abbrev pub isType : Atom → Bool
@@ -56,30 +65,41 @@ rangeFault m n =
 
 -- "Hyphen is literal first (or after `^`), last, or right after a range; any other hyphen makes a range from the member before it, a literal hyphen
 -- included." Here v is what follows a member: a hyphen, and then something other than `]`, make a range. A hyphen that is first, or right after a range,
--- follows no member: it is read as a member itself.
-unfoldable pub ranges : List ℕ → Bool
-ranges v = eqb (getD v 0 0) 45 && (ltb 1 (length v) && not (eqb (getD v 1 0) 93))
+-- follows no member: it is read as a member itself. Quotes' marks around the hyphen are as not there; a quoted hyphen makes no range, and a quoted `]` is
+-- the end of one.
+unfoldable pub jointOf : Bool → List ℕ → Joint
+jointOf quoted v =
+    let g : Gap = gapOf quoted v in
+    let h : Gap = gapOf false (drop (g .size + 1) v) in
+    let n : ℕ = g .size + (1 + h .size) in
+    record {
+      is = not (g .quoted) && (eqb (getD v (g .size) 0) 45 && (ltb n (length v) && (h .quoted || not (eqb (getD v n 0) 93))));
+      size = n;
+      quoted = h .quoted;
+    }
 
 -- a member by itself
-abbrev pub asMember : Part → Member
-asMember m = record { fault = m .fault; size = m .size; low = m .atom; high = m .atom }
+abbrev pub asMember : Bool → Part → Member
+asMember quoted m = record { fault = m .fault; size = m .size; low = m .atom; high = m .atom; quoted = quoted }
 
--- a range, its two ends and the hyphen: the lowest of its faults
-abbrev pub asRange : Part → Part → Member
-asRange m n = record {
+-- a range, its two ends and what joins them: the lowest of its faults
+abbrev pub asRange : Part → Joint → Part → Member
+asRange m j n = record {
   fault = lower (m .fault) (lower (n .fault) (rangeFault m n));
-  size = m .size + (1 + n .size);
+  size = m .size + (j .size + n .size);
   low = m .atom;
   high = n .atom;
+  quoted = j .quoted;
 }
 
 -- The member or range at the front of v: "a class member, a range with both its ends". A member with fault 6 is all there is: it has no end after which a
 -- hyphen could stand, and no fault of a second end would be lower.
-unfoldable pub memberAt : List ℕ → Member
-memberAt v =
-    let m : Part = memberOf v in
-    cond (eqb (m .fault) 6) (asMember m)
-    (cond (ranges (drop (m .size) v)) (asRange m (memberOf (drop (m .size + 1) v))) (asMember m))
+unfoldable pub memberAt : (caseless quoted : Bool) → List ℕ → Member
+memberAt caseless quoted v =
+    let m : Part = memberOf caseless quoted v in
+    let j : Joint = jointOf quoted (drop (m .size) v) in
+    cond (eqb (m .fault) 6) (asMember quoted m)
+    (cond (j .is) (asRange m j (memberOf caseless (j .quoted) (drop (m .size + j .size) v))) (asMember quoted m))
 
 -- the set with what a member adds; a member is a byte or a type, so the other atoms do not occur
 unfoldable pub joined : List ℕ → Atom → Atom → List ℕ
@@ -105,18 +125,24 @@ settled caseless negated set =
     let s : List ℕ = cond caseless (caseClosed set) set in
     cond negated (complementOf s) s
 
--- The members from left to right: v the bytes from place `at` on, of which `skip` belong to a member that was read; `first` where no member was
--- read yet, "A `]` first (or after `^`) is literal"; `set` what was collected. 8, "class not closed", has the pattern's length as its place.
-unfoldable pub membersOf : (caseless negated first : Bool) (set : List ℕ) (skip : ℕ) (v : List ℕ) (at : ℕ) → Class
-membersOf caseless negated first set skip [] at = refusedClass 8 at
-membersOf caseless negated first set (suc k) (c ∷ v) at = membersOf caseless negated first set k v (at + 1)
-membersOf caseless negated first set zero (c ∷ v) at =
-    let m : Member = memberAt (c ∷ v) in
-    let rest : Class = membersOf caseless negated false (joined set (m .low) (m .high)) (pred (m .size)) v (at + 1) in
-    cond (eqb c 93 && not first) (closedClass (at + 1) (settled caseless negated set))
-    (cond (eqb (m .fault) 0) rest (refusedClass (m .fault) at))
+-- The members from left to right: v the bytes from place `at` on, of which `skip` belong to a member or a quote's mark that was read; `first` where no
+-- member was read yet, "A `]` first (or after `^`) is literal"; `quoted` where a quote is open; `set` what was collected. 8, "class not closed", has the
+-- pattern's length as its place.
+unfoldable pub membersOf : (caseless negated first quoted : Bool) (set : List ℕ) (skip : ℕ) (v : List ℕ) (at : ℕ) → Class
+membersOf caseless negated first quoted set skip [] at = refusedClass 8 at
+membersOf caseless negated first quoted set (suc k) (c ∷ v) at = membersOf caseless negated first quoted set k v (at + 1)
+membersOf caseless negated first quoted set zero (c ∷ v) at =
+    let m : Member = memberAt caseless quoted (c ∷ v) in
+    let mark : Class = membersOf caseless negated first (opensQuote (getD v 0 0)) set 1 v (at + 1) in
+    let rest : Class = membersOf caseless negated false (m .quoted) (joined set (m .low) (m .high)) (pred (m .size)) v (at + 1) in
+    cond (isMark quoted c (getD v 0 0)) mark
+    (cond (eqb c 93 && not (first || quoted)) (closedClass (at + 1) (settled caseless negated set))
+    (cond (eqb (m .fault) 0) rest (refusedClass (m .fault) at)))
 
 -- "Classes `[..]`, `[^..]`": v the bytes from place `at` on, after the `[`
 unfoldable pub classOf : Bool → List ℕ → ℕ → Class
 classOf caseless v at =
-    cond (eqb (getD v 0 0) 94) (membersOf caseless true true emptySet 0 (drop 1 v) (at + 1)) (membersOf caseless false true emptySet 0 v at)
+    let g : Gap = gapOf false v in
+    let n : ℕ = g .size + 1 in
+    cond (eqb (getD v (g .size) 0) 94 && not (g .quoted)) (membersOf caseless true true false emptySet 0 (drop n v) (at + n))
+    (membersOf caseless false true false emptySet 0 v at)

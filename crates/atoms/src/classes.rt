@@ -4,8 +4,10 @@ use crate::Class;
 use crate::members::byte_of;
 use crate::members::member_at;
 use crate::number::peek;
+use crate::quote::gap_at;
+use crate::quote::is_mark;
 ghost use mathlib.Core.Path.{_≡_};
-ghost use mathlib.Core.Bool.{cond, true};
+ghost use mathlib.Core.Bool.{cond, true, false};
 ghost use lib.ListN.{drop};
 ghost use Rattle.sets.specs.Set.{emptySet};
 ghost use Rattle.kinds.specs.Case.{caseClosed};
@@ -60,30 +62,39 @@ fn refused(number: u32, place: usize) -> Class
 
 // The members from a place on, up to the closing bracket.
 fn members_at(s: &[u8], at: usize, caseless: bool, negated: bool) -> Class
-    ensures { λ r. ⌜ r ≡ membersOf caseless negated true emptySet 0 (drop at (now (s .entry))) at ⌝ }
+    ensures { λ r. ⌜ r ≡ membersOf caseless negated true false emptySet 0 (drop at (now (s .entry))) at ⌝ }
 {
     let mut set = sets::empty();
     let mut first = true;
+    let mut quoted = false;
     let mut i = at;
     while i < s.len() {
+        let c = s[i];
         let after = i + 1;
-        if (s[i] == b']') & !first {
-            return Class {
-                number: 0,
-                place: after,
-                set: settle(caseless, negated, set),
-            };
+        let d = peek(s, after);
+        if is_mark(quoted, c, d) {
+            quoted = d == b'Q';
+            i += 2;
+        } else {
+            if (c == b']') & !(first | quoted) {
+                return Class {
+                    number: 0,
+                    place: after,
+                    set: settle(caseless, negated, set),
+                };
+            }
+            let m = member_at(s, i, caseless, quoted);
+            if m.fault != 0 {
+                return refused(m.fault, i);
+            }
+            let low = m.low;
+            let high = m.high;
+            let more = join(set, low, high);
+            set = more;
+            first = false;
+            quoted = m.quoted;
+            i += m.size;
         }
-        let m = member_at(s, i);
-        if m.fault != 0 {
-            return refused(m.fault, i);
-        }
-        let low = m.low;
-        let high = m.high;
-        let more = join(set, low, high);
-        set = more;
-        first = false;
-        i += m.size;
     }
     refused(8, i)
 }
@@ -92,8 +103,10 @@ fn members_at(s: &[u8], at: usize, caseless: bool, negated: bool) -> Class
 pub fn class_at(s: &[u8], at: usize, caseless: bool) -> Class
     ensures { λ r. ⌜ r ≡ classOf caseless (drop at (now (s .entry))) at ⌝ }
 {
-    if peek(s, at) == b'^' {
-        return members_at(s, at + 1, caseless, true);
+    let g = gap_at(s, at, false);
+    let from = at + g.size;
+    if (peek(s, from) == b'^') & !g.quoted {
+        return members_at(s, from + 1, caseless, true);
     }
     members_at(s, at, caseless, false)
 }

@@ -3,7 +3,9 @@
 mod classes;
 mod escape;
 mod members;
+mod names;
 mod number;
+mod quote;
 
 pub use classes::cased;
 pub use classes::class_at;
@@ -13,6 +15,7 @@ pub use members::lower;
 pub use number::CAP;
 pub use number::decimal_at;
 pub use number::peek;
+pub use quote::is_mark;
 
 // A number: its value, at most 65,536; whether it has a digit at all; how many bytes it takes.
 pub struct Numeral {
@@ -24,9 +27,9 @@ pub struct Numeral {
 // What a byte, an escape or `.` stands for.
 pub enum Atom {
     Byte(u8),
-    // `\d \w \s \h \v`
+    // `\d \w \s \h \v`, and classes by name
     OfKind(Kind),
-    // their capitals
+    // their capitals, and negated classes by name
     NotOfKind(Kind),
     // `.`
     Dot,
@@ -46,12 +49,31 @@ pub struct Part {
     pub atom: Atom,
 }
 
-// A class member, or a range with both its ends: its lowest fault or 0, the bytes it takes, and what it adds, the bytes from low to high or a type.
+// The marks `\Q` and `\E` at a place: the bytes they take, and whether a quote is open after them.
+pub struct Gap {
+    pub size: usize,
+    pub quoted: bool,
+}
+
+// A class by name: its text with the `:]` that closes it, and zeros up to eight bytes; and the kind of its bytes.
+pub struct Row(pub [u8; 8], pub Kind);
+
+// What may join two members to a range, the hyphen and the marks around it: whether it does, the bytes up to the second end, and whether that
+// stands in a quote.
+pub struct Joint {
+    pub is: bool,
+    pub size: usize,
+    pub quoted: bool,
+}
+
+// A class member, or a range with both its ends: its lowest fault or 0, the bytes it takes, what it adds, the bytes from low to high or a type, and
+// whether a quote is open after it.
 pub struct Member {
     pub fault: u32,
     pub size: usize,
     pub low: Atom,
     pub high: Atom,
+    pub quoted: bool,
 }
 
 // A class: number 0 and its set, and the place after its `]`; or the refusal's number and place.

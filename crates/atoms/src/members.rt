@@ -1,16 +1,19 @@
 // Class members and ranges. A member, or a range with both its ends, is one token, so the lowest of its faults is given.
 use crate::Atom;
+use crate::Joint;
 use crate::Member;
 use crate::Part;
 use crate::escape::escape_at;
 use crate::escape::faulty;
 use crate::escape::sound;
+use crate::names::name_at;
 use crate::number::peek;
+use crate::quote::gap_at;
 ghost use mathlib.Core.Path.{_≡_};
-ghost use Prim.Native.Nat.{_≤_, _<_, _^_};
+ghost use Prim.Native.Nat.{_+_, _≤_, _<_, _^_};
 ghost use lib.ListN.{length, drop};
 ghost use Rattle.atoms.specs.Fault.{lower};
-ghost use Rattle.atoms.specs.Class.{opensName, memberOf, isType, byteOf, rangeFault, ranges, asMember, asRange, memberAt};
+ghost use Rattle.atoms.specs.Class.{bracketOf, memberOf, isType, byteOf, rangeFault, jointOf, asMember, asRange, memberAt};
 
 // The lower of two faults, where 0 is none.
 pub fn lower(f: u32, g: u32) -> u32
@@ -25,28 +28,35 @@ pub fn lower(f: u32, g: u32) -> u32
     if f <= g { f } else { g }
 }
 
-// The second byte of `[:`, `[.` or `[=`.
-fn opens_name(c: u8) -> bool
-    ensures { λ r. ⌜ r ≡ opensName c ⌝ }
+// After a `[` in a class.
+fn bracket(s: &[u8], at: usize, caseless: bool) -> Part
+    ensures { λ r. ⌜ r ≡ bracketOf caseless (drop at (now (s .entry))) ⌝ }
 {
-    (c == b':') | (c == b'.') | (c == b'=')
+    let c = peek(s, at);
+    match c {
+        b':' => name_at(s, at + 1, caseless),
+        b'.' => faulty(14, 2),
+        b'=' => faulty(14, 2),
+        _ => sound(1, Atom::Byte(b'[')),
+    }
 }
 
 // The member at a place, or an end of a range.
-fn member_part(s: &[u8], at: usize) -> Part
-    ensures { λ r. ⌜ r ≡ memberOf (drop at (now (s .entry))) ⌝ }
+fn member_part(s: &[u8], at: usize, caseless: bool, quoted: bool) -> Part
+    ensures { λ r. ⌜ r ≡ memberOf caseless quoted (drop at (now (s .entry))) ⌝ }
 {
     if s.len() <= at {
         return faulty(6, 0);
     }
     let c = s[at];
-    if c == b'\\' {
-        return escape_at(s, at + 1, true);
+    if quoted {
+        return sound(1, Atom::Byte(c));
     }
-    if (c == b'[') & opens_name(peek(s, at + 1)) {
-        return faulty(14, 2);
+    match c {
+        b'\\' => escape_at(s, at + 1, true),
+        b'[' => bracket(s, at + 1, caseless),
+        _ => sound(1, Atom::Byte(c)),
     }
-    sound(1, Atom::Byte(c))
 }
 
 // Whether an atom is a type such as `\d`.
@@ -94,17 +104,28 @@ fn range_fault(m: Part, n: Part) -> u32
     0
 }
 
-// Whether a hyphen at a place makes a range from the member before it.
-fn makes_range(s: &[u8], at: usize) -> bool
+// What may join a member that ends at a place to another.
+fn joint_at(s: &[u8], at: usize, quoted: bool) -> Joint
     requires { ⌜ at ≤ length (now s) ⌝ }
-    ensures { λ r. ⌜ r ≡ ranges (drop at (now (s .entry))) ⌝ }
+    ensures { λ r. ⌜ r ≡ jointOf quoted (drop at (now (s .entry))) ⌝ }
 {
-    (peek(s, at) == b'-') & ((1 < s.len() - at) & !(peek(s, at + 1) == b']'))
+    let g = gap_at(s, at, quoted);
+    let inside = g.quoted;
+    let hyphen = at + g.size;
+    let h = gap_at(s, hyphen + 1, false);
+    let size = g.size + (1 + h.size);
+    let last = peek(s, at + size) == b']';
+    let rest = s.len() - at;
+    Joint {
+        is: !inside & ((peek(s, hyphen) == b'-') & ((size < rest) & (h.quoted | !last))),
+        size,
+        quoted: h.quoted,
+    }
 }
 
 // A part as a member.
-fn single(m: Part) -> Member
-    ensures { λ r. ⌜ r ≡ asMember m ⌝ }
+fn single(m: Part, quoted: bool) -> Member
+    ensures { λ r. ⌜ r ≡ asMember quoted m ⌝ }
 {
     let atom = m.atom;
     Member {
@@ -112,35 +133,39 @@ fn single(m: Part) -> Member
         size: m.size,
         low: atom,
         high: atom,
+        quoted,
     }
 }
 
-// Two parts as a range.
-fn range(m: Part, n: Part) -> Member
-    requires { ⌜ (m .size < 2 ^ 63) × (n .size < 2 ^ 63) ⌝ }
-    ensures { λ r. ⌜ r ≡ asRange m n ⌝ }
+// Two parts and what joins them as a range.
+fn range(m: Part, j: Joint, n: Part) -> Member
+    requires { ⌜ m .size + (j .size + n .size) < 2 ^ 63 ⌝ }
+    ensures { λ r. ⌜ r ≡ asRange m j n ⌝ }
 {
     let low = m.atom;
     let high = n.atom;
     Member {
         fault: lower(m.fault, lower(n.fault, range_fault(m, n))),
-        size: m.size + (1 + n.size),
+        size: m.size + (j.size + n.size),
         low,
         high,
+        quoted: j.quoted,
     }
 }
 
 // The member or range at a place.
-pub(super) fn member_at(s: &[u8], at: usize) -> Member
-    ensures { λ r. ⌜ r ≡ memberAt (drop at (now (s .entry))) ⌝ }
+pub(super) fn member_at(s: &[u8], at: usize, caseless: bool, quoted: bool) -> Member
+    ensures { λ r. ⌜ r ≡ memberAt caseless quoted (drop at (now (s .entry))) ⌝ }
 {
-    let m = member_part(s, at);
+    let m = member_part(s, at, caseless, quoted);
     if m.fault == 6 {
-        return single(m);
+        return single(m, quoted);
     }
     let end = at + m.size;
-    if makes_range(s, end) {
-        return range(m, member_part(s, end + 1));
+    let j = joint_at(s, end, quoted);
+    if j.is {
+        let n = member_part(s, end + j.size, caseless, j.quoted);
+        return range(m, j, n);
     }
-    single(m)
+    single(m, quoted)
 }

@@ -13,7 +13,7 @@ use Rattle.sets.specs.Set.{asOne}
 use Rattle.kinds.specs.Kind.{isKind, kinds, bitsOf, kindsOf}
 use Rattle.kinds.specs.Invariants.{bitOf}
 use Rattle.kinds.specs.declared.Kind.{Kind}
-use Rattle.kinds.specs.declared.Kind.the-variants.{Digit, Word, Space, Horizontal, Vertical}
+use Rattle.kinds.specs.declared.Kind.the-variants.{Digit, Word, Space, Horizontal, Vertical, Alpha, Lower, Upper, Alnum, Ascii, Blank, Cntrl, Graph, Print, Punct, Xdigit}
 
 -- predicate number i of a list; past the end, one that holds of nothing
 abbrev pub predicate : List (ℕ → Bool) → ℕ → ℕ → Bool
@@ -74,6 +74,17 @@ meets-kind Word b = meets-kinds b 1
 meets-kind Space b = meets-kinds b 2
 meets-kind Horizontal b = meets-kinds b 3
 meets-kind Vertical b = meets-kinds b 4
+meets-kind Alpha b = meets-kinds b 7
+meets-kind Lower b = meets-kinds b 5
+meets-kind Upper b = meets-kinds b 6
+meets-kind Alnum b = meets-kinds b 8
+meets-kind Ascii b = meets-kinds b 9
+meets-kind Blank b = meets-kinds b 10
+meets-kind Cntrl b = meets-kinds b 11
+meets-kind Graph b = meets-kinds b 12
+meets-kind Print b = meets-kinds b 13
+meets-kind Punct b = meets-kinds b 14
+meets-kind Xdigit b = meets-kinds b 15
 
 -- what the test tells of a byte whose kinds are m
 module _ (m b i : ℕ) (e : m ≡ kindsOf b) where

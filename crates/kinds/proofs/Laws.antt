@@ -8,10 +8,10 @@ use borrow.Author.Tests.{ltb-true}
 use lib.Dec.{eqb, ltb}
 use Rattle.sets.specs.Set.{has, setOf, any, asOne}
 use Rattle.sets.proofs.Laws.{has-setOf, setOf-ext}
-use Rattle.kinds.specs.Kind.{isDigit, isLower, isUpper, isWord, isSpace, isHorizontal, isVertical, isKind, isNotKind}
-use Rattle.kinds.specs.Case.{otherCase, caseClosed}
+use Rattle.kinds.specs.Kind.{isDigit, isLower, isUpper, isWord, isSpace, isHorizontal, isVertical, isAlpha, isAlnum, isAscii, isBlank, isCntrl, isGraph, isPrint, isPunct, isXdigit, isKind, isNotKind}
+use Rattle.kinds.specs.Case.{otherCase, caseClosed, uncased}
 use Rattle.kinds.specs.declared.Kind.{Kind}
-use Rattle.kinds.specs.declared.Kind.the-variants.{Digit, Word, Space, Horizontal, Vertical}
+use Rattle.kinds.specs.declared.Kind.the-variants.{Digit, Word, Space, Horizontal, Vertical, Alpha, Lower, Upper, Alnum, Ascii, Blank, Cntrl, Graph, Print, Punct, Xdigit}
 use Rattle.kinds.proofs.Bytes.{every-byte, bytes-agree}
 pub use Rattle.kinds.proofs.Bits.{predicate, meets, meets-kinds, meets-kind}
 
@@ -37,24 +37,35 @@ pub other-twice : (b : ℕ) → b < 256 → otherCase (otherCase b) ≡ b
 unfolding any otherCase isLower isUpper
 other-twice b l = bytes-agree (λ b. otherCase (otherCase b)) (λ b. b) refl b l
 
--- a type does not tell the cases of a letter apart
-none-apart : (k : Kind) → any 256 (λ b. not (eqb (asOne (isKind k (otherCase b))) (asOne (isKind k b)))) ≡ false
-unfolding any otherCase isDigit isLower isUpper isWord isSpace isHorizontal isVertical
+-- a kind, as caseless reads it, does not tell the cases of a letter apart
+none-apart : (k : Kind) → any 256 (λ b. not (eqb (asOne (isKind (uncased k) (otherCase b))) (asOne (isKind (uncased k) b)))) ≡ false
+unfolding any otherCase isDigit isLower isUpper isWord isSpace isHorizontal isVertical isAlpha isAlnum isAscii isBlank isCntrl isGraph isPrint isPunct isXdigit
 none-apart Digit = refl
 none-apart Word = refl
 none-apart Space = refl
 none-apart Horizontal = refl
 none-apart Vertical = refl
+none-apart Alpha = refl
+none-apart Lower = refl
+none-apart Upper = refl
+none-apart Alnum = refl
+none-apart Ascii = refl
+none-apart Blank = refl
+none-apart Cntrl = refl
+none-apart Graph = refl
+none-apart Print = refl
+none-apart Punct = refl
+none-apart Xdigit = refl
 
 as-one : (t : Bool) → eqb (asOne t) 1 ≡ t
 as-one true = refl
 as-one false = refl
 
-pub other-kind : (k : Kind) (b : ℕ) → b < 256 → isKind k (otherCase b) ≡ isKind k b
+pub other-kind : (k : Kind) (b : ℕ) → b < 256 → isKind (uncased k) (otherCase b) ≡ isKind (uncased k) b
 other-kind k b l =
-    sym (as-one (isKind k (otherCase b)))
-    ∙ ap (λ (x : ℕ). eqb x 1) (bytes-agree (λ b. asOne (isKind k (otherCase b))) (λ b. asOne (isKind k b)) (none-apart k) b l)
-    ∙ as-one (isKind k b)
+    sym (as-one (isKind (uncased k) (otherCase b)))
+    ∙ ap (λ (x : ℕ). eqb x 1) (bytes-agree (λ b. asOne (isKind (uncased k) (otherCase b))) (λ b. asOne (isKind (uncased k) b)) (none-apart k) b l)
+    ∙ as-one (isKind (uncased k) b)
 
 -- ---- sets closed under case
 
@@ -65,11 +76,11 @@ closed-already f e =
     setOf-ext (λ q. has (setOf f) q || has (setOf f) (otherCase q)) f
     (λ q l. ap₂ _||_ (has-setOf f q l) (has-setOf f (otherCase q) (other-byte q l) ∙ e q l) ∙ or-self (f q))
 
-pub closed-kind : (k : Kind) → caseClosed (setOf (isKind k)) ≡ setOf (isKind k)
-closed-kind k = closed-already (isKind k) (other-kind k)
+pub closed-kind : (k : Kind) → caseClosed (setOf (isKind (uncased k))) ≡ setOf (isKind (uncased k))
+closed-kind k = closed-already (isKind (uncased k)) (other-kind k)
 
-pub closed-not-kind : (k : Kind) → caseClosed (setOf (isNotKind k)) ≡ setOf (isNotKind k)
-closed-not-kind k = closed-already (isNotKind k) (λ q l. ap not (other-kind k q l))
+pub closed-not-kind : (k : Kind) → caseClosed (setOf (isNotKind (uncased k))) ≡ setOf (isNotKind (uncased k))
+closed-not-kind k = closed-already (isNotKind (uncased k)) (λ q l. ap not (other-kind k q l))
 
 pub closed-twice : (s : List ℕ) → caseClosed (caseClosed s) ≡ caseClosed s
 unfolding caseClosed

@@ -5,7 +5,7 @@ use Prim.Native.Nat.{ℕ, _<_}
 use lib.ListN.{getD}
 use Rattle.kinds.specs.Kind.{kindsOf}
 use Rattle.kinds.specs.declared.Kind.{Kind}
-use Rattle.kinds.specs.declared.Kind.the-variants.{Digit, Word, Space, Horizontal, Vertical}
+use Rattle.kinds.specs.declared.Kind.the-variants.{Digit, Word, Space, Horizontal, Vertical, Alpha, Lower, Upper, Alnum, Ascii, Blank, Cntrl, Graph, Print, Punct, Xdigit}
 
 -- the table's rule: entry b is the kinds of byte b
 unfoldable pub Ruled : List ℕ → Type 0
@@ -18,3 +18,14 @@ bitOf Word = 2
 bitOf Space = 4
 bitOf Horizontal = 8
 bitOf Vertical = 16
+bitOf Lower = 32
+bitOf Upper = 64
+bitOf Alpha = 128
+bitOf Alnum = 256
+bitOf Ascii = 512
+bitOf Blank = 1024
+bitOf Cntrl = 2048
+bitOf Graph = 4096
+bitOf Print = 8192
+bitOf Punct = 16384
+bitOf Xdigit = 32768

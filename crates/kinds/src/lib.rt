@@ -1,12 +1,13 @@
 // What each byte is: a digit, a word byte, white space of a sort, a letter of either case. One table has it, a bit for each kind; the sets of the types
-// `\d \w \s \h \v`, their complements, and the other case of a letter are read from the table and written nowhere else.
+// `\d \w \s \h \v` and of the classes by name such as `[:alpha:]`, their complements, and the other case of a letter are read from the table and written
+// nowhere else.
 // Nothing is required of a caller. specs/Kind.antt and specs/Case.antt say what each function gives.
 mod table;
 
 ghost use mathlib.Core.Path.{_≡_};
 ghost use Rattle.sets.specs.Set.{setOf};
 ghost use Rattle.kinds.specs.Kind.{isKind, isNotKind, kindsOf};
-ghost use Rattle.kinds.specs.Case.{otherCase, caseClosed};
+ghost use Rattle.kinds.specs.Case.{otherCase, caseClosed, uncased};
 ghost use Rattle.kinds.specs.Invariants.{Ruled, bitOf};
 
 // The bit of each kind in an entry of the table, in the order of specs/Kind.antt's list of kinds.
@@ -24,16 +25,45 @@ pub const LOWER: u32 = 32;
 
 pub const UPPER: u32 = 64;
 
+pub const ALPHA: u32 = 128;
+
+pub const ALNUM: u32 = 256;
+
+pub const ASCII: u32 = 512;
+
+pub const BLANK: u32 = 1024;
+
+pub const CNTRL: u32 = 2048;
+
+pub const GRAPH: u32 = 4096;
+
+pub const PRINT: u32 = 8192;
+
+pub const PUNCT: u32 = 16384;
+
+pub const XDIGIT: u32 = 32768;
+
 // How far a lower-case letter stands above its upper-case one.
 const CASE_STEP: u8 = 32;
 
-// The types `\d`, `\w`, `\s`, `\h` and `\v`.
+// The types `\d`, `\w`, `\s`, `\h` and `\v`, and the classes by name that are none of these.
 pub enum Kind {
     Digit,
     Word,
     Space,
     Horizontal,
     Vertical,
+    Alpha,
+    Lower,
+    Upper,
+    Alnum,
+    Ascii,
+    Blank,
+    Cntrl,
+    Graph,
+    Print,
+    Punct,
+    Xdigit,
 }
 
 // The table, by its rule: every reader of it starts here, so that the rule is proved once.
@@ -51,7 +81,7 @@ pub fn kinds_of(b: u8) -> u32
     kinds[b as usize]
 }
 
-// The bit of a type.
+// The bit of a kind.
 fn bit_of(k: Kind) -> u32
     ensures { λ r. ⌜ r ≡ bitOf k ⌝ }
 {
@@ -61,10 +91,45 @@ fn bit_of(k: Kind) -> u32
         Kind::Space => SPACE,
         Kind::Horizontal => HORIZONTAL,
         Kind::Vertical => VERTICAL,
+        Kind::Alpha => ALPHA,
+        Kind::Lower => LOWER,
+        Kind::Upper => UPPER,
+        Kind::Alnum => ALNUM,
+        Kind::Ascii => ASCII,
+        Kind::Blank => BLANK,
+        Kind::Cntrl => CNTRL,
+        Kind::Graph => GRAPH,
+        Kind::Print => PRINT,
+        Kind::Punct => PUNCT,
+        Kind::Xdigit => XDIGIT,
     }
 }
 
-// The bytes of a type.
+// What a kind is read as under caseless: the two cases as letters.
+pub fn uncased(k: Kind) -> Kind
+    ensures { λ r. ⌜ r ≡ uncased k ⌝ }
+{
+    match k {
+        Kind::Digit => Kind::Digit,
+        Kind::Word => Kind::Word,
+        Kind::Space => Kind::Space,
+        Kind::Horizontal => Kind::Horizontal,
+        Kind::Vertical => Kind::Vertical,
+        Kind::Alpha => Kind::Alpha,
+        Kind::Lower => Kind::Alpha,
+        Kind::Upper => Kind::Alpha,
+        Kind::Alnum => Kind::Alnum,
+        Kind::Ascii => Kind::Ascii,
+        Kind::Blank => Kind::Blank,
+        Kind::Cntrl => Kind::Cntrl,
+        Kind::Graph => Kind::Graph,
+        Kind::Print => Kind::Print,
+        Kind::Punct => Kind::Punct,
+        Kind::Xdigit => Kind::Xdigit,
+    }
+}
+
+// The bytes of a type or of a class by name.
 pub fn of_kind(k: Kind) -> [u64; 4]
     ensures { λ r. ⌜ r ≡ setOf (isKind k) ⌝ }
 {
@@ -82,7 +147,7 @@ pub fn of_kind(k: Kind) -> [u64; 4]
     s
 }
 
-// The bytes of a type's capital: `\D`, `\W`, `\S`, `\H` or `\V`.
+// The bytes of a type's capital, `\D`, `\W`, `\S`, `\H` or `\V`, or of a negated class by name.
 pub fn not_of_kind(k: Kind) -> [u64; 4]
     ensures { λ r. ⌜ r ≡ setOf (isNotKind k) ⌝ }
 {

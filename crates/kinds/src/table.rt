@@ -1,141 +1,150 @@
 // The table: the kinds of each byte, one entry a byte, byte 0 first. Whoever reads it calls `kind_table`.
+use crate::ALNUM;
+use crate::ALPHA;
+use crate::ASCII;
+use crate::BLANK;
+use crate::CNTRL;
 use crate::DIGIT;
+use crate::GRAPH;
 use crate::HORIZONTAL;
 use crate::LOWER;
+use crate::PRINT;
+use crate::PUNCT;
 use crate::SPACE;
 use crate::UPPER;
 use crate::VERTICAL;
 use crate::WORD;
+use crate::XDIGIT;
 
 pub const KINDS: [u32; 256] = [
-    0, // 0
-    0, // 1
-    0, // 2
-    0, // 3
-    0, // 4
-    0, // 5
-    0, // 6
-    0, // 7
-    0, // 8
-    SPACE | HORIZONTAL, // 9
-    SPACE | VERTICAL, // 10
-    SPACE | VERTICAL, // 11
-    SPACE | VERTICAL, // 12
-    SPACE | VERTICAL, // 13
-    0, // 14
-    0, // 15
-    0, // 16
-    0, // 17
-    0, // 18
-    0, // 19
-    0, // 20
-    0, // 21
-    0, // 22
-    0, // 23
-    0, // 24
-    0, // 25
-    0, // 26
-    0, // 27
-    0, // 28
-    0, // 29
-    0, // 30
-    0, // 31
-    SPACE | HORIZONTAL, // 32
-    0, // 33 !
-    0, // 34 "
-    0, // 35 #
-    0, // 36 $
-    0, // 37 %
-    0, // 38 &
-    0, // 39 '
-    0, // 40 (
-    0, // 41 )
-    0, // 42 *
-    0, // 43 +
-    0, // 44 ,
-    0, // 45 -
-    0, // 46 .
-    0, // 47 /
-    DIGIT | WORD, // 48 0
-    DIGIT | WORD, // 49 1
-    DIGIT | WORD, // 50 2
-    DIGIT | WORD, // 51 3
-    DIGIT | WORD, // 52 4
-    DIGIT | WORD, // 53 5
-    DIGIT | WORD, // 54 6
-    DIGIT | WORD, // 55 7
-    DIGIT | WORD, // 56 8
-    DIGIT | WORD, // 57 9
-    0, // 58 :
-    0, // 59 ;
-    0, // 60 <
-    0, // 61 =
-    0, // 62 >
-    0, // 63 ?
-    0, // 64 @
-    WORD | UPPER, // 65 A
-    WORD | UPPER, // 66 B
-    WORD | UPPER, // 67 C
-    WORD | UPPER, // 68 D
-    WORD | UPPER, // 69 E
-    WORD | UPPER, // 70 F
-    WORD | UPPER, // 71 G
-    WORD | UPPER, // 72 H
-    WORD | UPPER, // 73 I
-    WORD | UPPER, // 74 J
-    WORD | UPPER, // 75 K
-    WORD | UPPER, // 76 L
-    WORD | UPPER, // 77 M
-    WORD | UPPER, // 78 N
-    WORD | UPPER, // 79 O
-    WORD | UPPER, // 80 P
-    WORD | UPPER, // 81 Q
-    WORD | UPPER, // 82 R
-    WORD | UPPER, // 83 S
-    WORD | UPPER, // 84 T
-    WORD | UPPER, // 85 U
-    WORD | UPPER, // 86 V
-    WORD | UPPER, // 87 W
-    WORD | UPPER, // 88 X
-    WORD | UPPER, // 89 Y
-    WORD | UPPER, // 90 Z
-    0, // 91 [
-    0, // 92 \
-    0, // 93 ]
-    0, // 94 ^
-    WORD, // 95 _
-    0, // 96 `
-    WORD | LOWER, // 97 a
-    WORD | LOWER, // 98 b
-    WORD | LOWER, // 99 c
-    WORD | LOWER, // 100 d
-    WORD | LOWER, // 101 e
-    WORD | LOWER, // 102 f
-    WORD | LOWER, // 103 g
-    WORD | LOWER, // 104 h
-    WORD | LOWER, // 105 i
-    WORD | LOWER, // 106 j
-    WORD | LOWER, // 107 k
-    WORD | LOWER, // 108 l
-    WORD | LOWER, // 109 m
-    WORD | LOWER, // 110 n
-    WORD | LOWER, // 111 o
-    WORD | LOWER, // 112 p
-    WORD | LOWER, // 113 q
-    WORD | LOWER, // 114 r
-    WORD | LOWER, // 115 s
-    WORD | LOWER, // 116 t
-    WORD | LOWER, // 117 u
-    WORD | LOWER, // 118 v
-    WORD | LOWER, // 119 w
-    WORD | LOWER, // 120 x
-    WORD | LOWER, // 121 y
-    WORD | LOWER, // 122 z
-    0, // 123 {
-    0, // 124 |
-    0, // 125 }
-    0, // 126 ~
-    0, // 127
+    ASCII | CNTRL, // 0
+    ASCII | CNTRL, // 1
+    ASCII | CNTRL, // 2
+    ASCII | CNTRL, // 3
+    ASCII | CNTRL, // 4
+    ASCII | CNTRL, // 5
+    ASCII | CNTRL, // 6
+    ASCII | CNTRL, // 7
+    ASCII | CNTRL, // 8
+    SPACE | HORIZONTAL | ASCII | BLANK | CNTRL, // 9
+    SPACE | VERTICAL | ASCII | CNTRL, // 10
+    SPACE | VERTICAL | ASCII | CNTRL, // 11
+    SPACE | VERTICAL | ASCII | CNTRL, // 12
+    SPACE | VERTICAL | ASCII | CNTRL, // 13
+    ASCII | CNTRL, // 14
+    ASCII | CNTRL, // 15
+    ASCII | CNTRL, // 16
+    ASCII | CNTRL, // 17
+    ASCII | CNTRL, // 18
+    ASCII | CNTRL, // 19
+    ASCII | CNTRL, // 20
+    ASCII | CNTRL, // 21
+    ASCII | CNTRL, // 22
+    ASCII | CNTRL, // 23
+    ASCII | CNTRL, // 24
+    ASCII | CNTRL, // 25
+    ASCII | CNTRL, // 26
+    ASCII | CNTRL, // 27
+    ASCII | CNTRL, // 28
+    ASCII | CNTRL, // 29
+    ASCII | CNTRL, // 30
+    ASCII | CNTRL, // 31
+    SPACE | HORIZONTAL | ASCII | BLANK | PRINT, // 32
+    ASCII | GRAPH | PRINT | PUNCT, // 33
+    ASCII | GRAPH | PRINT | PUNCT, // 34
+    ASCII | GRAPH | PRINT | PUNCT, // 35
+    ASCII | GRAPH | PRINT | PUNCT, // 36
+    ASCII | GRAPH | PRINT | PUNCT, // 37
+    ASCII | GRAPH | PRINT | PUNCT, // 38
+    ASCII | GRAPH | PRINT | PUNCT, // 39
+    ASCII | GRAPH | PRINT | PUNCT, // 40
+    ASCII | GRAPH | PRINT | PUNCT, // 41
+    ASCII | GRAPH | PRINT | PUNCT, // 42
+    ASCII | GRAPH | PRINT | PUNCT, // 43
+    ASCII | GRAPH | PRINT | PUNCT, // 44
+    ASCII | GRAPH | PRINT | PUNCT, // 45
+    ASCII | GRAPH | PRINT | PUNCT, // 46
+    ASCII | GRAPH | PRINT | PUNCT, // 47
+    DIGIT | WORD | ALNUM | ASCII | GRAPH | PRINT | XDIGIT, // 48
+    DIGIT | WORD | ALNUM | ASCII | GRAPH | PRINT | XDIGIT, // 49
+    DIGIT | WORD | ALNUM | ASCII | GRAPH | PRINT | XDIGIT, // 50
+    DIGIT | WORD | ALNUM | ASCII | GRAPH | PRINT | XDIGIT, // 51
+    DIGIT | WORD | ALNUM | ASCII | GRAPH | PRINT | XDIGIT, // 52
+    DIGIT | WORD | ALNUM | ASCII | GRAPH | PRINT | XDIGIT, // 53
+    DIGIT | WORD | ALNUM | ASCII | GRAPH | PRINT | XDIGIT, // 54
+    DIGIT | WORD | ALNUM | ASCII | GRAPH | PRINT | XDIGIT, // 55
+    DIGIT | WORD | ALNUM | ASCII | GRAPH | PRINT | XDIGIT, // 56
+    DIGIT | WORD | ALNUM | ASCII | GRAPH | PRINT | XDIGIT, // 57
+    ASCII | GRAPH | PRINT | PUNCT, // 58
+    ASCII | GRAPH | PRINT | PUNCT, // 59
+    ASCII | GRAPH | PRINT | PUNCT, // 60
+    ASCII | GRAPH | PRINT | PUNCT, // 61
+    ASCII | GRAPH | PRINT | PUNCT, // 62
+    ASCII | GRAPH | PRINT | PUNCT, // 63
+    ASCII | GRAPH | PRINT | PUNCT, // 64
+    WORD | UPPER | ALPHA | ALNUM | ASCII | GRAPH | PRINT | XDIGIT, // 65
+    WORD | UPPER | ALPHA | ALNUM | ASCII | GRAPH | PRINT | XDIGIT, // 66
+    WORD | UPPER | ALPHA | ALNUM | ASCII | GRAPH | PRINT | XDIGIT, // 67
+    WORD | UPPER | ALPHA | ALNUM | ASCII | GRAPH | PRINT | XDIGIT, // 68
+    WORD | UPPER | ALPHA | ALNUM | ASCII | GRAPH | PRINT | XDIGIT, // 69
+    WORD | UPPER | ALPHA | ALNUM | ASCII | GRAPH | PRINT | XDIGIT, // 70
+    WORD | UPPER | ALPHA | ALNUM | ASCII | GRAPH | PRINT, // 71
+    WORD | UPPER | ALPHA | ALNUM | ASCII | GRAPH | PRINT, // 72
+    WORD | UPPER | ALPHA | ALNUM | ASCII | GRAPH | PRINT, // 73
+    WORD | UPPER | ALPHA | ALNUM | ASCII | GRAPH | PRINT, // 74
+    WORD | UPPER | ALPHA | ALNUM | ASCII | GRAPH | PRINT, // 75
+    WORD | UPPER | ALPHA | ALNUM | ASCII | GRAPH | PRINT, // 76
+    WORD | UPPER | ALPHA | ALNUM | ASCII | GRAPH | PRINT, // 77
+    WORD | UPPER | ALPHA | ALNUM | ASCII | GRAPH | PRINT, // 78
+    WORD | UPPER | ALPHA | ALNUM | ASCII | GRAPH | PRINT, // 79
+    WORD | UPPER | ALPHA | ALNUM | ASCII | GRAPH | PRINT, // 80
+    WORD | UPPER | ALPHA | ALNUM | ASCII | GRAPH | PRINT, // 81
+    WORD | UPPER | ALPHA | ALNUM | ASCII | GRAPH | PRINT, // 82
+    WORD | UPPER | ALPHA | ALNUM | ASCII | GRAPH | PRINT, // 83
+    WORD | UPPER | ALPHA | ALNUM | ASCII | GRAPH | PRINT, // 84
+    WORD | UPPER | ALPHA | ALNUM | ASCII | GRAPH | PRINT, // 85
+    WORD | UPPER | ALPHA | ALNUM | ASCII | GRAPH | PRINT, // 86
+    WORD | UPPER | ALPHA | ALNUM | ASCII | GRAPH | PRINT, // 87
+    WORD | UPPER | ALPHA | ALNUM | ASCII | GRAPH | PRINT, // 88
+    WORD | UPPER | ALPHA | ALNUM | ASCII | GRAPH | PRINT, // 89
+    WORD | UPPER | ALPHA | ALNUM | ASCII | GRAPH | PRINT, // 90
+    ASCII | GRAPH | PRINT | PUNCT, // 91
+    ASCII | GRAPH | PRINT | PUNCT, // 92
+    ASCII | GRAPH | PRINT | PUNCT, // 93
+    ASCII | GRAPH | PRINT | PUNCT, // 94
+    WORD | ASCII | GRAPH | PRINT | PUNCT, // 95
+    ASCII | GRAPH | PRINT | PUNCT, // 96
+    WORD | LOWER | ALPHA | ALNUM | ASCII | GRAPH | PRINT | XDIGIT, // 97
+    WORD | LOWER | ALPHA | ALNUM | ASCII | GRAPH | PRINT | XDIGIT, // 98
+    WORD | LOWER | ALPHA | ALNUM | ASCII | GRAPH | PRINT | XDIGIT, // 99
+    WORD | LOWER | ALPHA | ALNUM | ASCII | GRAPH | PRINT | XDIGIT, // 100
+    WORD | LOWER | ALPHA | ALNUM | ASCII | GRAPH | PRINT | XDIGIT, // 101
+    WORD | LOWER | ALPHA | ALNUM | ASCII | GRAPH | PRINT | XDIGIT, // 102
+    WORD | LOWER | ALPHA | ALNUM | ASCII | GRAPH | PRINT, // 103
+    WORD | LOWER | ALPHA | ALNUM | ASCII | GRAPH | PRINT, // 104
+    WORD | LOWER | ALPHA | ALNUM | ASCII | GRAPH | PRINT, // 105
+    WORD | LOWER | ALPHA | ALNUM | ASCII | GRAPH | PRINT, // 106
+    WORD | LOWER | ALPHA | ALNUM | ASCII | GRAPH | PRINT, // 107
+    WORD | LOWER | ALPHA | ALNUM | ASCII | GRAPH | PRINT, // 108
+    WORD | LOWER | ALPHA | ALNUM | ASCII | GRAPH | PRINT, // 109
+    WORD | LOWER | ALPHA | ALNUM | ASCII | GRAPH | PRINT, // 110
+    WORD | LOWER | ALPHA | ALNUM | ASCII | GRAPH | PRINT, // 111
+    WORD | LOWER | ALPHA | ALNUM | ASCII | GRAPH | PRINT, // 112
+    WORD | LOWER | ALPHA | ALNUM | ASCII | GRAPH | PRINT, // 113
+    WORD | LOWER | ALPHA | ALNUM | ASCII | GRAPH | PRINT, // 114
+    WORD | LOWER | ALPHA | ALNUM | ASCII | GRAPH | PRINT, // 115
+    WORD | LOWER | ALPHA | ALNUM | ASCII | GRAPH | PRINT, // 116
+    WORD | LOWER | ALPHA | ALNUM | ASCII | GRAPH | PRINT, // 117
+    WORD | LOWER | ALPHA | ALNUM | ASCII | GRAPH | PRINT, // 118
+    WORD | LOWER | ALPHA | ALNUM | ASCII | GRAPH | PRINT, // 119
+    WORD | LOWER | ALPHA | ALNUM | ASCII | GRAPH | PRINT, // 120
+    WORD | LOWER | ALPHA | ALNUM | ASCII | GRAPH | PRINT, // 121
+    WORD | LOWER | ALPHA | ALNUM | ASCII | GRAPH | PRINT, // 122
+    ASCII | GRAPH | PRINT | PUNCT, // 123
+    ASCII | GRAPH | PRINT | PUNCT, // 124
+    ASCII | GRAPH | PRINT | PUNCT, // 125
+    ASCII | GRAPH | PRINT | PUNCT, // 126
+    ASCII | CNTRL, // 127
     0, // 128
     0, // 129
     0, // 130

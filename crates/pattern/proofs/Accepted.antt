@@ -9,15 +9,16 @@ use Prim.Native.Nat.{ℕ, zero, suc, _+_, _≤_, _<_}
 use native.Mathlib.Omega.{arith}
 use borrow.Author.Tests.{eqb-false, leb-true, ltb-true, ne-eqb, le-leb, lt-ltb, le-ltb}
 use lib.Dec.{T, eqb, leb, ltb}
-use lib.ListN.{length, drop, length-drop}
-use lib.Seq.{drop-drop}
+use lib.ListN.{length, getD, drop, length-drop}
+use lib.Seq.{getD-drop, drop-drop}
 use Rattle.atoms.specs.declared as declared
 use Rattle.tokens.specs.declared.Options.{Options}
 use Rattle.atoms.specs.declared.Member.{Member}
 use Rattle.tokens.specs.declared.Token.{Token}
-use Rattle.tokens.specs.declared.Token.the-variants.{Finish, Bar, Close, Class, One, Open, Set, Repeat, Bad}
+use Rattle.tokens.specs.declared.Token.the-variants.{Finish, Bar, Close, Class, One, Open, Set, Note, Unclosed, Repeat, Bad}
 use Rattle.tokens.specs.declared.Lexeme.{Lexeme}
 use Rattle.atoms.specs.Fault.{lower}
+use Rattle.atoms.specs.Quote.{opensQuote}
 use Rattle.atoms.specs.Class.{memberAt, joined, membersOf, classOf}
 use Rattle.tokens.specs.Quantifier.{formOf}
 use Rattle.tokens.specs.Token.{lexemeOf}
@@ -28,16 +29,17 @@ use Rattle.regex.proofs.Counted.{above-limit, matches-empty}
 use Rattle.pattern.specs.Nodes.{Syntax}
 use Rattle.pattern.specs.Walk.{Target, nothing, single, repeated, Frame, State, Read, tree, refused, Next, stop, go, groupOf, deepest, targetFault, closing, opening, act, context, next, walk, begin}
 use Rattle.pattern.specs.Read.{longest, judged, readOf, answerOf}
-use Rattle.pattern.specs.Reasons.{row6, row7, row9, row10, row11, row14, memberRow14, ofEnd, Stands, InClass, membersAt, closes, tokenAt, ClassAt, MemberAt, Finished, Reason, Decides}
+use Rattle.pattern.specs.Reasons.{plainly, row6, row7, row9, row10, row11, row12, row14, memberRow14, ofEnd, Stands, InClass, membersAt, markAt, closes, tokenAt, ClassAt, MemberAt, Finished, Reason, Decides}
 use Rattle.pattern.specs.Invariants.{from, follow, ended}
+use Rattle.atoms.proofs.Suffixes.{first}
 use Rattle.tokens.proofs.Lexemes.{lexeme-end}
-use Rattle.atoms.proofs.Ranges.{member-advances, members-end, members-close, members-fault, members-more}
+use Rattle.atoms.proofs.Ranges.{member-advances, members-end, members-mark, members-close, members-fault, members-more}
 use Rattle.pattern.proofs.Base.{either, split, true-not-false, by-lt, by-eq}
 use Rattle.pattern.proofs.Steps.{walk-end, walk-on}
 use Rattle.pattern.proofs.Answers.{accepted-tree}
 use Rattle.pattern.proofs.Lowest.{lowest, both, by-row, AtMost, most6, most7, most9, most10, most11, most14}
 use Rattle.pattern.proofs.Rows.{ownFault, lexeme-fault, memberFault, member-at-fault}
-use Rattle.pattern.proofs.Standing.{step-walk, stands-walk, stands-fits, inside-token, begin-onward, class-onward, class-fits, close-quiet, class-quiet, open-quiet}
+use Rattle.pattern.proofs.Standing.{step-walk, stands-walk, stands-fits, inside-token, begin-onward, class-onward, class-fits, close-quiet, class-quiet, open-quiet, unclosed-row, row-unclosed}
 
 is-T : (b : Bool) → b ≡ true → T b
 is-T true e = tt
@@ -52,7 +54,9 @@ abbrev faultAt : State → List ℕ → ℕ
 faultAt m v = lower (context m (lexemeOf (m .options) v .token)) (lexemeOf (m .options) v .fault)
 
 abbrev tokenFault : State → List ℕ → ℕ
-tokenFault m v = lowest (row6 v) (row7 v) false (row10 (m .target) (lexemeOf (m .options) v .token)) (row11 v) (row14 v)
+tokenFault m v =
+    let q : Bool = m .options .quoted in
+    lowest (plainly q (row6 v)) (plainly q (row7 v)) false (row10 (m .target) (lexemeOf (m .options) v .token)) (plainly q (row11 v)) (plainly q (row14 v))
 
 context-fault : (m : State) (t : Token) → context m t ≡ cond (row10 (m .target) t) 10 0
 context-fault m Finish = refl
@@ -62,6 +66,8 @@ context-fault m Class = refl
 context-fault m (One a) = refl
 context-fault m (Open i) = refl
 context-fault m (Set i) = refl
+context-fault m (Note i) = refl
+context-fault m Unclosed = refl
 context-fault m (Repeat n j) = by-target (m .target)
   where
     by-target : (t : Target) → targetFault t ≡ cond (row10 t (Repeat n j)) 10 0
@@ -70,18 +76,30 @@ context-fault m (Repeat n j) = by-target (m .target)
     by-target repeated = refl
 context-fault m Bad = refl
 
-own-fault : (o : Options) (v : List ℕ) → lexemeOf o v .fault ≡ ownFault v
-unfolding lexemeOf row6 row7 row11 row14 formOf
-own-fault o [] = refl
+no-row : (quoted : Bool) → 0 ≡ ownFault quoted []
+unfolding row6 row7 row11 row14 formOf
+no-row true = refl
+no-row false = refl
+
+own-fault : (o : Options) (v : List ℕ) → lexemeOf o v .fault ≡ ownFault (o .quoted) v
+unfolding lexemeOf
+own-fault o [] = no-row (o .quoted)
 own-fault o (c ∷ v) = lexeme-fault o v c
 
 token-fault : (m : State) (v : List ℕ) → faultAt m v ≡ tokenFault m v
 token-fault m v =
     let t : Token = lexemeOf (m .options) v .token in
+    let q : Bool = m .options .quoted in
     let ten : Bool = row10 (m .target) t in
     ap₂ lower (context-fault m t) (own-fault (m .options) v)
-    ∙ both false false false ten false false (row6 v) (row7 v) false false (row11 v) (row14 v)
-    ∙ ap (λ (b : Bool). lowest (row6 v) (row7 v) false b (row11 v) (row14 v)) (or-false ten)
+    ∙ both false false false ten false false (plainly q (row6 v)) (plainly q (row7 v)) false false (plainly q (row11 v)) (plainly q (row14 v))
+    ∙ ap (λ (b : Bool). lowest (plainly q (row6 v)) (plainly q (row7 v)) false b (plainly q (row11 v)) (plainly q (row14 v))) (or-false ten)
+
+-- the fault of a member or of a range where it stands
+member-rows : (s : List ℕ) (o : Options) (caseless quoted : Bool) (p : ℕ) → MemberAt s o caseless quoted p → memberAt caseless quoted (drop p s) .fault ≡ memberFault caseless quoted (drop p s)
+member-rows s o caseless quoted p M =
+    let long : 0 < length (drop p s) = omega (arith, length-drop p s, M .inside) in
+    member-at-fault caseless quoted (drop p s) long (rw (first s p, getD-drop p s 1 0) (M .unmarked))
 
 -- ---- a refusal has its reason
 
@@ -90,56 +108,58 @@ module _ (s : List ℕ) (o : Options) where
   abbrev Explained : ℕ → ℕ → Type 0
   Explained p f = (f ≡ 0 → ⊥) → Reason s o f p
 
-  member-reason : (p : ℕ) → MemberAt s o p → Explained p (memberAt (drop p s) .fault)
-  member-reason p M =
+  member-reason : (caseless quoted : Bool) (p : ℕ) → MemberAt s o caseless quoted p → Explained p (memberAt caseless quoted (drop p s) .fault)
+  member-reason caseless quoted p M =
       let v : List ℕ = drop p s in
-      let long : 0 < length v = omega (arith, length-drop p s, M .inside) in
-      subst (Explained p) (sym (member-at-fault v long))
-      (by-row (Explained p) (ofEnd row6 v) (ofEnd row7 v) (row9 v) false false (ofEnd memberRow14 v)
-      (λ e z. Reason.member-cut p M (is-T _ e))
-      (λ e z. Reason.member-large p M (is-T _ e))
-      (λ e z. Reason.bad-range p M (is-T _ e))
+      subst (Explained p) (sym (member-rows s o caseless quoted p M))
+      (by-row (Explained p) (ofEnd row6 caseless quoted v) (ofEnd row7 caseless quoted v) (row9 caseless quoted v) false false (ofEnd memberRow14 caseless quoted v)
+      (λ e z. Reason.member-cut p caseless quoted M (is-T _ e))
+      (λ e z. Reason.member-large p caseless quoted M (is-T _ e))
+      (λ e z. Reason.bad-range p caseless quoted M (is-T _ e))
       (λ e. none e)
       (λ e. none e)
-      (λ e z. Reason.member-unsupported p M (is-T _ e))
+      (λ e z. Reason.member-unsupported p caseless quoted M (is-T _ e))
       (λ z. absurd (z refl)))
 
   abbrev ClassExplained : declared.Class.Class → Type 0
   ClassExplained c = Explained (c .place) (c .number)
 
-  module _ (caseless : Bool) (bracket : ℕ) (C : ClassAt s o bracket) (inside : bracket + 1 ≤ length s) where
-    open-reason : (p : ℕ) (b : Bool) → InClass s (bracket + 1) p b → length s ≤ p → Reason s o 8 p
-    open-reason p b i h =
-        let e : length s ≡ p = omega (arith, class-fits s (bracket + 1) p b i inside) in
-        subst (Reason s o 8) e (Reason.class-open p bracket b C i h)
+  module _ (caseless : Bool) (bracket : ℕ) (C : ClassAt s o caseless bracket) (inside : bracket + 1 ≤ length s) where
+    open-reason : (p : ℕ) (b q : Bool) → InClass s caseless (bracket + 1) p b q → length s ≤ p → Reason s o 8 p
+    open-reason p b q i h =
+        let e : length s ≡ p = omega (arith, class-fits caseless s (bracket + 1) p b q i inside) in
+        subst (Reason s o 8) e (Reason.class-open p bracket caseless b q C i h)
 
-    members-reason : (d p : ℕ) (b negated : Bool) (set : List ℕ) → length s ≤ p + d → InClass s (bracket + 1) p b
-        → ClassExplained (membersOf caseless negated b set 0 (drop p s) p)
-    members-reason zero p b negated set h i =
+    members-reason : (d p : ℕ) (b q negated : Bool) (set : List ℕ) → length s ≤ p + d → InClass s caseless (bracket + 1) p b q
+        → ClassExplained (membersOf caseless negated b q set 0 (drop p s) p)
+    members-reason zero p b q negated set h i =
         let end : length s ≤ p = omega arith in
-        subst ClassExplained (sym (members-end caseless negated b set s p end)) (λ z. open-reason p b i end)
-    members-reason (suc d) p b negated set h i =
-        let m : Member = memberAt (drop p s) in
+        subst ClassExplained (sym (members-end caseless negated b q set s p end)) (λ z. open-reason p b q i end)
+    members-reason (suc d) p b q negated set h i =
+        let m : Member = memberAt caseless q (drop p s) in
         ⊎-elim
-        (λ lt. split (closes s p b)
-        (λ e. subst ClassExplained (sym (members-close caseless negated b set s p lt e)) (λ z. absurd (z refl)))
+        (λ lt. split (markAt s p q)
+        (λ k. subst ClassExplained (sym (members-mark caseless negated b q set s p k))
+        (members-reason d (p + 2) b (opensQuote (getD s (p + 1) 0)) negated set (omega arith) (InClass.mark p b q i k)))
+        (λ k. split (closes s p b q)
+        (λ e. subst ClassExplained (sym (members-close caseless negated b q set s p lt k e)) (λ z. absurd (z refl)))
         (λ e. ⊎-elim
         (λ z.
-        let a = member-advances s p m lt refl z in
-        subst ClassExplained (sym (members-more caseless negated b set s p lt m e refl z))
-        (members-reason d (p + m .size) false negated (joined set (m .low) (m .high)) (omega (arith, a .0)) (InClass.onward p b i lt e z)))
+        let a = member-advances s p caseless q m lt refl z in
+        subst ClassExplained (sym (members-more caseless negated b q set s p lt k m e refl z))
+        (members-reason d (p + m .size) false (m .quoted) negated (joined set (m .low) (m .high)) (omega (arith, a .0)) (InClass.onward p b q i lt k e z)))
         (λ z.
-        subst ClassExplained (sym (members-fault caseless negated b set s p lt m e refl z))
-        (member-reason p (record { bracket = bracket; isFirst = b; class = C; stands = i; inside = lt; member = e })))
-        (by-eq (m .fault) 0)))
-        (λ ge. subst ClassExplained (sym (members-end caseless negated b set s p ge)) (λ z. open-reason p b i ge))
+        subst ClassExplained (sym (members-fault caseless negated b q set s p lt k m e refl z))
+        (member-reason caseless q p (record { bracket = bracket; isFirst = b; class = C; stands = i; inside = lt; unmarked = k; member = e })))
+        (by-eq (m .fault) 0))))
+        (λ ge. subst ClassExplained (sym (members-end caseless negated b q set s p ge)) (λ z. open-reason p b q i ge))
         (by-lt p (length s))
 
     class-reason : ClassExplained (classOf caseless (drop (bracket + 1) s) (bracket + 1))
     class-reason =
         let O = begin-onward caseless s (bracket + 1) in
         subst ClassExplained (sym (O .same))
-        (members-reason (length s) (membersAt s (bracket + 1)) true (O .negated) (O .set) (omega arith) InClass.begins)
+        (members-reason (length s) (membersAt s (bracket + 1)) true false (O .negated) (O .set) (omega arith) InClass.begins)
 
   StopExplained : Next → Type 0
   StopExplained (stop number place) = Reason s o number place
@@ -149,8 +169,9 @@ module _ (s : List ℕ) (o : Options) where
     token-reason : Explained at (faultAt m (drop at s))
     token-reason =
         let v : List ℕ = drop at s in
+        let q : Bool = m .options .quoted in
         subst (Explained at) (sym (token-fault m v))
-        (by-row (Explained at) (row6 v) (row7 v) false (row10 (m .target) (tokenAt s at m)) (row11 v) (row14 v)
+        (by-row (Explained at) (plainly q (row6 v)) (plainly q (row7 v)) false (row10 (m .target) (tokenAt s at m)) (plainly q (row11 v)) (plainly q (row14 v))
         (λ e z. Reason.escape-cut at m S (is-T _ e))
         (λ e z. Reason.escape-large at m S (is-T _ e))
         (λ e. none e)
@@ -174,11 +195,15 @@ module _ (s : List ℕ) (o : Options) where
         let inside : at + 1 ≤ length s = omega (arith, inside-token s at m Class e (λ y. let w : _≡_ {A = ℕ} 0 1 = cc in omega arith)) in
         rw (drop-drop 1 at s)
         (either StopExplained (eqb (c .number) 0) (λ z. tt)
-        (λ z. class-reason (m .options .caseless) at (record { state = m; stands = S; token = e }) inside (eqb-false (c .number) 0 z)))
+        (λ z. class-reason (m .options .caseless) at (record { state = m; stands = S; token = e; case = refl }) inside (eqb-false (c .number) 0 z)))
     act-reason size (One a) e = tt
     act-reason size (Open i) e =
         either StopExplained (leb deepest (length (m .stack))) (λ z. Reason.too-deep at m i S e (leb-true deepest (length (m .stack)) z)) (λ z. tt)
     act-reason size (Set i) e = tt
+    act-reason size (Note i) e = tt
+    act-reason size Unclosed e =
+        let p : length s ≡ at + length (drop at s) = omega (arith, stands-fits s o at m S, length-drop at s) in
+        subst (Reason s o 12) p (Reason.comment-open at m S (is-T _ (unclosed-row (m .options) (drop at s) e)))
     act-reason size (Repeat n j) e = tt
     act-reason size Bad e = tt
 
@@ -312,6 +337,14 @@ module _ (s : List ℕ) (o : Options) where
         still-open e [] y = absurd (omega arith)
         still-open e (f ∷ fs) y = (omega arith, e)
 
+    comment-refuses : plainly (m .options .quoted) (row12 (drop at s)) ≡ true → Refuses 12 (length s) whole
+    unfolding act Stops
+    comment-refuses h =
+        let e = row-unclosed (m .options) (drop at s) h in
+        let p : at + length (drop at s) ≡ length s = omega (arith, stands-fits s o at m S, length-drop at s) in
+        stops-refuses 12 (length s) (inside-token s at m Unclosed (e .0) (λ y. let w : _≡_ {A = ℕ} 0 1 = cc in omega arith))
+        (acts 12 (length s) Unclosed (e .0) refl (e .1) (omega arith, p))
+
     class-refuses : (n q : ℕ) → tokenAt s at m ≡ Class → AtMost n (classOf (m .options .caseless) (drop (at + 1) s) (at + 1) .number)
         → classOf (m .options .caseless) (drop (at + 1) s) (at + 1) .place ≡ q → Refuses n q whole
     unfolding act Stops
@@ -322,25 +355,26 @@ module _ (s : List ℕ) (o : Options) where
         (acts n q Class e refl (class-quiet (m .options) (drop at s) e) (rw (drop-drop 1 at s, ne-eqb (c .number) 0 bad) (a .most, p)))
 
   -- a class with a faulty member, and one that is not closed
-  member-refuses : (n at : ℕ) → MemberAt s o at → AtMost n (memberFault (drop at s)) → Refuses n at whole
-  member-refuses n at M a =
+  member-refuses : (caseless quoted : Bool) (n at : ℕ) → MemberAt s o caseless quoted at → AtMost n (memberFault caseless quoted (drop at s)) → Refuses n at whole
+  member-refuses caseless quoted n at M a =
       let C = M .class in
-      let caseless : Bool = C .state .options .caseless in
-      let O = class-onward caseless s (M .bracket + 1) at (M .isFirst) (M .stands) in
-      let m : Member = memberAt (drop at s) in
-      let f : AtMost n (m .fault) = subst (AtMost n) (sym (member-at-fault (drop at s) (omega (arith, length-drop at s, M .inside)))) a in
-      let e = O .same ∙ members-fault caseless (O .negated) (M .isFirst) (O .set) s at (M .inside) m (M .member) refl (λ z. omega (arith, f .some)) in
+      let O = class-onward caseless s (M .bracket + 1) at (M .isFirst) quoted (M .stands) in
+      let m : Member = memberAt caseless quoted (drop at s) in
+      let f : AtMost n (m .fault) = subst (AtMost n) (sym (member-rows s o caseless quoted at M)) a in
+      let e =
+      ap (λ (c : Bool). classOf c (drop (M .bracket + 1) s) (M .bracket + 1)) (C .case)
+      ∙ O .same
+      ∙ members-fault caseless (O .negated) (M .isFirst) quoted (O .set) s at (M .inside) (M .unmarked) m (M .member) refl (λ z. omega (arith, f .some)) in
       class-refuses (M .bracket) (C .state) (C .stands) n at (C .token)
       (subst (AtMost n) (sym (ap (λ (c : declared.Class.Class). c .number) e)) f)
       (ap (λ (c : declared.Class.Class). c .place) e)
 
-  unclosed-refuses : (at bracket : ℕ) (b : Bool) → ClassAt s o bracket → InClass s (bracket + 1) at b → length s ≤ at → Refuses 8 (length s) whole
-  unclosed-refuses at bracket b C i h =
-      let caseless : Bool = C .state .options .caseless in
-      let O = class-onward caseless s (bracket + 1) at b i in
-      let e = O .same ∙ members-end caseless (O .negated) b (O .set) s at h in
+  unclosed-refuses : (at bracket : ℕ) (caseless b q : Bool) → ClassAt s o caseless bracket → InClass s caseless (bracket + 1) at b q → length s ≤ at → Refuses 8 (length s) whole
+  unclosed-refuses at bracket caseless b q C i h =
+      let O = class-onward caseless s (bracket + 1) at b q i in
+      let e = ap (λ (c : Bool). classOf c (drop (bracket + 1) s) (bracket + 1)) (C .case) ∙ O .same ∙ members-end caseless (O .negated) b q (O .set) s at h in
       let inside : bracket < length s = inside-token s bracket (C .state) Class (C .token) (λ y. let w : _≡_ {A = ℕ} 0 1 = cc in omega arith) in
-      let place : at ≡ length s = omega (arith, class-fits s (bracket + 1) at b i (omega arith)) in
+      let place : at ≡ length s = omega (arith, class-fits caseless s (bracket + 1) at b q i (omega arith)) in
       class-refuses bracket (C .state) (C .stands) 8 (length s) (C .token)
       (subst (AtMost 8) (sym (ap (λ (c : declared.Class.Class). c .number) e)) (record { some = omega arith; most = omega arith }))
       (ap (λ (c : declared.Class.Class). c .place) e ∙ place)
@@ -366,20 +400,28 @@ module _ (s : List ℕ) (o : Options) where
   abbrev ten : ℕ → State → Bool
   ten at m = row10 (m .target) (tokenAt s at m)
 
+  -- the rows of the token at a place, and of the member there
+  abbrev own : (List ℕ → Bool) → ℕ → State → Bool
+  own row at m = plainly (m .options .quoted) (row (drop at s))
+
+  abbrev ofMember : (List ℕ → Bool) → Bool → Bool → ℕ → Bool
+  ofMember row c b at = ofEnd row c b (drop at s)
+
   reason-refuses : (n q : ℕ) → Reason s o n q → Refuses n q whole
-  reason-refuses n q (Reason.escape-cut at m S x) = rows-refuse at m S 6 (most6 (row6 (drop at s)) (row7 (drop at s)) false (ten at m) (row11 (drop at s)) (row14 (drop at s)) (true-T _ x))
-  reason-refuses n q (Reason.member-cut at M x) = member-refuses 6 at M (most6 (ofEnd row6 (drop at s)) (ofEnd row7 (drop at s)) (row9 (drop at s)) false false (ofEnd memberRow14 (drop at s)) (true-T _ x))
-  reason-refuses n q (Reason.escape-large at m S x) = rows-refuse at m S 7 (most7 (row6 (drop at s)) (row7 (drop at s)) false (ten at m) (row11 (drop at s)) (row14 (drop at s)) (true-T _ x))
-  reason-refuses n q (Reason.member-large at M x) = member-refuses 7 at M (most7 (ofEnd row6 (drop at s)) (ofEnd row7 (drop at s)) (row9 (drop at s)) false false (ofEnd memberRow14 (drop at s)) (true-T _ x))
-  reason-refuses n q (Reason.class-open at bracket b C i h) = unclosed-refuses at bracket b C i h
-  reason-refuses n q (Reason.bad-range at M x) = member-refuses 9 at M (most9 (ofEnd row6 (drop at s)) (ofEnd row7 (drop at s)) (row9 (drop at s)) false false (ofEnd memberRow14 (drop at s)) (true-T _ x))
-  reason-refuses n q (Reason.nothing-repeated at m S x) = rows-refuse at m S 10 (most10 (row6 (drop at s)) (row7 (drop at s)) false (ten at m) (row11 (drop at s)) (row14 (drop at s)) (true-T _ x))
-  reason-refuses n q (Reason.bad-bounds at m S x) = rows-refuse at m S 11 (most11 (row6 (drop at s)) (row7 (drop at s)) false (ten at m) (row11 (drop at s)) (row14 (drop at s)) (true-T _ x))
+  reason-refuses n q (Reason.escape-cut at m S x) = rows-refuse at m S 6 (most6 (own row6 at m) (own row7 at m) false (ten at m) (own row11 at m) (own row14 at m) (true-T _ x))
+  reason-refuses n q (Reason.member-cut at c b M x) = member-refuses c b 6 at M (most6 (ofMember row6 c b at) (ofMember row7 c b at) (row9 c b (drop at s)) false false (ofMember memberRow14 c b at) (true-T _ x))
+  reason-refuses n q (Reason.escape-large at m S x) = rows-refuse at m S 7 (most7 (own row6 at m) (own row7 at m) false (ten at m) (own row11 at m) (own row14 at m) (true-T _ x))
+  reason-refuses n q (Reason.member-large at c b M x) = member-refuses c b 7 at M (most7 (ofMember row6 c b at) (ofMember row7 c b at) (row9 c b (drop at s)) false false (ofMember memberRow14 c b at) (true-T _ x))
+  reason-refuses n q (Reason.class-open at bracket c b k C i h) = unclosed-refuses at bracket c b k C i h
+  reason-refuses n q (Reason.bad-range at c b M x) = member-refuses c b 9 at M (most9 (ofMember row6 c b at) (ofMember row7 c b at) (row9 c b (drop at s)) false false (ofMember memberRow14 c b at) (true-T _ x))
+  reason-refuses n q (Reason.nothing-repeated at m S x) = rows-refuse at m S 10 (most10 (own row6 at m) (own row7 at m) false (ten at m) (own row11 at m) (own row14 at m) (true-T _ x))
+  reason-refuses n q (Reason.bad-bounds at m S x) = rows-refuse at m S 11 (most11 (own row6 at m) (own row7 at m) false (ten at m) (own row11 at m) (own row14 at m) (true-T _ x))
   reason-refuses n q (Reason.group-open at m S h z) = open-refuses at m S h z
+  reason-refuses n q (Reason.comment-open at m S x) = comment-refuses at m S (true-T _ x)
   reason-refuses n q (Reason.no-group at m S e z) = close-refuses at m S e z
   reason-refuses n q (Reason.too-deep at m i S e h) = deep-refuses at m S i e h
-  reason-refuses n q (Reason.unsupported at m S x) = rows-refuse at m S 14 (most14 (row6 (drop at s)) (row7 (drop at s)) false (ten at m) (row11 (drop at s)) (row14 (drop at s)) (true-T _ x))
-  reason-refuses n q (Reason.member-unsupported at M x) = member-refuses 14 at M (most14 (ofEnd row6 (drop at s)) (ofEnd row7 (drop at s)) (row9 (drop at s)) false false (ofEnd memberRow14 (drop at s)) (true-T _ x))
+  reason-refuses n q (Reason.unsupported at m S x) = rows-refuse at m S 14 (most14 (own row6 at m) (own row7 at m) false (ten at m) (own row11 at m) (own row14 at m) (true-T _ x))
+  reason-refuses n q (Reason.member-unsupported at c b M x) = member-refuses c b 14 at M (most14 (ofMember row6 c b at) (ofMember row7 c b at) (row9 c b (drop at s)) false false (ofMember memberRow14 c b at) (true-T _ x))
   reason-refuses n q (Reason.matches-nothing t F x) = empty-refuses t F x
   reason-refuses n q (Reason.too-many t F x) = many-refuses t F x
 

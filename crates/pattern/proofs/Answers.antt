@@ -12,7 +12,7 @@ use Rattle.tokens.specs.declared.Options.{Options}
 use Rattle.atoms.specs.declared.Atom.{Atom}
 use Rattle.atoms.specs.declared.Atom.the-variants.{Byte, OfKind, NotOfKind, Dot, NotNewline, Start, End}
 use Rattle.tokens.specs.declared.Token.{Token}
-use Rattle.tokens.specs.declared.Token.the-variants.{Finish, Bar, Close, Class, One, Open, Set, Repeat, Bad}
+use Rattle.tokens.specs.declared.Token.the-variants.{Finish, Bar, Close, Class, One, Open, Set, Note, Unclosed, Repeat, Bad}
 use Rattle.tokens.specs.declared.Lexeme.{Lexeme}
 use Rattle.atoms.specs.Fault.{lower}
 use Rattle.atoms.specs.Class.{classOf}
@@ -158,6 +158,8 @@ act-fine at v m size c f Class h r = class-fine at v m h
 act-fine at v m size c f (One a) h r = one-fine at (pred size) m a h
 act-fine at v m size c f (Open o) h r = open-fine at (pred size) m o h
 act-fine at v m size c f (Set o) h r = record { branches = h .branches; items = h .items; frames = h .frames; narrow = omega (arith, h .narrow) }
+act-fine at v m size c f (Note o) h r = record { branches = h .branches; items = h .items; frames = h .frames; narrow = omega (arith, h .narrow) }
+act-fine at v m size c f Unclosed h r = λ z. omega arith
 act-fine at v m size c f (Repeat n j) h r = record {
   branches = h .branches;
   items = repeat-tidy (m .items) n j (h .items) (r .0);

@@ -28,6 +28,10 @@ by-eq m n = split (eqb m n) (λ e. inl (eqb-true m n e)) (λ e. inr (eqb-false m
 pub true-not-false : {A : Type 0} (b : Bool) → b ≡ true → b ≡ false → A
 true-not-false b p q = absurd (let z : _≡_ {A = ℕ} 0 1 = cc in omega arith)
 
+-- a byte that is k is not j
+pub byte-not : (c k j : ℕ) → eqb c k ≡ true → eqb k j ≡ false → eqb c j ≡ false
+byte-not c k j e h = ap (λ (b : ℕ). eqb b j) (eqb-true c k e) ∙ h
+
 -- ---- stores
 
 pub sets-append : (xs ys l : List ℕ) (i : ℕ) → sets l i (xs ++ ys) ≡ sets (sets l i xs) (i + length xs) ys

@@ -13,14 +13,15 @@ use Rattle.tokens.specs.declared.Options.{Options}
 use Rattle.atoms.specs.declared.Part.{Part}
 use Rattle.tokens.specs.declared.Form.{Form}
 use Rattle.tokens.specs.declared.Token.{Token}
-use Rattle.tokens.specs.declared.Token.the-variants.{Finish, Bar, Close, Class, One, Open, Set, Repeat, Bad}
+use Rattle.tokens.specs.declared.Token.the-variants.{Finish, Bar, Close, Class, One, Open, Set, Note, Unclosed, Repeat, Bad}
 use Rattle.tokens.specs.declared.Lexeme.{Lexeme}
 use Rattle.atoms.specs.Number.{cap, numeralOf}
 use Rattle.atoms.specs.Escape.{escapeOf}
 use Rattle.atoms.specs.Fault.{lower}
-use Rattle.tokens.specs.Option.{faulty, withCaseless, withDotAll, lettersOf, openingOf}
+use Rattle.tokens.specs.Option.{faulty, withCaseless, withDotAll, lettersOf, beforeClose, commentOf, openingOf}
 use Rattle.tokens.specs.Quantifier.{noForm, form, bounded, open-ended, bracesOf, formOf, marked, quantifierOf}
-use Rattle.tokens.specs.Token.{escaped, lexemeOf}
+use Rattle.atoms.specs.Quote.{isMark}
+use Rattle.tokens.specs.Token.{escaped, unquotedOf, lexemeOf}
 use Rattle.tokens.proofs.Lengths.{lexeme-takes}
 use Rattle.pattern.proofs.Base.{either}
 
@@ -33,6 +34,8 @@ Right c f Class = f ≡ 0
 Right c f (One a) = f ≡ 0
 Right c f (Open o) = f ≡ 0
 Right c f (Set o) = f ≡ 0
+Right c f (Note o) = f ≡ 0
+Right c f Unclosed = f ≡ 0
 Right c f (Repeat least extra) = (least < cap) × (extra ≤ cap) × ((f ≡ 0) ⊎ (10 ≤ f))
 Right c f Bad = f ≡ 0 → ⊥
 
@@ -60,12 +63,17 @@ letters-right c on any o size (b ∷ v) =
     (λ g. either (RightL c) (eqb b 41) (λ h. either (RightL c) any (λ i. refl) (λ i. wrong))
     (λ h. either (RightL c) (eqb b 58) (λ i. either (RightL c) any (λ j. refl) (λ j. wrong)) (λ i. wrong)))))
 
+comment-right : (c : ℕ) (o : Options) (v : List ℕ) → RightL c (commentOf o v)
+unfolding commentOf
+comment-right c o v = either (RightL c) (ltb (beforeClose v) (length v)) (λ e. refl) (λ e. refl)
+
 opening-right : (c : ℕ) (o : Options) (v : List ℕ) → RightL c (openingOf o v)
 unfolding openingOf
 opening-right c o v =
     either (RightL c) (eqb (getD v 0 0) 42) (λ e. bad-right c 14 (omega arith))
     (λ e. either (RightL c) (eqb (getD v 0 0) 63)
-    (λ f. either (RightL c) (eqb (getD v 1 0) 58) (λ g. refl) (λ g. letters-right c true false o 2 (drop 1 v)))
+    (λ f. either (RightL c) (eqb (getD v 1 0) 58) (λ g. refl)
+    (λ g. either (RightL c) (eqb (getD v 1 0) 35) (λ h. comment-right c o (drop 2 v)) (λ h. letters-right c true false o 2 (drop 1 v))))
     (λ f. refl))
 
 -- a fault that a quantifier can have, or none
@@ -138,9 +146,9 @@ quantifier-right : (c : ℕ) (v : List ℕ) → RightL c (quantifierOf v)
 unfolding quantifierOf
 quantifier-right c v = marked-right c (formOf v) (getD v (formOf v .size) 0) (all-numbers v)
 
-lexeme-right : (o : Options) (c : ℕ) (v : List ℕ) → RightL c (lexemeOf o (c ∷ v))
-unfolding lexemeOf
-lexeme-right o c v =
+unquoted-right : (o : Options) (c : ℕ) (v : List ℕ) → RightL c (unquotedOf o c v)
+unfolding unquotedOf
+unquoted-right o c v =
     either (RightL c) (eqb c 92) (λ e. escaped-right c (escapeOf false v))
     (λ e. either (RightL c) (eqb c 91) (λ f. refl)
     (λ f. either (RightL c) (eqb c 40) (λ g. opening-right c o v)
@@ -150,6 +158,11 @@ lexeme-right o c v =
     (λ j. either (RightL c) (eqb c 94) (λ k. refl)
     (λ k. either (RightL c) (eqb c 36) (λ l. refl)
     (λ l. either (RightL c) (formOf (c ∷ v) .is) (λ n. quantifier-right c (c ∷ v)) (λ n. refl)))))))))
+
+lexeme-right : (o : Options) (c : ℕ) (v : List ℕ) → RightL c (lexemeOf o (c ∷ v))
+unfolding lexemeOf
+lexeme-right o c v =
+    either (RightL c) (isMark (o .quoted) c (getD v 0 0)) (λ e. refl) (λ e. either (RightL c) (o .quoted) (λ f. refl) (λ f. unquoted-right o c v))
 
 -- of a token with byte c in front, where `left` bytes are left of the pattern
 pub record Sound (c left : ℕ) (l : Lexeme) : Type 0 where

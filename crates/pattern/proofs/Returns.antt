@@ -3,6 +3,7 @@
 use mathlib.Core.Path.{_≡_, refl, sym, ap, subst, _∙_}
 use mathlib.Core.Bool.{false}
 use mathlib.Core.List.{List, [], _∷_, _++_}
+use mathlib.Core.Logic.{_⊎_, inl, inr}
 use Prim.Native.Nat.{ℕ, suc, _+_, _*_, _-_, _≤_, _<_}
 use native.Mathlib.Omega.{arith}
 use native.Mathlib.Numerals.{add-one}
@@ -14,7 +15,8 @@ use Rattle.atoms.specs.declared as declared
 use Rattle.tokens.specs.declared.Options.{Options}
 use Rattle.atoms.specs.declared.Atom.{Atom}
 use Rattle.atoms.specs.declared.Atom.the-variants.{Byte, OfKind, NotOfKind, Dot, NotNewline, Start, End}
-use Rattle.tokens.specs.declared.Token.the-variants.{Class, One, Open, Set, Repeat}
+use Rattle.tokens.specs.declared.Token.{Token}
+use Rattle.tokens.specs.declared.Token.the-variants.{Class, One, Open, Set, Note, Unclosed, Repeat}
 use Rattle.tokens.specs.declared.Lexeme.{Lexeme}
 use Rattle.atoms.specs.Class.{classOf}
 use Rattle.atoms.specs.Number.{cap}
@@ -28,7 +30,7 @@ use Rattle.pattern.specs.Invariants.{Tidy, lent, Room, state, from, grou
 use Rattle.pattern.specs.declared.items.Got.{Got}
 use Rattle.pattern.proofs.Trees.{laid-tree, both-laid, one-laid, number-extra, extra-number}
 use Rattle.pattern.proofs.Sets.{words-item, Closed, class-closed}
-use Rattle.pattern.proofs.Steps.{lex, At, last, at-token, Ends, Other, from-one, from-set, from-open, from-deep, from-class, from-fault, from-repeat, from-repeat-fault, free-other, branch-bar, branch-last, group-closes, group-open, past, from-end}
+use Rattle.pattern.proofs.Steps.{lex, At, last, at-token, Ends, Other, from-one, from-set, from-note, from-unclosed, from-open, from-deep, from-class, from-fault, from-repeat, from-repeat-fault, free-other, branch-bar, branch-last, group-closes, group-open, past, from-end}
 
 -- ---- a refusal stands
 
@@ -102,6 +104,10 @@ module _ (s a b c : List ℕ) (at n : ℕ) (g h : Got) (x y : Syntax) (lx rx ly 
 
 -- ---- a sequence
 
+-- an option setting or a note, and the options after it
+abbrev pub Passes : Token → Options → Type 0
+Passes t i = (t ≡ Set i) ⊎ (t ≡ Note i)
+
 module _ (s a : List ℕ) (at d : ℕ) (o : Options) (n : ℕ) (room : Room s a at n 1) where
   pub seq-end : (b : List ℕ) (g : Got) (l : Lexeme) → lexemeOf o (drop at s) ≡ l → Ends (l .token) → g ≡ got at (n + 1) n o → b ≡ set a n (word 0 0 0 0) → SaidSequence s a b at d o n g
   unfolding onward width lay Tidy
@@ -110,16 +116,31 @@ module _ (s a : List ℕ) (at d : ℕ) (o : Options) (n : ℕ) (room : Room s a 
       (leaf-said (SaysSequence s at d o (got at (n + 1) n o)) s a at n 1 o room (omega arith) empty (word 0 0 0 0) refl refl tt
       (λ st al it z. from-end s at st al it o (l .fault) (l .size) (l .token) e u))
 
-  pub seq-set : (b : List ℕ) (g : Got) (l : Lexeme) (i : Options) → lexemeOf o (drop at s) ≡ l → l .token ≡ Set i → SaidSequence s a b (at + l .size) d i n g → SaidSequence s a b at d o n g
-  seq-set b g l i e t S = record {
-    says = λ st al it z. from-set s at st al it o (l .fault) (l .size) i (at-token s at o l (Set i) e t refl) ∙ S .says st al it z;
-    reads = λ z. weaker s a b (at + l .size) at n _ _ _ g (omega arith) (omega arith) (S .reads z);
-  }
+  -- a setting or a note stands here, and the branch goes on after it with the options i
+  module _ (l : Lexeme) (i : Options) (e : lexemeOf o (drop at s) ≡ l) where
+    pass-over : Passes (l .token) i → (st : List Frame) (al it : List Syntax) → from s at (state st al it o nothing) ≡ from s (at + l .size) (state st al it i nothing)
+    pass-over (inl t) st al it = from-set s at st al it o (l .fault) (l .size) i (at-token s at o l (Set i) e t refl)
+    pass-over (inr t) st al it = from-note s at st al it o (l .fault) (l .size) i nothing (at-token s at o l (Note i) e t refl)
 
-  pub seq-set-inside : (l : Lexeme) (i : Options) → lexemeOf o (drop at s) ≡ l → l .token ≡ Set i → (1 ≤ l .size) × (at + l .size ≤ length s)
-  seq-set-inside l i e t =
-      let h = at-token s at o l (Set i) e t refl in
-      (h .sound .some (h .sound .right), omega (arith, h .sound .fits, h .inside))
+    pub seq-pass : (b : List ℕ) (g : Got) → Passes (l .token) i → SaidSequence s a b (at + l .size) d i n g → SaidSequence s a b at d o n g
+    seq-pass b g t S = record {
+      says = λ st al it z. pass-over t st al it ∙ S .says st al it z;
+      reads = λ z. weaker s a b (at + l .size) at n _ _ _ g (omega arith) (omega arith) (S .reads z);
+    }
+
+    pub seq-pass-inside : Passes (l .token) i → (1 ≤ l .size) × (at + l .size ≤ length s)
+    seq-pass-inside (inl t) =
+        let h = at-token s at o l (Set i) e t refl in
+        (h .sound .some (h .sound .right), omega (arith, h .sound .fits, h .inside))
+    seq-pass-inside (inr t) =
+        let h = at-token s at o l (Note i) e t refl in
+        (h .sound .some (h .sound .right), omega (arith, h .sound .fits, h .inside))
+
+  pub seq-unclosed : (g : Got) (l : Lexeme) → lexemeOf o (drop at s) ≡ l → l .token ≡ Unclosed → g ≡ refusal 12 (length s) → SaidSequence s a a at d o n g
+  seq-unclosed g l e t eg =
+      let bad : _≡_ {A = ℕ} 12 0 → ⊥ = λ z. omega arith in
+      said-no (SaysSequence s at d o g) s a a at n _ g (bad-refusal g 12 (length s) eg bad)
+      (λ st al it z. refuses g 12 (length s) _ _ eg bad (from-unclosed s at st al it o (l .fault) (l .size) (at-token s at o l Unclosed e t refl)))
 
   pub seq-item-no : (b : List ℕ) (g : Got) → SaidItem s a b at d o n g → (g .fault ≡ 0 → ⊥) → SaidSequence s a b at d o n g
   seq-item-no b g I bad = said-no (SaysSequence s at d o g) s a b at n _ g bad (λ st al it z. I .says st al it z ∙ on-both g _ _ bad)
@@ -129,7 +150,7 @@ module _ (s a : List ℕ) (at d : ℕ) (o : Options) (n : ℕ) (room : Room s a 
       let X = I .reads z in
       (record { inside = X .inside; space = omega (arith, X .space, X .on, X .inside, room .space); long = same-long s a b _ n _ _ g X (room .long) }, omega (arith, X .on))
 
-  module _ (b c : List ℕ) (g h : Got) (I : SaidItem s a b at d o n g) (yes-g : g .fault ≡ 0) (S : SaidSequence s b c (g .at) d o (g .n) h) where
+  module _ (b c : List ℕ) (g h : Got) (I : SaidItem s a b at d o n g) (yes-g : g .fault ≡ 0) (S : SaidSequence s b c (g .at) d (g .options) (g .n) h) where
     pub seq-rest-no : (h .fault ≡ 0 → ⊥) → SaidSequence s a c at d o n h
     seq-rest-no bad =
         said-no (SaysSequence s at d o h) s a c at n _ h bad
@@ -310,6 +331,33 @@ module _ (s a : List ℕ) (at : ℕ) (o : Options) (n root : ℕ) (room : Room s
         says = λ st al it. free-other s at st al (treeAt a root ∷ it) o (rw here t);
         reads = λ z. R;
       })
+
+  module _ (i : Options) (t : l .token ≡ Note i) where
+    N-at : At s at o (lex (l .fault) (l .size) (Note i))
+    N-at = at-token s at o l (Note i) here t refl
+
+    pub note-inside : (1 ≤ l .size) × (at + l .size ≤ length s)
+    note-inside = (N-at .sound .some (N-at .sound .right), omega (arith, N-at .sound .fits, N-at .inside))
+
+    pub note-room : Room s a (at + l .size) n 0
+    note-room = let f = note-inside in record { inside = f .1; space = omega (arith, room .space); long = room .long }
+
+    pub quantified-note : (b : List ℕ) (g : Got) → SaidQuantified s a b (at + l .size) i n root g → SaidQuantified s a b at o n root g
+    quantified-note b g Q = λ a0 n0 lo r R.
+        let f = note-inside in
+        let q = Q a0 n0 lo r (record {
+          words = R .words;
+          tidy = R .tidy;
+          count = R .count;
+          top = R .top;
+          on = omega (arith, R .on);
+          inside = f .1;
+          space = omega (arith, R .space);
+        }) in
+        record {
+          says = λ st al it. from-note s at st al (treeAt a root ∷ it) o (l .fault) (l .size) i single N-at ∙ q .says st al it;
+          reads = q .reads;
+        }
 
   module _ (m j : ℕ) (t : l .token ≡ Repeat m j) where
     R-at : At s at o (lex (l .fault) (l .size) (Repeat m j))

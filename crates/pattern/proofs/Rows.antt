@@ -8,25 +8,45 @@ use native.Mathlib.Omega.{arith}
 use borrow.Author.Tests.{eqb-true, leb-true, leb-false, ltb-true, ltb-false, ne-eqb, lt-ltb, le-ltb, le-leb, lt-leb}
 use lib.Dec.{eqb, leb, ltb, leb·suc-suc, leb·suc-zero}
 use lib.ListN.{length, getD, drop, length-drop}
-use lib.Seq.{getD-drop}
+use lib.Seq.{getD-drop, drop-drop}
 use Rattle.kinds.specs.Kind.{within, isLower, isUpper, isDigit}
 use Rattle.kinds.specs.declared.Kind.the-variants.{Digit, Word, Space, Horizontal, Vertical}
 use Rattle.atoms.specs.declared.Atom.{Atom}
 use Rattle.atoms.specs.declared.Atom.the-variants.{Byte, OfKind, NotOfKind, NotNewline, Start, End}
 use Rattle.atoms.specs.declared.Part.{Part}
+use Rattle.atoms.specs.declared.Gap.{Gap}
+use Rattle.atoms.specs.declared.Joint.{Joint}
 use Rattle.tokens.specs.declared.Options.{Options}
 use Rattle.tokens.specs.declared.Form.{Form}
+use Rattle.tokens.specs.declared.Token.the-variants.{One, Note}
 use Rattle.tokens.specs.declared.Lexeme.{Lexeme}
 use Rattle.atoms.specs.Number.{cap, some, digits, valueFrom, numeralOf}
 use Rattle.atoms.specs.Escape.{good, bracedOf, shortOf, controlOf, typeOf, namedOf, placedOf, hexOf, octalOf, isAlnum, escapeOf}
 use Rattle.atoms.specs.Fault.{lower}
-use Rattle.atoms.specs.Class.{opensName, memberOf, rangeFault, isType, byteOf, ranges, memberAt}
-use Rattle.tokens.specs.Option.{withCaseless, withDotAll, lettersOf, openingOf}
+use Rattle.atoms.specs.Quote.{isMark, opensQuote, wider, gapOf}
+use Rattle.atoms.specs.Name.{Name, names, begins, nameAmong, nameOf}
+use Rattle.atoms.specs.Class.{bracketOf, memberOf, rangeFault, isType, byteOf, jointOf, memberAt}
+use Rattle.tokens.specs.Option.{plain, withCaseless, withDotAll, lettersOf, beforeClose, commentOf, openingOf}
 use Rattle.tokens.specs.Quantifier.{bounded, open-ended, bracesOf, formOf, marked, quantifierOf}
-use Rattle.tokens.specs.Token.{escaped, lexemeOf}
-use Rattle.pattern.specs.Reasons.{among, braced, cutShort, tooLarge, unknown, optionBytes, hyphens, setting, badOpening, decimalOf, badBounds, row6, row7, row9, row11, row14, memberRow14, faultyEnd, isRange, farEnd, ofEnd}
-use Rattle.pattern.proofs.Base.{either, split, true-not-false}
+use Rattle.tokens.specs.Token.{escaped, withQuoted, unquotedOf, lexemeOf}
+use Rattle.atoms.proofs.Sizes.{joint-within}
+use Rattle.pattern.specs.Reasons.{among, braced, cutShort, tooLarge, unknown, optionBytes, hyphens, setting, badOpening, decimalOf, badBounds, row6, row7, row9, row11, row14, plainly, jointAt, farEnd, isNamed, unknownName, memberRow14, faultyEnd, ofEnd}
+use Rattle.pattern.proofs.Base.{either, split, true-not-false, byte-not}
 use Rattle.pattern.proofs.Lowest.{lowest, both}
+
+-- ---- truth values
+
+or-left : (a b : Bool) → (a || b) ≡ false → a ≡ false
+or-left true b e = e
+or-left false b e = refl
+
+or-right : (a b : Bool) → (a || b) ≡ false → b ≡ false
+or-right true b e = true-not-false true refl e
+or-right false b e = e
+
+and-left : (a : Bool) → (a && true) ≡ false → a ≡ false
+and-left true e = e
+and-left false e = refl
 
 -- ---- escapes
 
@@ -129,15 +149,16 @@ unfolding escapeOf isAlnum isLower isUpper isDigit cutShort tooLarge unknown
 control-fault true v = control-part v ∙ control-bool (eqb (getD v 0 0) 123) (within 32 126 (getD v 0 0))
 control-fault false v = control-part v ∙ control-bool (eqb (getD v 0 0) 123) (within 32 126 (getD v 0 0))
 
--- a letter or digit other than those
-other-fault : (i : Bool) (c : ℕ) (v : List ℕ) → isAlnum c ≡ true → eqb c 120 ≡ false → eqb c 111 ≡ false → eqb c 48 ≡ false → eqb c 99 ≡ false → EscapeFault i (c ∷ v)
+-- a letter or digit other than those, and other than the marks of quotes
+other-fault : (i : Bool) (c : ℕ) (v : List ℕ) → isAlnum c ≡ true → eqb c 120 ≡ false → eqb c 111 ≡ false → eqb c 48 ≡ false → eqb c 99 ≡ false
+    → eqb c 69 ≡ false → eqb c 81 ≡ false → EscapeFault i (c ∷ v)
 unfolding escapeOf placedOf cutShort tooLarge unknown
-other-fault true c v e x o z k =
-    rw (e, x, o, z, k, and-false (eqb (getD v 0 0) 123))
+other-fault true c v e x o z k m n =
+    rw (e, x, o, z, k, m, n, and-false (eqb (getD v 0 0) 123))
     (named-fault c _ _ (type-fault c _ _ (two (eqb c 98) (Byte 8) _ 14 refl))
     ∙ chain-among c (97 ∷ 101 ∷ 102 ∷ 110 ∷ 114 ∷ 116 ∷ 100 ∷ 119 ∷ 115 ∷ 104 ∷ 118 ∷ 68 ∷ 87 ∷ 83 ∷ 72 ∷ 86 ∷ 98 ∷ []))
-other-fault false c v e x o z k =
-    rw (e, x, o, z, k, and-false (eqb (getD v 0 0) 123))
+other-fault false c v e x o z k m n =
+    rw (e, x, o, z, k, m, n, and-false (eqb (getD v 0 0) 123))
     (named-fault c _ _ (type-fault c _ _ (two (eqb c 78) NotNewline _ _ (two (eqb c 65) Start _ _ (two (eqb c 122) End _ 14 refl))))
     ∙ chain-among c (97 ∷ 101 ∷ 102 ∷ 110 ∷ 114 ∷ 116 ∷ 100 ∷ 119 ∷ 115 ∷ 104 ∷ 118 ∷ 68 ∷ 87 ∷ 83 ∷ 72 ∷ 86 ∷ 78 ∷ 65 ∷ 122 ∷ []))
 
@@ -162,16 +183,22 @@ unfolding escapeOf cutShort tooLarge unknown
 byte-fault i c v e =
     rw (e, not-byte c 99 alnum-99 e, not-byte c 120 alnum-120 e, not-byte c 111 alnum-111 e, and-false (eqb (getD v 0 0) 123))
 
-pub escape-fault : (i : Bool) (v : List ℕ) → EscapeFault i v
-unfolding escapeOf cutShort
-escape-fault i [] = refl
-escape-fault i (c ∷ v) =
+-- a `\` that begins no mark of a quote
+abbrev Unmarked : List ℕ → Type 0
+Unmarked v = isMark false 92 (getD v 0 0) ≡ false
+
+escape-fault : (i : Bool) (v : List ℕ) → Unmarked v → EscapeFault i v
+unfolding escapeOf cutShort isMark
+escape-fault i [] u = refl
+escape-fault i (c ∷ v) u =
+    let m : eqb c 69 ≡ false = or-left (eqb c 69) (eqb c 81 && true) u in
+    let n : eqb c 81 ≡ false = and-left (eqb c 81) (or-right (eqb c 69) (eqb c 81 && true) u) in
     split (isAlnum c)
     (λ e.
     split (eqb c 120) (λ x. at-byte 120 x (hex-fault i v))
     (λ x. split (eqb c 111) (λ o. at-byte 111 o (octal-fault i v))
     (λ o. split (eqb c 48) (λ z. at-byte 48 z (zero-fault i v))
-    (λ z. split (eqb c 99) (λ k. at-byte 99 k (control-fault i v)) (λ k. other-fault i c v e x o z k)))))
+    (λ z. split (eqb c 99) (λ k. at-byte 99 k (control-fault i v)) (λ k. other-fault i c v e x o z k m n)))))
     (λ e. byte-fault i c v e)
   where
     at-byte : (k : ℕ) → eqb c k ≡ true → EscapeFault i (k ∷ v) → EscapeFault i (c ∷ v)
@@ -256,12 +283,17 @@ flip : (b : Bool) → _≡_ {A = ℕ} (cond b 0 14) (cond (not b) 14 0)
 flip true = refl
 flip false = refl
 
+comment-fault : (o : Options) (v : List ℕ) → commentOf o v .fault ≡ 0
+unfolding commentOf
+comment-fault o v = split (ltb (beforeClose v) (length v)) (λ e. rw e) (λ e. rw e)
+
 pub opening-fault : (o : Options) (v : List ℕ) → openingOf o v .fault ≡ cond (badOpening v) 14 0
 unfolding openingOf badOpening
 opening-fault o v =
     split (eqb (getD v 0 0) 42) (λ e. rw e)
     (λ e. rw e (split (eqb (getD v 0 0) 63)
-    (λ f. rw f (split (eqb (getD v 1 0) 58) (λ g. rw g) (λ g. rw g (letters-fault (drop 1 v) true false o 2 ∙ flip (setting (drop 1 v))))))
+    (λ f. rw f (split (eqb (getD v 1 0) 58) (λ g. rw g)
+    (λ g. rw g (split (eqb (getD v 1 0) 35) (λ h. rw h (comment-fault o (drop 2 v))) (λ h. rw h (letters-fault (drop 1 v) true false o 2 ∙ flip (setting (drop 1 v))))))))
     (λ f. rw f)))
 
 -- ---- quantifiers
@@ -315,10 +347,6 @@ braces-fault v =
     (λ g. rw g (split (some (digits 10 v)) (λ h. rw h (λ z. open-fault (3 + (k + j)) (decimalOf v))) (λ h. rw h (λ z. true-not-false false z refl))))))
     (λ f. rw f (λ z. true-not-false false z refl))))
 
--- a byte that is k is not j
-byte-not : (c k j : ℕ) → eqb c k ≡ true → eqb k j ≡ false → eqb c j ≡ false
-byte-not c k j e h = ap (λ (b : ℕ). eqb b j) (eqb-true c k e) ∙ h
-
 -- a form that is one, by its first byte
 form-fault : (c : ℕ) (v : List ℕ) → formOf (c ∷ v) .is ≡ true → formOf (c ∷ v) .fault ≡ cond (eqb c 123 && badBounds v) 11 0
 unfolding formOf
@@ -349,54 +377,56 @@ quantifier-fault c v e =
 
 -- ---- one token outside a class
 
--- the fault of the token at the front of v by itself, by its rows
-abbrev pub ownFault : List ℕ → ℕ
-ownFault v = lowest (row6 v) (row7 v) false false (row11 v) (row14 v)
+-- the fault of the token at the front of v by itself, by its rows, where a quote is open or not
+abbrev pub ownFault : Bool → List ℕ → ℕ
+ownFault quoted v =
+    lowest (plainly quoted (row6 v)) (plainly quoted (row7 v)) false false (plainly quoted (row11 v)) (plainly quoted (row14 v))
 
+-- of a token outside a quote
 abbrev LexemeFault : Options → List ℕ → ℕ → Type 0
-LexemeFault o v c = lexemeOf o (c ∷ v) .fault ≡ ownFault (c ∷ v)
+LexemeFault o v c = unquotedOf o c v .fault ≡ ownFault false (c ∷ v)
 
 escaped-fault : (p : Part) → escaped p .fault ≡ fault p
 unfolding escaped
 escaped-fault p = split (eqb (p .fault) 0) (λ e. rw e (sym (eqb-true (p .fault) 0 e))) (λ e. rw e)
 
 module _ (o : Options) (v : List ℕ) where
-  escape-token : LexemeFault o v 92
-  unfolding lexemeOf formOf row6 row7 row11 row14
-  escape-token = escaped-fault (escapeOf false v) ∙ escape-fault false v ∙ sym (rw (or-false (unknown false v)))
+  escape-token : Unmarked v → LexemeFault o v 92
+  unfolding unquotedOf formOf row6 row7 row11 row14
+  escape-token u = escaped-fault (escapeOf false v) ∙ escape-fault false v u ∙ sym (rw (or-false (unknown false v)))
 
   opening-token : LexemeFault o v 40
-  unfolding lexemeOf formOf row6 row7 row11 row14
+  unfolding unquotedOf formOf row6 row7 row11 row14
   opening-token = opening-fault o v ∙ sym (rw (or-false (badOpening v)))
 
   class-token : LexemeFault o v 91
-  unfolding lexemeOf formOf row6 row7 row11 row14
+  unfolding unquotedOf formOf row6 row7 row11 row14
   class-token = refl
 
   close-token : LexemeFault o v 41
-  unfolding lexemeOf formOf row6 row7 row11 row14
+  unfolding unquotedOf formOf row6 row7 row11 row14
   close-token = refl
 
   bar-token : LexemeFault o v 124
-  unfolding lexemeOf formOf row6 row7 row11 row14
+  unfolding unquotedOf formOf row6 row7 row11 row14
   bar-token = refl
 
   dot-token : LexemeFault o v 46
-  unfolding lexemeOf formOf row6 row7 row11 row14
+  unfolding unquotedOf formOf row6 row7 row11 row14
   dot-token = refl
 
   start-token : LexemeFault o v 94
-  unfolding lexemeOf formOf row6 row7 row11 row14
+  unfolding unquotedOf formOf row6 row7 row11 row14
   start-token = refl
 
   end-token : LexemeFault o v 36
-  unfolding lexemeOf formOf row6 row7 row11 row14
+  unfolding unquotedOf formOf row6 row7 row11 row14
   end-token = refl
 
-  pub lexeme-fault : (c : ℕ) → LexemeFault o v c
-  unfolding lexemeOf row6 row7 row11 row14
-  lexeme-fault c =
-      split (eqb c 92) (λ e. at-byte 92 e escape-token)
+  unquoted-fault : (c : ℕ) → isMark false c (getD v 0 0) ≡ false → LexemeFault o v c
+  unfolding unquotedOf row6 row7 row11 row14
+  unquoted-fault c u =
+      split (eqb c 92) (λ e. at-byte 92 e (escape-token (rw (eqb-true c 92 e) at u)))
       (λ e. split (eqb c 91) (λ f. at-byte 91 f class-token)
       (λ f. split (eqb c 40) (λ g. at-byte 40 g opening-token)
       (λ g. split (eqb c 41) (λ h. at-byte 41 h close-token)
@@ -410,43 +440,96 @@ module _ (o : Options) (v : List ℕ) where
       at-byte : (k : ℕ) → eqb c k ≡ true → LexemeFault o v k → LexemeFault o v c
       at-byte k e h = subst (LexemeFault o v) (sym (eqb-true c k e)) h
 
+-- a quote's mark has no row
+letter-e : (w : List ℕ) → ownFault false (92 ∷ 69 ∷ w) ≡ 0
+unfolding row6 row7 row11 row14 cutShort tooLarge unknown isAlnum isLower isUpper isDigit formOf
+letter-e w = rw (and-false (eqb (getD w 0 0) 123))
+
+letter-q : (w : List ℕ) → ownFault false (92 ∷ 81 ∷ w) ≡ 0
+unfolding row6 row7 row11 row14 cutShort tooLarge unknown isAlnum isLower isUpper isDigit formOf
+letter-q w = rw (and-false (eqb (getD w 0 0) 123))
+
+mark-rows : (c : ℕ) (v : List ℕ) → isMark false c (getD v 0 0) ≡ true → ownFault false (c ∷ v) ≡ 0
+unfolding isMark
+mark-rows c v e =
+    let a = and-eq-true-iff (eqb c 92) (eqb (getD v 0 0) 69 || (eqb (getD v 0 0) 81 && true)) .0 e in
+    subst (λ (k : ℕ). ownFault false (k ∷ v) ≡ 0) (sym (eqb-true c 92 (a .0))) (by-letter v (a .1))
+  where
+    by-letter : (w : List ℕ) → (eqb (getD w 0 0) 69 || (eqb (getD w 0 0) 81 && true)) ≡ true → ownFault false (92 ∷ w) ≡ 0
+    by-letter [] h = true-not-false false h refl
+    by-letter (d ∷ w) h =
+        split (eqb d 69) (λ f. subst (λ (k : ℕ). ownFault false (92 ∷ k ∷ w) ≡ 0) (sym (eqb-true d 69 f)) (letter-e w))
+        (λ f. split (eqb d 81) (λ g. subst (λ (k : ℕ). ownFault false (92 ∷ k ∷ w) ≡ 0) (sym (eqb-true d 81 g)) (letter-q w)) (λ g. true-not-false false (rw (f, g) at h) refl))
+
+pub lexeme-fault : (o : Options) (v : List ℕ) (c : ℕ) → lexemeOf o (c ∷ v) .fault ≡ ownFault (o .quoted) (c ∷ v)
+unfolding lexemeOf
+lexeme-fault o v c = by-quote (o .quoted)
+  where
+    by-quote : (q : Bool)
+        → (cond (isMark q c (getD v 0 0)) (plain 2 (Note (withQuoted (opensQuote (getD v 0 0)) o))) (cond q (plain 1 (One (Byte c))) (unquotedOf o c v))) .fault
+        ≡ ownFault q (c ∷ v)
+    by-quote true = split (isMark true c (getD v 0 0)) (λ f. rw f) (λ f. rw f)
+    by-quote false = split (isMark false c (getD v 0 0)) (λ f. rw f (sym (mark-rows c v f))) (λ f. rw f (unquoted-fault o v c f))
+
 -- ---- one member or range of a class
 
+-- the names that stand at the front
+among-fault : (ns : List Name) (caseless negated : Bool) (lead : ℕ) (v : List ℕ) → fault (nameAmong ns caseless negated lead v) ≡ cond (not (isNamed ns v)) 14 0
+unfolding nameAmong isNamed
+among-fault [] caseless negated lead v = refl
+among-fault (n ∷ ns) caseless negated lead v = split (begins (n .text) v) (λ e. rw e) (λ e. rw e (among-fault ns caseless negated lead v))
+
+bracket-fault : (caseless : Bool) (v : List ℕ) → fault (bracketOf caseless v) ≡ cond (unknownName v) 14 0
+unfolding bracketOf nameOf unknownName
+bracket-fault caseless v =
+    split (eqb (getD v 0 0) 58)
+    (λ e. rw (e, getD-drop 1 v 0 0)
+    (split (eqb (getD v 1 0) 94)
+    (λ f. rw (f, drop-drop 1 1 v) (among-fault names caseless true 3 (drop 2 v)))
+    (λ f. rw f (among-fault names caseless false 2 (drop 1 v)))))
+    (λ e. rw e (split (eqb (getD v 0 0) 46 || eqb (getD v 0 0) 61) (λ f. rw f) (λ f. rw f)))
+
 -- the fault of a member, or of one end of a range, by its rows
-abbrev endFault : List ℕ → ℕ
-endFault v = lowest (row6 v) (row7 v) false false false (memberRow14 v)
+abbrev endFault : Bool → List ℕ → ℕ
+endFault quoted v = lowest (plainly quoted (row6 v)) (plainly quoted (row7 v)) false false false (plainly quoted (memberRow14 v))
 
-abbrev MemberFault : List ℕ → ℕ → Type 0
-MemberFault v c = fault (memberOf (c ∷ v)) ≡ endFault (c ∷ v)
+-- of one outside a quote
+abbrev MemberFault : Bool → List ℕ → ℕ → Type 0
+MemberFault caseless v c = fault (memberOf caseless false (c ∷ v)) ≡ endFault false (c ∷ v)
 
-member-escape : (v : List ℕ) → MemberFault v 92
-unfolding memberOf row6 row7 memberRow14
-member-escape v = escape-fault true v ∙ sym (rw (or-false (unknown true v)))
+module _ (caseless : Bool) (v : List ℕ) where
+  member-escape : Unmarked v → MemberFault caseless v 92
+  unfolding memberOf row6 row7 memberRow14
+  member-escape u = escape-fault true v u ∙ sym (rw (or-false (unknown true v)))
 
-member-name : (v : List ℕ) → MemberFault v 91
-unfolding memberOf row6 row7 memberRow14
-member-name v = split (opensName (getD v 0 0)) (λ e. rw e) (λ e. rw e)
+  member-name : MemberFault caseless v 91
+  unfolding memberOf row6 row7 memberRow14
+  member-name = bracket-fault caseless v
 
-member-fault : (v : List ℕ) (c : ℕ) → MemberFault v c
-unfolding memberOf row6 row7 memberRow14
-member-fault v c =
-    split (eqb c 92) (λ e. at-byte 92 e (member-escape v))
-    (λ e. split (eqb c 91) (λ f. at-byte 91 f (member-name v)) (λ f. rw (e, f)))
-  where
-    at-byte : (k : ℕ) → eqb c k ≡ true → MemberFault v k → MemberFault v c
-    at-byte k e h = subst (MemberFault v) (sym (eqb-true c k e)) h
+  member-fault : (c : ℕ) → isMark false c (getD v 0 0) ≡ false → MemberFault caseless v c
+  unfolding memberOf row6 row7 memberRow14
+  member-fault c u =
+      split (eqb c 92) (λ e. at-byte 92 e (member-escape (rw (eqb-true c 92 e) at u)))
+      (λ e. split (eqb c 91) (λ f. at-byte 91 f member-name) (λ f. rw (e, f)))
+    where
+      at-byte : (k : ℕ) → eqb c k ≡ true → MemberFault caseless v k → MemberFault caseless v c
+      at-byte k e h = subst (MemberFault caseless v) (sym (eqb-true c k e)) h
+
+-- no quote's mark stands at the front
+abbrev pub NoMark : Bool → List ℕ → Type 0
+NoMark quoted v = isMark quoted (getD v 0 0) (getD v 1 0) ≡ false
 
 -- the same of any bytes but none
-end-fault : (v : List ℕ) → 0 < length v → fault (memberOf v) ≡ endFault v
-end-fault [] h = absurd (omega arith)
-end-fault (c ∷ v) h = member-fault v c
-
-abbrev pub memberFault : List ℕ → ℕ
-memberFault v = lowest (ofEnd row6 v) (ofEnd row7 v) (row9 v) false false (ofEnd memberRow14 v)
+end-fault : (caseless quoted : Bool) (v : List ℕ) → 0 < length v → NoMark quoted v → fault (memberOf caseless quoted v) ≡ endFault quoted v
+unfolding memberOf
+end-fault caseless quoted [] h u = absurd (omega arith)
+end-fault caseless true (c ∷ v) h u = refl
+end-fault caseless false (c ∷ v) h u = member-fault caseless v c u
 
 -- an end without a fault, by its rows
-end-clean : (v : List ℕ) → 0 < length v → eqb (fault (memberOf v)) 0 ≡ not (faultyEnd v)
-end-clean v h = ap (λ (f : ℕ). eqb f 0) (end-fault v h) ∙ by-rows (row6 v) (row7 v) (memberRow14 v)
+end-clean : (caseless quoted : Bool) (v : List ℕ) → 0 < length v → NoMark quoted v → eqb (fault (memberOf caseless quoted v)) 0 ≡ not (faultyEnd quoted v)
+end-clean caseless quoted v h u =
+    ap (λ (f : ℕ). eqb f 0) (end-fault caseless quoted v h u) ∙ by-rows (plainly quoted (row6 v)) (plainly quoted (row7 v)) (plainly quoted (memberRow14 v))
   where
     by-rows : (a b d : Bool) → eqb (lowest a b false false false d) 0 ≡ not (a || (b || d))
     by-rows true b d = refl
@@ -473,11 +556,45 @@ only-cut false true d e = absurd (omega arith)
 only-cut false false true e = absurd (omega arith)
 only-cut false false false e = absurd (omega arith)
 
-ranges-long : (w : List ℕ) → ranges w ≡ true → 1 < length w
-unfolding ranges
-ranges-long w e =
-    let a = and-eq-true-iff (eqb (getD w 0 0) 45) (ltb 1 (length w) && not (eqb (getD w 1 0) 93)) .0 e in
-    ltb-true 1 (length w) (and-eq-true-iff (ltb 1 (length w)) (not (eqb (getD w 1 0) 93)) .0 (a .1) .0)
+-- after the marks at the front no mark stands
+abbrev Done : List ℕ → Gap → Type 0
+Done v g = isMark (g .quoted) (getD v (g .size) 0) (getD v (g .size + 1) 0) ≡ false
+
+wider-done : (c d : ℕ) (v : List ℕ) (g : Gap) → Done v g → Done (c ∷ d ∷ v) (wider g)
+wider-done c d v g h =
+    let p : 2 + g .size + 1 ≡ suc (suc (g .size + 1)) = omega arith in
+    let q : 2 + g .size ≡ suc (suc (g .size)) = omega arith in
+    rw (p, q) h
+
+one-done : (quoted : Bool) (c : ℕ) → isMark quoted c 0 ≡ false
+unfolding isMark
+one-done quoted c = and-false (eqb c 92)
+
+none-done : (quoted : Bool) → isMark quoted 0 0 ≡ false
+unfolding isMark
+none-done quoted = refl
+
+gap-done : (quoted : Bool) (v : List ℕ) → Done v (gapOf quoted v)
+unfolding gapOf
+gap-done quoted [] = none-done quoted
+gap-done quoted (c ∷ []) = one-done quoted c
+gap-done quoted (c ∷ d ∷ v) =
+    either (Done (c ∷ d ∷ v)) (isMark quoted c d) (λ e. wider-done c d v (gapOf (opensQuote d) v) (gap-done (opensQuote d) v)) (λ e. e)
+
+-- nor where the second end of a range stands
+far-unmarked : (caseless quoted : Bool) (v : List ℕ) → NoMark (jointAt caseless quoted v .quoted) (farEnd caseless quoted v)
+unfolding jointOf
+far-unmarked caseless quoted v =
+    let k : ℕ = memberOf caseless quoted v .size in
+    let w : List ℕ = drop k v in
+    let g : Gap = gapOf quoted w in
+    let u : List ℕ = drop (g .size + 1) w in
+    let h : Gap = gapOf false u in
+    let n : ℕ = g .size + (1 + h .size) in
+    let further : g .size + 1 + h .size ≡ n = omega arith in
+    let same : drop (k + n) v ≡ drop (h .size) u = sym (drop-drop n k v) ∙ sym (drop-drop (h .size) (g .size + 1) w ∙ ap (λ (i : ℕ). drop i w) further) in
+    let zero : h .size + 0 ≡ h .size = omega arith in
+    rw (same, getD-drop (h .size) u 0 0, getD-drop (h .size) u 1 0, zero) (gap-done false u)
 
 -- the faults of two ends, and of the two as a range
 range-both : (a b d x y z t : Bool)
@@ -486,20 +603,28 @@ range-both a b d x y z t =
     rw (both x y false false false z false false t false false false)
     (both a b false false false d (x || false) (y || false) t false false (z || false) ∙ rw (or-false x, or-false y, or-false z))
 
-pub member-at-fault : (v : List ℕ) → 0 < length v → memberAt v .fault ≡ memberFault v
+-- the fault of a member or of a range, by the rows
+abbrev pub memberFault : (caseless quoted : Bool) → List ℕ → ℕ
+memberFault caseless quoted v =
+    lowest (ofEnd row6 caseless quoted v) (ofEnd row7 caseless quoted v) (row9 caseless quoted v) false false (ofEnd memberRow14 caseless quoted v)
+
+pub member-at-fault : (caseless quoted : Bool) (v : List ℕ) → 0 < length v → NoMark quoted v → memberAt caseless quoted v .fault ≡ memberFault caseless quoted v
 unfolding memberAt row9
-member-at-fault v h =
-    let m : Part = memberOf v in
-    let n : Part = memberOf (farEnd v) in
-    let r : Bool = isRange v in
+member-at-fault caseless quoted v h u =
+    let m : Part = memberOf caseless quoted v in
+    let j : Joint = jointAt caseless quoted v in
+    let w : List ℕ = farEnd caseless quoted v in
+    let n : Part = memberOf caseless (j .quoted) w in
+    let first : fault m ≡ endFault quoted v = end-fault caseless quoted v h u in
     split (eqb (m .fault) 6)
     (λ e.
     let z : m .fault ≡ 6 = eqb-true (m .fault) 6 e in
-    rw (e, only-cut (row6 v) (row7 v) (memberRow14 v) (sym (end-fault v h) ∙ z)) z)
-    (λ e. rw e (split r
+    rw (e, only-cut (plainly quoted (row6 v)) (plainly quoted (row7 v)) (plainly quoted (memberRow14 v)) (sym first ∙ z)) z)
+    (λ e. rw e (split (j .is)
     (λ f.
-    let l : 0 < length (farEnd v) = omega (arith, ranges-long (drop (m .size) v) f, length-drop (m .size) v, length-drop (m .size + 1) v) in
+    let l : 0 < length w = omega (arith, joint-within quoted (drop (m .size) v) f, length-drop (m .size) v, length-drop (m .size + j .size) v) in
+    let t = far-unmarked caseless quoted v in
     rw f
-    (ap₂ lower (end-fault v h) (ap₂ lower (end-fault (farEnd v) l) (range-fault m n _ _ (end-clean v h) (end-clean (farEnd v) l)))
-    ∙ range-both (row6 v) (row7 v) (memberRow14 v) (row6 (farEnd v)) (row7 (farEnd v)) (memberRow14 (farEnd v)) (badRange m n (not (faultyEnd v)) (not (faultyEnd (farEnd v))))))
-    (λ f. rw (f, or-false (row6 v), or-false (row7 v), or-false (memberRow14 v)) (end-fault v h))))
+    (ap₂ lower first (ap₂ lower (end-fault caseless (j .quoted) w l t) (range-fault m n _ _ (end-clean caseless quoted v h u) (end-clean caseless (j .quoted) w l t)))
+    ∙ range-both (plainly quoted (row6 v)) (plainly quoted (row7 v)) (plainly quoted (memberRow14 v)) (plainly (j .quoted) (row6 w)) (plainly (j .quoted) (row7 w)) (plainly (j .quoted) (memberRow14 w)) (badRange m n (not (faultyEnd quoted v)) (not (faultyEnd (j .quoted) w)))))
+    (λ f. rw (f, or-false (plainly quoted (row6 v)), or-false (plainly quoted (row7 v)), or-false (plainly quoted (memberRow14 v))) first)))

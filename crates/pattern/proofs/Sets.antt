@@ -1,7 +1,7 @@
 -- The sets of items: four 64-bit words each, since every operation makes its result by `setOf`; and where a class ends, by induction on the bytes
 -- after its bracket. Assumes nothing.
 use mathlib.Core.Path.{_≡_}
-use mathlib.Core.Bool.{Bool, true, false, cond, not, _&&_}
+use mathlib.Core.Bool.{Bool, true, false, cond, not, _&&_, _||_, and-eq-true-iff}
 use mathlib.Core.List.{List, [], _∷_}
 use Prim.Native.Nat.{ℕ, zero, suc, pred, _+_, _≤_, _<_}
 use native.Mathlib.Omega.{arith}
@@ -14,12 +14,14 @@ use Rattle.kinds.specs.Case.{caseClosed}
 use Rattle.atoms.specs.declared.Atom.{Atom}
 use Rattle.atoms.specs.declared.Atom.the-variants.{Byte, OfKind, NotOfKind, Dot, NotNewline, Start, End}
 use Rattle.atoms.specs.declared.Class.{Class}
+use Rattle.atoms.specs.declared.Gap.{Gap}
 use Rattle.atoms.specs.declared.Member.{Member}
 use Rattle.tokens.specs.declared.Options.{Options}
 use Rattle.atoms.specs.Class.{memberAt, joined, settled, membersOf, classOf}
+use Rattle.atoms.specs.Quote.{isMark, opensQuote, gapOf}
 use Rattle.tokens.specs.Token.{itemSet}
 use Rattle.atoms.proofs.Suffixes.{inside}
-use Rattle.pattern.proofs.Base.{split}
+use Rattle.pattern.proofs.Base.{either}
 
 words-cond : (b : Bool) (s t : List ℕ) → Words s → Words t → Words (cond b s t)
 words-cond true s t v w = v
@@ -71,31 +73,38 @@ pub record Closed (v : List ℕ) (at : ℕ) (c : Class) : Type 0 where
   pub inside : c .place ≤ at + length v
   pub words : Words (c .set)
 
-members-closed : (caseless negated first : Bool) (s : List ℕ) (skip : ℕ) (v : List ℕ) (at : ℕ) → Words s
-    → membersOf caseless negated first s skip v at .number ≡ 0 → Closed v at (membersOf caseless negated first s skip v at)
-unfolding membersOf
-members-closed caseless negated first s skip [] at w = λ e. absurd (omega arith)
-members-closed caseless negated first s (suc k) (c ∷ v) at w = λ e.
-    let r = members-closed caseless negated first s k v (at + 1) w e in
-    record { on = omega (arith, r .on); inside = omega (arith, r .inside); words = r .words }
-members-closed caseless negated first s zero (c ∷ v) at w =
-    let m : Member = memberAt (c ∷ v) in
-    let t : List ℕ = joined s (m .low) (m .high) in
-    let ih : membersOf caseless negated false t (pred (m .size)) v (at + 1) .number ≡ 0 → Closed v (at + 1) (membersOf caseless negated false t (pred (m .size)) v (at + 1)) = members-closed caseless negated false t (pred (m .size)) v (at + 1) (words-joined s (m .low) (m .high) w) in
-    split (eqb c 93 && not first)
-    (λ e. rw e (λ z. record { on = omega arith; inside = omega arith; words = words-settled caseless negated s w }))
-    (λ e. rw e (split (eqb (m .fault) 0)
-    (λ f. rw f (λ z. let r = ih z in record { on = omega (arith, r .on); inside = omega (arith, r .inside); words = r .words }))
-    (λ f. rw f (λ z. absurd (eqb-false (m .fault) 0 f z)))))
+later : (c : ℕ) (v : List ℕ) (at : ℕ) (d : Class) → Closed v (at + 1) d → Closed (c ∷ v) at d
+later c v at d r = record { on = omega (arith, r .on); inside = omega (arith, r .inside); words = r .words }
 
-pub class-closed : (caseless : Bool) (v : List ℕ) (at : ℕ) → classOf caseless v at .number ≡ 0 → Closed v at (classOf caseless v at)
+-- a class that has no number, or is read
+abbrev Reads : List ℕ → ℕ → Class → Type 0
+Reads v at d = d .number ≡ 0 → Closed v at d
+
+members-closed : (caseless negated first quoted : Bool) (s : List ℕ) (skip : ℕ) (v : List ℕ) (at : ℕ) → Words s → Reads v at (membersOf caseless negated first quoted s skip v at)
+unfolding membersOf
+members-closed caseless negated first quoted s skip [] at w = λ e. absurd (omega arith)
+members-closed caseless negated first quoted s (suc k) (c ∷ v) at w = λ e. later c v at _ (members-closed caseless negated first quoted s k v (at + 1) w e)
+members-closed caseless negated first quoted s zero (c ∷ v) at w =
+    let m : Member = memberAt caseless quoted (c ∷ v) in
+    let t : List ℕ = joined s (m .low) (m .high) in
+    either (Reads (c ∷ v) at) (isMark quoted c (getD v 0 0))
+    (λ d e. later c v at _ (members-closed caseless negated first (opensQuote (getD v 0 0)) s 1 v (at + 1) w e))
+    (λ d. either (Reads (c ∷ v) at) (eqb c 93 && not (first || quoted))
+    (λ e z. record { on = omega arith; inside = omega arith; words = words-settled caseless negated s w })
+    (λ e. either (Reads (c ∷ v) at) (eqb (m .fault) 0)
+    (λ f z. later c v at _ (members-closed caseless negated false (m .quoted) t (pred (m .size)) v (at + 1) (words-joined s (m .low) (m .high) w) z))
+    (λ f z. absurd (eqb-false (m .fault) 0 f z))))
+
+pub class-closed : (caseless : Bool) (v : List ℕ) (at : ℕ) → Reads v at (classOf caseless v at)
 unfolding classOf
 class-closed caseless v at =
-    split (eqb (getD v 0 0) 94)
+    let g : Gap = gapOf false v in
+    let n : ℕ = g .size + 1 in
+    either (Reads v at) (eqb (getD v (g .size) 0) 94 && not (g .quoted))
     (λ e.
-    let l : 0 < length v = inside v 0 (λ z. omega (arith, eqb-true (getD v 0 0) 94 e)) in
-    rw e
-    (λ z.
-    let r = members-closed caseless true true emptySet 0 (drop 1 v) (at + 1) words-empty z in
-    record { on = omega (arith, r .on); inside = omega (arith, r .inside, length-drop 1 v); words = r .words }))
-    (λ e. rw e (λ z. members-closed caseless false true emptySet 0 v at words-empty z))
+    let b = eqb-true (getD v (g .size) 0) 94 (and-eq-true-iff (eqb (getD v (g .size) 0) 94) (not (g .quoted)) .0 e .0) in
+    let l : g .size < length v = inside v (g .size) (λ z. omega arith) in
+    λ z.
+    let r = members-closed caseless true true false emptySet 0 (drop n v) (at + n) words-empty z in
+    record { on = omega (arith, r .on); inside = omega (arith, r .inside, length-drop n v); words = r .words })
+    (λ e. members-closed caseless false true false emptySet 0 v at words-empty)

@@ -1,38 +1,40 @@
 -- Where tokens and members stand: the walk from the pattern's start is the walk from there, a class is what its members from there on make of it, no place
 -- is past the pattern's end, and a token that opens or closes something has no fault of its own. Assumes nothing.
 use mathlib.Core.Path.{_≡_, refl, sym, ap, _∙_}
-use mathlib.Core.Bool.{Bool, true, false, cond}
+use mathlib.Core.Bool.{Bool, true, false, cond, not, _&&_, and-eq-true-iff}
 use mathlib.Core.List.{List, [], _∷_}
 use mathlib.Core.Logic.{⊎-elim}
-use Prim.Native.Nat.{ℕ, _+_, _≤_, _<_}
+use Prim.Native.Nat.{ℕ, suc, _+_, _≤_, _<_}
 use native.Mathlib.Omega.{arith}
-use borrow.Author.Tests.{eqb-true}
-use lib.Dec.{eqb, leb}
+use borrow.Author.Tests.{eqb-true, eqb-false, eq-eqb, ne-eqb, ltb-true, ltb-false, lt-ltb, le-ltb}
+use lib.Dec.{eqb, leb, ltb}
 use lib.ListN.{length, getD, drop, length-drop}
 use lib.Seq.{drop-drop}
 use Rattle.tokens.specs.declared.Options.{Options}
+use Rattle.atoms.specs.declared.Gap.{Gap}
 use Rattle.atoms.specs.declared.Member.{Member}
+use Rattle.atoms.specs.declared.Atom.the-variants.{Byte}
 use Rattle.atoms.specs.declared.Part.{Part}
 use Rattle.tokens.specs.declared.Form.{Form}
 use Rattle.tokens.specs.declared.Token.{Token}
-use Rattle.tokens.specs.declared.Token.the-variants.{Finish, Bar, Close, Class, One, Open, Set, Repeat, Bad}
+use Rattle.tokens.specs.declared.Token.the-variants.{Finish, Bar, Close, Class, One, Open, Set, Note, Unclosed, Repeat, Bad}
 use Rattle.tokens.specs.declared.Lexeme.{Lexeme}
 use Rattle.atoms.specs.Fault.{lower}
+use Rattle.atoms.specs.Quote.{isMark, gapOf}
 use Rattle.atoms.specs.Class.{memberAt, joined, membersOf, classOf}
-use Rattle.tokens.specs.Option.{withCaseless, withDotAll, lettersOf, openingOf}
+use Rattle.tokens.specs.Option.{plain, withCaseless, withDotAll, lettersOf, beforeClose, commentOf, openingOf}
 use Rattle.tokens.specs.Quantifier.{formOf, marked, quantifierOf}
-use Rattle.tokens.specs.Token.{escaped, lexemeOf}
+use Rattle.tokens.specs.Token.{escaped, unquotedOf, lexemeOf}
 use Rattle.sets.specs.Set.{emptySet}
 use Rattle.pattern.specs.Nodes.{Syntax}
 use Rattle.pattern.specs.Walk.{Frame, State, Next, stop, go, groupOf, deepest, closing, opening, act, context, next, walk, begin}
-use Rattle.pattern.specs.Reasons.{Stands, InClass, membersAt, tokenAt}
+use Rattle.pattern.specs.Reasons.{among, openComment, plainly, row12, Stands, InClass, membersAt, tokenAt}
 use Rattle.pattern.specs.Invariants.{from, follow}
-use Rattle.atoms.proofs.Suffixes.{first}
 use Rattle.atoms.proofs.Sizes.{byte-within}
 use Rattle.tokens.proofs.Lengths.{lexeme-fits}
 use Rattle.tokens.proofs.Lexemes.{lexeme-end}
-use Rattle.atoms.proofs.Ranges.{member-advances, members-more}
-use Rattle.pattern.proofs.Base.{either, split, by-lt}
+use Rattle.atoms.proofs.Ranges.{mark-inside, member-advances, members-mark, members-more}
+use Rattle.pattern.proofs.Base.{either, split, by-lt, true-not-false, byte-not}
 use Rattle.pattern.proofs.Sets.{class-closed}
 use Rattle.pattern.proofs.Steps.{walk-on, walk-skip}
 
@@ -63,6 +65,8 @@ act-fits at v m size Class h k =
 act-fits at v m size (One a) h k = omega arith
 act-fits at v m size (Open i) h k = either (FitsIn (length v)) (leb deepest (length (m .stack))) (λ e. tt) (λ e. omega arith)
 act-fits at v m size (Set i) h k = omega arith
+act-fits at v m size (Note i) h k = omega arith
+act-fits at v m size Unclosed h k = tt
 act-fits at v m size (Repeat n j) h k = omega arith
 act-fits at v m size Bad h k = h
 
@@ -100,89 +104,133 @@ inside-token s at m t e h =
 
 module _ (caseless : Bool) (s : List ℕ) (from : ℕ) where
   -- where a member stands, the class is what the members from there on make of it
-  pub record Onward (p : ℕ) (isFirst : Bool) : Type 0 where
+  pub record Onward (p : ℕ) (isFirst quoted : Bool) : Type 0 where
     pub negated : Bool
     pub set : List ℕ
-    pub same : classOf caseless (drop from s) from ≡ membersOf caseless negated isFirst set 0 (drop p s) p
+    pub same : classOf caseless (drop from s) from ≡ membersOf caseless negated isFirst quoted set 0 (drop p s) p
 
-  pub begin-onward : Onward (membersAt s from) true
+  pub begin-onward : Onward (membersAt s from) true false
   unfolding classOf
   begin-onward =
-      split (eqb (getD s from 0) 94)
-      (λ e. rw e (record { negated = true; set = emptySet; same = rw (first s from, e, drop-drop 1 from s) }))
-      (λ e. rw e (record { negated = false; set = emptySet; same = rw (first s from, e) }))
+      let g : Gap = gapOf false (drop from s) in
+      split (eqb (getD (drop from s) (g .size) 0) 94 && not (g .quoted))
+      (λ e. rw e (record { negated = true; set = emptySet; same = rw (e, drop-drop (g .size + 1) from s) }))
+      (λ e. rw e (record { negated = false; set = emptySet; same = rw e }))
 
-  pub class-onward : (p : ℕ) (isFirst : Bool) → InClass s from p isFirst → Onward p isFirst
-  class-onward p isFirst InClass.begins = begin-onward
-  class-onward p isFirst (InClass.onward at b i l c f) =
-      let m : Member = memberAt (drop at s) in
-      let O = class-onward at b i in
-      record { negated = O .negated; set = joined (O .set) (m .low) (m .high); same = O .same ∙ members-more caseless (O .negated) b (O .set) s at l m c refl f }
+  pub class-onward : (p : ℕ) (isFirst quoted : Bool) → InClass s caseless from p isFirst quoted → Onward p isFirst quoted
+  class-onward p isFirst quoted InClass.begins = begin-onward
+  class-onward p isFirst quoted (InClass.mark at b q i k) =
+      let O = class-onward at b q i in
+      record { negated = O .negated; set = O .set; same = O .same ∙ members-mark caseless (O .negated) b q (O .set) s at k }
+  class-onward p isFirst quoted (InClass.onward at b q i l k c f) =
+      let m : Member = memberAt caseless q (drop at s) in
+      let O = class-onward at b q i in
+      record {
+        negated = O .negated;
+        set = joined (O .set) (m .low) (m .high);
+        same = O .same ∙ members-more caseless (O .negated) b q (O .set) s at l k m c refl f;
+      }
 
-module _ (s : List ℕ) (from : ℕ) where
   begin-fits : from ≤ length s → membersAt s from ≤ length s
   begin-fits h =
-      either (λ (p : ℕ). p ≤ length s) (eqb (getD s from 0) 94) (λ e. omega (arith, byte-within s from 93 e)) (λ e. h)
+      let v : List ℕ = drop from s in
+      let g : Gap = gapOf false v in
+      either (λ (p : ℕ). p ≤ length s) (eqb (getD v (g .size) 0) 94 && not (g .quoted))
+      (λ e. omega (arith, byte-within v (g .size) 93 (and-eq-true-iff (eqb (getD v (g .size) 0) 94) (not (g .quoted)) .0 e .0), length-drop from s))
+      (λ e. h)
 
-  pub class-fits : (p : ℕ) (isFirst : Bool) → InClass s from p isFirst → from ≤ length s → p ≤ length s
-  class-fits p isFirst InClass.begins h = begin-fits h
-  class-fits p isFirst (InClass.onward at b i l c f) h = member-advances s at (memberAt (drop at s)) l refl f .1
+  pub class-fits : (p : ℕ) (isFirst quoted : Bool) → InClass s caseless from p isFirst quoted → from ≤ length s → p ≤ length s
+  class-fits p isFirst quoted InClass.begins h = begin-fits h
+  class-fits p isFirst quoted (InClass.mark at b q i k) h = mark-inside s at q k
+  class-fits p isFirst quoted (InClass.onward at b q i l k c f) h = member-advances s at caseless q (memberAt caseless q (drop at s)) l refl f .1
 
--- ---- tokens without a fault of their own
+-- ---- tokens without a fault of their own, and open comments
 
-Quiet : Token → ℕ → Type 0
-Quiet Finish f = Unit {0}
-Quiet Bar f = Unit {0}
-Quiet Close f = f ≡ 0
-Quiet Class f = f ≡ 0
-Quiet (One a) f = Unit {0}
-Quiet (Open i) f = f ≡ 0
-Quiet (Set i) f = Unit {0}
-Quiet (Repeat n j) f = Unit {0}
-Quiet Bad f = Unit {0}
+-- a comment is closed where a `)` is among the bytes after `(?#`
+comment-closes : (v : List ℕ) → ltb (beforeClose v) (length v) ≡ among 41 v
+unfolding beforeClose
+comment-closes [] = refl
+comment-closes (c ∷ v) =
+    split (eqb c 41)
+    (λ e. rw (e, eq-eqb 41 c (sym (eqb-true c 41 e)), lt-ltb 0 (suc (length v)) (omega arith)))
+    (λ e. rw (e, ne-eqb 41 c (λ z. eqb-false c 41 e (sym z)), ← comment-closes v)
+    (split (ltb (beforeClose v) (length v))
+    (λ f. rw (f, lt-ltb (suc (beforeClose v)) (suc (length v)) (omega (arith, ltb-true (beforeClose v) (length v) f))))
+    (λ f. rw (f, le-ltb (suc (beforeClose v)) (suc (length v)) (omega (arith, ltb-false (beforeClose v) (length v) f))))))
 
-abbrev QuietLexeme : Lexeme → Type 0
-QuietLexeme l = Quiet (l .token) (l .fault)
+-- tokens that have no fault, and P for an open comment
+Quiet : Type 0 → Token → ℕ → Type 0
+Quiet P Finish f = Unit {0}
+Quiet P Bar f = Unit {0}
+Quiet P Close f = f ≡ 0
+Quiet P Class f = f ≡ 0
+Quiet P (One a) f = Unit {0}
+Quiet P (Open i) f = f ≡ 0
+Quiet P (Set i) f = Unit {0}
+Quiet P (Note i) f = Unit {0}
+Quiet P Unclosed f = P
+Quiet P (Repeat n j) f = Unit {0}
+Quiet P Bad f = Unit {0}
 
-escaped-quiet : (p : Part) → QuietLexeme (escaped p)
-unfolding escaped Quiet
-escaped-quiet p = either QuietLexeme (eqb (p .fault) 0) (λ e. tt) (λ e. tt)
+module _ (P : Type 0) where
+  abbrev QuietLexeme : Lexeme → Type 0
+  QuietLexeme l = Quiet P (l .token) (l .fault)
 
-letters-quiet : (v : List ℕ) (on any : Bool) (o : Options) (size : ℕ) → QuietLexeme (lettersOf on any o size v)
-unfolding lettersOf Quiet
-letters-quiet [] on any o size = tt
-letters-quiet (c ∷ v) on any o size =
-    either QuietLexeme (eqb c 105) (λ e. letters-quiet v on true (withCaseless on o) (size + 1))
-    (λ e. either QuietLexeme (eqb c 115) (λ f. letters-quiet v on true (withDotAll on o) (size + 1))
-    (λ f. either QuietLexeme (eqb c 45) (λ g. either QuietLexeme on (λ h. letters-quiet v false any o (size + 1)) (λ h. tt))
-    (λ g. either QuietLexeme (eqb c 41) (λ h. either QuietLexeme any (λ i. tt) (λ i. tt))
-    (λ h. either QuietLexeme (eqb c 58) (λ i. either QuietLexeme any (λ j. refl) (λ j. tt)) (λ i. tt)))))
+  escaped-quiet : (p : Part) → QuietLexeme (escaped p)
+  unfolding escaped Quiet
+  escaped-quiet p = either QuietLexeme (eqb (p .fault) 0) (λ e. tt) (λ e. tt)
 
-opening-quiet : (o : Options) (v : List ℕ) → QuietLexeme (openingOf o v)
-unfolding openingOf Quiet
-opening-quiet o v =
-    either QuietLexeme (eqb (getD v 0 0) 42) (λ e. tt)
-    (λ e. either QuietLexeme (eqb (getD v 0 0) 63)
-    (λ f. either QuietLexeme (eqb (getD v 1 0) 58) (λ g. refl) (λ g. letters-quiet (drop 1 v) true false o 2))
-    (λ f. refl))
+  letters-quiet : (v : List ℕ) (on any : Bool) (o : Options) (size : ℕ) → QuietLexeme (lettersOf on any o size v)
+  unfolding lettersOf Quiet
+  letters-quiet [] on any o size = tt
+  letters-quiet (c ∷ v) on any o size =
+      either QuietLexeme (eqb c 105) (λ e. letters-quiet v on true (withCaseless on o) (size + 1))
+      (λ e. either QuietLexeme (eqb c 115) (λ f. letters-quiet v on true (withDotAll on o) (size + 1))
+      (λ f. either QuietLexeme (eqb c 45) (λ g. either QuietLexeme on (λ h. letters-quiet v false any o (size + 1)) (λ h. tt))
+      (λ g. either QuietLexeme (eqb c 41) (λ h. either QuietLexeme any (λ i. tt) (λ i. tt))
+      (λ h. either QuietLexeme (eqb c 58) (λ i. either QuietLexeme any (λ j. refl) (λ j. tt)) (λ i. tt)))))
 
-marked-quiet : (q : Form) (m : ℕ) → QuietLexeme (marked q m)
-unfolding marked Quiet
-marked-quiet q m = either QuietLexeme (eqb (lower (q .fault) (cond (eqb m 43) 14 0)) 0) (λ e. tt) (λ e. tt)
+  comment-quiet : (o : Options) (v : List ℕ) → (among 41 v ≡ false → P) → QuietLexeme (commentOf o v)
+  unfolding commentOf Quiet
+  comment-quiet o v h = either QuietLexeme (ltb (beforeClose v) (length v)) (λ e. tt) (λ e. h (sym (comment-closes v) ∙ e))
 
-lexeme-quiet : (o : Options) (v : List ℕ) → QuietLexeme (lexemeOf o v)
-unfolding lexemeOf quantifierOf Quiet
+  opening-quiet : (o : Options) (v : List ℕ) → (openComment v ≡ true → P) → QuietLexeme (openingOf o v)
+  unfolding openingOf openComment Quiet
+  opening-quiet o v h =
+      either QuietLexeme (eqb (getD v 0 0) 42) (λ e. tt)
+      (λ e. either QuietLexeme (eqb (getD v 0 0) 63)
+      (λ f. either QuietLexeme (eqb (getD v 1 0) 58) (λ g. refl)
+      (λ g. either QuietLexeme (eqb (getD v 1 0) 35) (λ k. comment-quiet o (drop 2 v) (λ z. h (rw (f, k, z)))) (λ k. letters-quiet (drop 1 v) true false o 2)))
+      (λ f. refl))
+
+  marked-quiet : (q : Form) (m : ℕ) → QuietLexeme (marked q m)
+  unfolding marked Quiet
+  marked-quiet q m = either QuietLexeme (eqb (lower (q .fault) (cond (eqb m 43) 14 0)) 0) (λ e. tt) (λ e. tt)
+
+  unquoted-quiet : (o : Options) (c : ℕ) (v : List ℕ) → (row12 (c ∷ v) ≡ true → P) → QuietLexeme (unquotedOf o c v)
+  unfolding unquotedOf quantifierOf row12 Quiet
+  unquoted-quiet o c v h =
+      either QuietLexeme (eqb c 92) (λ e. escaped-quiet _)
+      (λ e. either QuietLexeme (eqb c 91) (λ e. refl)
+      (λ e. either QuietLexeme (eqb c 40) (λ e. opening-quiet o v (λ z. h (rw (e, z))))
+      (λ e. either QuietLexeme (eqb c 41) (λ e. refl)
+      (λ e. either QuietLexeme (eqb c 124) (λ e. tt)
+      (λ e. either QuietLexeme (eqb c 46) (λ e. tt)
+      (λ e. either QuietLexeme (eqb c 94) (λ e. tt)
+      (λ e. either QuietLexeme (eqb c 36) (λ e. tt)
+      (λ e. either QuietLexeme (formOf (c ∷ v) .is) (λ e. marked-quiet (formOf (c ∷ v)) _) (λ e. tt)))))))))
+
+-- an open comment stands where no quote is open, and its row holds
+abbrev OpenComment : Options → List ℕ → Type 0
+OpenComment o v = plainly (o .quoted) (row12 v) ≡ true
+
+lexeme-quiet : (o : Options) (v : List ℕ) → QuietLexeme (OpenComment o v) (lexemeOf o v)
+unfolding lexemeOf Quiet
 lexeme-quiet o [] = tt
 lexeme-quiet o (c ∷ v) =
-    either QuietLexeme (eqb c 92) (λ e. escaped-quiet _)
-    (λ e. either QuietLexeme (eqb c 91) (λ e. refl)
-    (λ e. either QuietLexeme (eqb c 40) (λ e. opening-quiet o v)
-    (λ e. either QuietLexeme (eqb c 41) (λ e. refl)
-    (λ e. either QuietLexeme (eqb c 124) (λ e. tt)
-    (λ e. either QuietLexeme (eqb c 46) (λ e. tt)
-    (λ e. either QuietLexeme (eqb c 94) (λ e. tt)
-    (λ e. either QuietLexeme (eqb c 36) (λ e. tt)
-    (λ e. either QuietLexeme (formOf (c ∷ v) .is) (λ e. marked-quiet (formOf (c ∷ v)) _) (λ e. tt)))))))))
+    let Q : Lexeme → Type 0 = QuietLexeme (OpenComment o (c ∷ v)) in
+    either Q (isMark (o .quoted) c (getD v 0 0)) (λ e. tt)
+    (λ e. either Q (o .quoted) (λ f. tt) (λ f. unquoted-quiet (OpenComment o (c ∷ v)) o c v (λ z. rw (f, z))))
 
 module _ (o : Options) (v : List ℕ) where
   pub close-quiet : lexemeOf o v .token ≡ Close → lexemeOf o v .fault ≡ 0
@@ -196,3 +244,40 @@ module _ (o : Options) (v : List ℕ) where
   pub open-quiet : (i : Options) → lexemeOf o v .token ≡ Open i → lexemeOf o v .fault ≡ 0
   unfolding Quiet
   open-quiet i e = rw e at (lexeme-quiet o v)
+
+  pub unclosed-row : lexemeOf o v .token ≡ Unclosed → OpenComment o v
+  unfolding Quiet
+  unclosed-row e = rw e at (lexeme-quiet o v)
+
+-- and where that row holds, an open comment stands
+comment-opening : (o : Options) (v : List ℕ) → openComment v ≡ true → openingOf o v ≡ plain (3 + beforeClose (drop 2 v)) Unclosed
+unfolding openComment openingOf commentOf
+comment-opening o v e =
+    let a = and-eq-true-iff (eqb (getD v 0 0) 63) (eqb (getD v 1 0) 35 && not (among 41 (drop 2 v))) .0 e in
+    let b = and-eq-true-iff (eqb (getD v 1 0) 35) (not (among 41 (drop 2 v))) .0 (a .1) in
+    rw (byte-not (getD v 0 0) 63 42 (a .0) refl, a .0, byte-not (getD v 1 0) 35 58 (b .0) refl, b .0, comment-closes (drop 2 v), not-true (among 41 (drop 2 v)) (b .1))
+  where
+    not-true : (b : Bool) → not b ≡ true → b ≡ false
+    not-true true h = sym h
+    not-true false h = refl
+
+comment-token : (o : Options) (w : List ℕ) → openComment w ≡ true → not (o .quoted) ≡ true → lexemeOf o (40 ∷ w) ≡ plain (3 + beforeClose (drop 2 w)) Unclosed
+unfolding lexemeOf unquotedOf isMark
+comment-token o w h q = unquoted (o .quoted) q
+  where
+    unquoted : (b : Bool) → not b ≡ true → cond b (plain 1 (One (Byte 40))) (openingOf o w) ≡ plain (3 + beforeClose (drop 2 w)) Unclosed
+    unquoted true z = true-not-false false z refl
+    unquoted false z = comment-opening o w h
+
+pub row-unclosed : (o : Options) (v : List ℕ) → OpenComment o v → (lexemeOf o v .token ≡ Unclosed) × (lexemeOf o v .fault ≡ 0)
+unfolding row12
+row-unclosed o v e =
+    let a = and-eq-true-iff (not (o .quoted)) (row12 v) .0 e in
+    by-bytes v (a .1) (a .0)
+  where
+    by-bytes : (w : List ℕ) → (eqb (getD w 0 0) 40 && openComment (drop 1 w)) ≡ true → not (o .quoted) ≡ true → (lexemeOf o w .token ≡ Unclosed) × (lexemeOf o w .fault ≡ 0)
+    by-bytes [] h q = true-not-false false h refl
+    by-bytes (c ∷ w) h q =
+        let b = and-eq-true-iff (eqb c 40) (openComment w) .0 h in
+        let l = ap (λ (k : ℕ). lexemeOf o (k ∷ w)) (eqb-true c 40 (b .0)) ∙ comment-token o w (b .1) q in
+        (ap (λ (x : Lexeme). x .token) l, ap (λ (x : Lexeme). x .fault) l)

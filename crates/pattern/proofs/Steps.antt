@@ -15,7 +15,7 @@ use Rattle.tokens.specs.declared.Options.{Options}
 use Rattle.atoms.specs.declared.Atom.{Atom}
 use Rattle.atoms.specs.declared.Atom.the-variants.{Byte, OfKind, NotOfKind, Dot, NotNewline, Start, End}
 use Rattle.tokens.specs.declared.Token.{Token}
-use Rattle.tokens.specs.declared.Token.the-variants.{Finish, Bar, Close, Class, One, Open, Set, Repeat, Bad}
+use Rattle.tokens.specs.declared.Token.the-variants.{Finish, Bar, Close, Class, One, Open, Set, Note, Unclosed, Repeat, Bad}
 use Rattle.tokens.specs.declared.Lexeme.{Lexeme}
 use Rattle.atoms.specs.Fault.{lower}
 use Rattle.atoms.specs.Class.{classOf}
@@ -23,7 +23,7 @@ use Rattle.tokens.specs.Token.{lexemeOf}
 use Rattle.atoms.proofs.Suffixes.{front}
 use Rattle.regex.specs.Tree.{empty, item, repeat}
 use Rattle.pattern.specs.Nodes.{Syntax, extraOf}
-use Rattle.pattern.specs.Walk.{Target, nothing, single, repeated, Frame, State, Read, refused, Next, stop, go, chained, chosen, with-item, one, deepest, repeating, targetFault, closing, opening, act, context, next, finish, walk}
+use Rattle.pattern.specs.Walk.{Target, nothing, single, repeated, Frame, State, Read, refused, Next, stop, go, chained, chosen, with-item, noted, one, deepest, repeating, targetFault, closing, opening, act, context, next, finish, walk}
 use Rattle.pattern.specs.Invariants.{state, from, follow, ended, groupEnds, branchEnds, classEnds, faultFor, faultOf}
 use Rattle.pattern.proofs.Base.{by-lt, split, true-not-false}
 use Rattle.pattern.proofs.Lexemes.{Right, Sound, lexeme-sound}
@@ -84,6 +84,8 @@ last Class = false
 last (One a) = false
 last (Open o) = false
 last (Set o) = false
+last (Note o) = false
+last Unclosed = false
 last (Repeat n j) = false
 last Bad = false
 
@@ -126,9 +128,19 @@ one-free st al it o NotNewline x y = refl
 one-free st al it o Start x y = refl
 one-free st al it o End x y = refl
 
--- no quantifier
+-- neither a quantifier nor a note
 abbrev pub Other : Token → Type 0
-Other t = (least extra : ℕ) → t ≡ Repeat least extra → ⊥
+Other Finish = Unit {0}
+Other Bar = Unit {0}
+Other Close = Unit {0}
+Other Class = Unit {0}
+Other (One a) = Unit {0}
+Other (Open o) = Unit {0}
+Other (Set o) = Unit {0}
+Other (Note o) = ⊥
+Other Unclosed = Unit {0}
+Other (Repeat least extra) = ⊥
+Other Bad = Unit {0}
 
 module _ (at : ℕ) (v : List ℕ) (st : List Frame) (al it : List Syntax) (o : Options) (c left f k : ℕ) where
   both : (t : Token) (x y : Target) → lexemeOf o v ≡ lex f k t
@@ -137,7 +149,7 @@ module _ (at : ℕ) (v : List ℕ) (st : List Frame) (al it : List Syntax) (o : 
       → next at v (state st al it o x) ≡ next at v (state st al it o y)
   both t x y e h = next-is at v (state st al it o x) f k t e ∙ h ∙ sym (next-is at v (state st al it o y) f k t e)
 
-  free-next : (t : Token) (x y : Target) → lexemeOf o v ≡ lex f k t → Sound c left (lex f k t) → Other t ⊎ ((targetFault x ≡ 10) × (targetFault y ≡ 10)) → next at v (state st al it o x) ≡ next at v (state st al it o y)
+  free-next : (t : Token) (x y : Target) → lexemeOf o v ≡ lex f k t → Sound c left (lex f k t) → Other t → next at v (state st al it o x) ≡ next at v (state st al it o y)
   unfolding act opening
   free-next Finish x y e d h = absurd (d .right)
   free-next Bar x y e d h = both Bar x y e refl
@@ -146,26 +158,70 @@ module _ (at : ℕ) (v : List ℕ) (st : List Frame) (al it : List Syntax) (o : 
   free-next (One a) x y e d h = both (One a) x y e (ap (λ (m : State). cond (eqb (lower 0 f) 0) (go (pred k) m) (stop (lower 0 f) at)) (one-free st al it o a x y))
   free-next (Open i) x y e d h = both (Open i) x y e refl
   free-next (Set i) x y e d h = both (Set i) x y e refl
-  free-next (Repeat n j) x y e d h = both (Repeat n j) x y e (⊎-elim (λ z. absurd (z n j refl)) (λ z. rw (z .0, z .1, ten-lowest f (d .right .2))) h)
+  free-next (Note i) x y e d h = absurd h
+  free-next Unclosed x y e d h = both Unclosed x y e refl
+  free-next (Repeat n j) x y e d h = absurd h
   free-next Bad x y e d h = both Bad x y e (rw (lower-none f, ne-eqb f 0 (d .right)))
 
+  -- two walks that differ in what a quantifier would repeat, after one token: they differ no more, or in that alone, past a note
+  data Alike (x y : Target) : Next → Next → Type 0 where
+    same : (n : Next) → Alike x y n n
+    past-note : (j : ℕ) (i : Options) → Alike x y (go j (state st al it i x)) (go j (state st al it i y))
+
+  by-same : (x y : Target) → next at v (state st al it o x) ≡ next at v (state st al it o y) → Alike x y (next at v (state st al it o x)) (next at v (state st al it o y))
+  by-same x y e = rw e (same (next at v (state st al it o y)))
+
+  alike-next : (t : Token) (x y : Target) → lexemeOf o v ≡ lex f k t → Sound c left (lex f k t) → targetFault x ≡ 10 → targetFault y ≡ 10 → Alike x y (next at v (state st al it o x)) (next at v (state st al it o y))
+  unfolding act
+  alike-next Finish x y e d p q = absurd (d .right)
+  alike-next Bar x y e d p q = by-same x y (free-next Bar x y e d tt)
+  alike-next Close x y e d p q = by-same x y (free-next Close x y e d tt)
+  alike-next Class x y e d p q = by-same x y (free-next Class x y e d tt)
+  alike-next (One a) x y e d p q = by-same x y (free-next (One a) x y e d tt)
+  alike-next (Open i) x y e d p q = by-same x y (free-next (Open i) x y e d tt)
+  alike-next (Set i) x y e d p q = by-same x y (free-next (Set i) x y e d tt)
+  alike-next (Note i) x y e d p q =
+      rw (next-good at v (state st al it o x) f k (Note i) e refl (d .right), next-good at v (state st al it o y) f k (Note i) e refl (d .right)) (past-note (pred k) i)
+  alike-next Unclosed x y e d p q = by-same x y (free-next Unclosed x y e d tt)
+  alike-next (Repeat n j) x y e d p q = by-same x y (both (Repeat n j) x y e (rw (p, q, ten-lowest f (d .right .2))))
+  alike-next Bad x y e d p q = by-same x y (free-next Bad x y e d tt)
+
+-- two targets that no quantifier can repeat
+module _ (st : List Frame) (al it : List Syntax) (x y : Target) (p : targetFault x ≡ 10) (q : targetFault y ≡ 10) where
+  after-alike : (v : List ℕ) (at : ℕ) → ((k : ℕ) (i : Options) → walk v k (at + 1) (state st al it i x) ≡ walk v k (at + 1) (state st al it i y))
+      → (u : List ℕ) (o : Options) (c left f k : ℕ) (m n : Next) → Alike at u st al it o c left f k x y m n
+      → _≡_ {A = Read} (elim m as (λ z. Read) [ stop a b ↦ refused a b | go j w ↦ walk v j (at + 1) w ]) (elim n as (λ z. Read) [ stop a b ↦ refused a b | go j w ↦ walk v j (at + 1) w ])
+  after-alike v at ih u o c left f k m n (Alike.same w) = refl
+  after-alike v at ih u o c left f k m n (Alike.past-note j i) = ih j i
+
+  finish-alike : (at : ℕ) (o : Options) (fs : List Frame) → finish at (state st al it o x) fs ≡ finish at (state st al it o y) fs
+  unfolding finish
+  finish-alike at o [] = refl
+  finish-alike at o (g ∷ gs) = refl
+
+  walk-alike : (v : List ℕ) (skip at : ℕ) (o : Options) → walk v skip at (state st al it o x) ≡ walk v skip at (state st al it o y)
+  unfolding walk
+  walk-alike [] skip at o = finish-alike at o st
+  walk-alike (b ∷ v) (suc k) at o = walk-alike v k (at + 1) o
+  walk-alike (b ∷ v) zero at o =
+      let l : Lexeme = lexemeOf o (b ∷ v) in
+      after-alike v at (λ k i. walk-alike v k (at + 1) i) (b ∷ v) o b (suc (length v)) (l .fault) (l .size) _ _
+      (alike-next at (b ∷ v) st al it o b (suc (length v)) (l .fault) (l .size) (l .token) x y refl (lexeme-sound o b v) p q)
+
 module _ (s : List ℕ) (at : ℕ) (st : List Frame) (al it : List Syntax) (o : Options) where
-  free : (x y : Target) → Other (lexemeOf o (drop at s) .token) ⊎ ((targetFault x ≡ 10) × (targetFault y ≡ 10)) → from s at (state st al it o x) ≡ from s at (state st al it o y)
-  free x y h =
+  -- after a quantifier, as after nothing
+  pub free-repeated : from s at (state st al it o repeated) ≡ from s at (state st al it o nothing)
+  free-repeated = walk-alike st al it repeated nothing refl refl (drop at s) 0 at o
+
+  pub free-other : Other (lexemeOf o (drop at s) .token) → from s at (state st al it o single) ≡ from s at (state st al it o nothing)
+  free-other h =
       ⊎-elim
       (λ lt.
       let l : Lexeme = lexemeOf o (drop at s) in
       let a = at-inside s at o l refl lt in
-      rw (walk-on s at (state st al it o x) lt, walk-on s at (state st al it o y) lt, free-next at (drop at s) st al it o (getD s at 0) (length s - at) (l .fault) (l .size) (l .token) x y refl (a .sound) h))
-      (λ le. walk-end s at st al it o x le ∙ sym (walk-end s at st al it o y le))
+      rw (walk-on s at (state st al it o single) lt, walk-on s at (state st al it o nothing) lt, free-next at (drop at s) st al it o (getD s at 0) (length s - at) (l .fault) (l .size) (l .token) single nothing refl (a .sound) h))
+      (λ le. walk-end s at st al it o single le ∙ sym (walk-end s at st al it o nothing le))
       (by-lt at (length s))
-
-  -- after a quantifier, as after nothing
-  pub free-repeated : from s at (state st al it o repeated) ≡ from s at (state st al it o nothing)
-  free-repeated = free repeated nothing (inr (refl, refl))
-
-  pub free-other : Other (lexemeOf o (drop at s) .token) → from s at (state st al it o single) ≡ from s at (state st al it o nothing)
-  free-other h = free single nothing (inl h)
 
 -- ---- what the walk does at each token
 
@@ -197,6 +253,8 @@ fault-nothing st al it o c f Class r = lower-none f
 fault-nothing st al it o c f (One a) r = lower-none f
 fault-nothing st al it o c f (Open i) r = lower-none f
 fault-nothing st al it o c f (Set i) r = lower-none f
+fault-nothing st al it o c f (Note i) r = lower-none f
+fault-nothing st al it o c f Unclosed r = lower-none f
 fault-nothing st al it o c f (Repeat n j) r = ten-lowest f (r .2)
 fault-nothing st al it o c f Bad r = lower-none f
 
@@ -218,6 +276,19 @@ module _ (s : List ℕ) (at : ℕ) (st : List Frame) (al it : List Syntax) (o : 
   from-set i h =
       let b = fits (Set i) h (h .sound .right) in
       stands (Set i) nothing h refl (h .sound .right) ∙ skipped s at k (state st al it i nothing) (b .0) (b .1)
+
+  -- a note, whatever a quantifier would repeat before it
+  pub from-note : (i : Options) (x : Target) → At s at o (lex f k (Note i)) → from s at (state st al it o x) ≡ from s (at + k) (state st al it i x)
+  unfolding act
+  from-note i x h =
+      let b = fits (Note i) h (h .sound .right) in
+      stands (Note i) x h refl (h .sound .right) ∙ skipped s at k (state st al it i x) (b .0) (b .1)
+
+  pub from-unclosed : At s at o (lex f k Unclosed) → from s at (state st al it o nothing) ≡ refused 12 (length s)
+  unfolding act
+  from-unclosed h =
+      let e : at + length (drop at s) ≡ length s = omega (arith, length-drop at s, h .inside) in
+      stands Unclosed nothing h refl (h .sound .right) ∙ rw e
 
   pub from-open : (i : Options) → At s at o (lex f k (Open i)) → length st < deepest → from s at (state st al it o nothing) ≡ from s (at + k) (state (record { branches = al; items = it; options = o } ∷ st) [] [] i nothing)
   unfolding act opening
@@ -273,6 +344,8 @@ Ends Class = ⊥
 Ends (One a) = ⊥
 Ends (Open o) = ⊥
 Ends (Set o) = ⊥
+Ends (Note o) = ⊥
+Ends Unclosed = ⊥
 Ends (Repeat n j) = ⊥
 Ends Bad = ⊥
 
@@ -312,5 +385,7 @@ module _ (s : List ℕ) (at : ℕ) (st : List Frame) (al it : List Syntax) (o : 
   from-end (One a) e u = absurd u
   from-end (Open i) e u = absurd u
   from-end (Set i) e u = absurd u
+  from-end (Note i) e u = absurd u
+  from-end Unclosed e u = absurd u
   from-end (Repeat n j) e u = absurd u
   from-end Bad e u = absurd u

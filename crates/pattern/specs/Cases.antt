@@ -3,21 +3,16 @@
 use mathlib.Core.Bool.{Bool, true, false, cond, not, _&&_}
 use mathlib.Core.List.{List, [], _∷_, _++_}
 use Prim.Native.Nat.{ℕ}
-use Prim.Native.Char.{code}
 use Prim.Native.String.{String}
 use lib.Dec.{eqb, ltb}
 use lib.ListN.{length, getD, replicate}
 use Rattle.sets.specs.Set.{has}
+use Rattle.atoms.specs.Name.{bytes}
 use Rattle.regex.specs.Tree.{empty, item, assertion, then, or, repeat}
 use Rattle.regex.specs.Rule.{ByteSet}
 use Rattle.pattern.specs.Nodes.{Syntax}
 use Rattle.pattern.specs.Walk.{Read, tree, refused}
 use Rattle.pattern.specs.Read.{optionsOf, readOf}
-
--- the bytes of a text: each character is the byte of its code, so `é` is 233
-unfoldable pub bytes : String → List ℕ
-bytes Prim.Native.String.[] = []
-bytes (Prim.Native.String._∷_ c text) = code c ∷ bytes text
 
 -- ---- answers
 
@@ -132,8 +127,8 @@ cases =
     ∷ row 0 "[\\N-\\d]" 9 1
     ∷ row 0 "[\\N-a]" 14 1
     ∷ row 0 "[z-\\N]" 14 1
-    ∷ row 0 "[a-[:digit:]]" 14 1
-    ∷ row 0 "[[:digit:]-a]" 14 1
+    ∷ row 0 "[a-[:digit:]]" 9 1
+    ∷ row 0 "[[:digit:]-a]" 9 1
     ∷ row 0 "[\\d-[:x:]]" 9 1
     ∷ row 0 "[^[:x:]]" 14 2
     ∷ row 0 "[][:x:]]" 14 2
@@ -181,7 +176,7 @@ cases =
     ∷ row 0 "a\\b" 14 1
     ∷ row 0 "\\Z" 14 0
     ∷ row 0 "\\G" 14 0
-    ∷ row 0 "\\E" 14 0
+    ∷ row 0 "\\E" 15 2
     ∷ row 0 "\\u" 14 0
     ∷ row 0 "[\\A]" 14 1
     ∷ row 0 "[\\N]" 14 1
@@ -190,7 +185,7 @@ cases =
     ∷ row 0 "(?-)" 14 0
     ∷ row 0 "(?m)" 14 0
     ∷ row 0 "(?im)" 14 0
-    ∷ row 0 "(?#a)" 14 0
+    ∷ row 0 "(?#a)" 15 5
     ∷ row 0 "(?P<n>a)" 14 0
     ∷ row 0 "a(*" 14 1
     ∷ row 0 "a++" 14 1
@@ -297,6 +292,138 @@ cases =
     ∷ row 0 "ÿ+" 0 0
     ∷ row 0 "ab$" 0 0
     ∷ row 0 "b|c" 0 0
+    -- "`[[:digit:]]` and `[[:^space:]]`"; "An unknown name, `[.` and `[=` stay 14"
+    ∷ row 0 "[[:alpha:]]" 0 0
+    ∷ row 0 "[[:^space:]]" 0 0
+    ∷ row 0 "x[[:digit:]]+" 0 0
+    ∷ row 0 "[^[:^word:]_]" 0 0
+    ∷ row 0 "[:alpha:]" 0 0
+    ∷ row 0 "[[:Alpha:]]" 14 1
+    ∷ row 0 "[[:^^digit:]]" 14 1
+    ∷ row 0 "[[:<:]]" 14 1
+    ∷ row 0 "[[:alpha" 14 1
+    ∷ row 0 "[[:alpha:" 14 1
+    ∷ row 0 "[[:alpha]]" 14 1
+    ∷ row 0 "[[:alph:]]" 14 1
+    ∷ row 0 "[[:alphas:]]" 14 1
+    ∷ row 0 "[[: alpha:]]" 14 1
+    ∷ row 0 "[[:]]" 14 1
+    ∷ row 0 "[[::]]" 14 1
+    ∷ row 0 "[[:^:]]" 14 1
+    ∷ row 0 "[[.a.]]" 14 1
+    ∷ row 0 "[[=a=]]" 14 1
+    ∷ row 0 "[a[:b]" 14 2
+    ∷ row 0 "[[:digit:][:x:]]" 14 10
+    ∷ row 0 "[[:digit:]" 8 10
+    -- "a known name at either end of a range is 9"
+    ∷ row 0 "[a-[:^digit:]]" 9 1
+    ∷ row 0 "[[:^digit:]-a]" 9 1
+    ∷ row 0 "[[:digit:]-[:alpha:]]" 9 1
+    ∷ row 0 "[[:digit:]-[:x:]]" 9 1
+    ∷ row 0 "[a-c-[:digit:]]" 0 0
+    ∷ row 0 "[[:digit:]-]" 0 0
+    ∷ row 0 "[-[:digit:]]" 0 0
+    ∷ row 0 "[a-[:x:]]" 14 1
+    ∷ row 0 "[a-[.x.]]" 14 1
+    -- "`\Q..\E` inside and outside classes": a quote without an end goes to the pattern's end; a quantifier after one repeats its last byte
+    ∷ row 0 "\\Qa" 0 0
+    ∷ row 0 "\\Q*" 0 0
+    ∷ row 0 "\\Qa(b" 0 0
+    ∷ row 0 "\\Q)\\E" 0 0
+    ∷ row 0 "\\Q\\\\E" 0 0
+    ∷ row 0 "\\Q\\Qa" 0 0
+    ∷ row 0 "\\Qa\\" 0 0
+    ∷ row 0 "\\Q\\x{\\E" 0 0
+    ∷ row 0 "\\Q(?#\\Ea" 0 0
+    ∷ row 0 "(\\Q)\\E)a" 0 0
+    ∷ row 0 "\\Qab\\E*" 0 0
+    ∷ row 0 "\\x\\E41" 0 0
+    ∷ row 0 "\\c\\E" 0 0
+    ∷ row 0 "a{2\\E}" 0 0
+    ∷ row 0 "\\Qab\\E{255}" 0 0
+    ∷ row 0 "\\Qab\\E{256}" 16 11
+    ∷ row 0 "(\\Qa)" 12 5
+    ∷ row 0 "\\Qa\\E)" 12 5
+    ∷ row 0 "\\Qa\\E**" 10 6
+    ∷ row 0 "\\Q)\\E\\y" 14 5
+    ∷ row 0 "(?i\\E)" 14 0
+    -- "An empty quote and a lone `\E` count as comments, in a class as not there."
+    ∷ row 0 "\\Q" 15 2
+    ∷ row 0 "\\Q\\E" 15 4
+    ∷ row 0 "a\\E" 0 0
+    ∷ row 0 "a\\E{2}" 0 0
+    ∷ row 0 "a\\Q\\E{,}" 0 0
+    ∷ row 0 "a\\Q\\E{257}" 16 10
+    ∷ row 0 "(a)\\E{257}" 16 10
+    ∷ row 0 "a\\E{3,2}" 11 3
+    ∷ row 0 "[\\E^a]" 0 0
+    ∷ row 0 "[\\Q\\E]a]" 0 0
+    ∷ row 0 "[^\\E]a]" 0 0
+    ∷ row 0 "[a-\\E]" 0 0
+    ∷ row 0 "[a\\E-z]" 0 0
+    ∷ row 0 "[\\d-\\E]" 0 0
+    ∷ row 0 "[\\d\\E-a]" 9 1
+    ∷ row 0 "[a-\\E-z]" 9 1
+    ∷ row 0 "[\\E]" 8 4
+    ∷ row 0 "[\\E" 8 3
+    -- in a class a quoted `^`, `-`, `]` or `[:` is a member, and a quoted member may be the end of a range
+    ∷ row 0 "[\\Qa]\\E]" 0 0
+    ∷ row 0 "[\\Q^\\Ea]" 0 0
+    ∷ row 0 "[\\Qz-a\\E]" 0 0
+    ∷ row 0 "[z\\Q-\\Ea]" 0 0
+    ∷ row 0 "[\\Q[:x:]\\E]" 0 0
+    ∷ row 0 "[\\Q\\\\E]" 0 0
+    ∷ row 0 "[\\Qa\\E-z]" 0 0
+    ∷ row 0 "[a-\\Qz\\E]" 0 0
+    ∷ row 0 "[Z-\\Q]\\E]" 0 0
+    ∷ row 0 "[\\Q]" 8 4
+    ∷ row 0 "[\\Qa" 8 4
+    ∷ row 0 "[\\Q" 8 3
+    ∷ row 0 "[\\Qz\\E-a]" 9 3
+    ∷ row 0 "[z-\\Qa\\E]" 9 1
+    ∷ row 0 "[a-\\Q]\\E]" 9 1
+    -- "`(?#..)`": a comment ends at the first `)`; "An open comment is 12 at the pattern's length, after any token's fault."
+    ∷ row 0 "(?#x)a" 0 0
+    ∷ row 0 "(?#\\Q)a" 0 0
+    ∷ row 0 "(?#a(?#b)c" 0 0
+    ∷ row 0 "((((((((((((((((a(?#)))))))))))))))))" 0 0
+    ∷ row 0 "(?#\\)" 15 5
+    ∷ row 0 "(?#(a)" 15 6
+    ∷ row 0 "(?#" 12 3
+    ∷ row 0 "a(?#x" 12 5
+    ∷ row 0 "((?#a" 12 5
+    ∷ row 0 "(?#\\" 12 4
+    ∷ row 0 "(?#x)a(?#" 12 9
+    ∷ row 0 "\\Qa\\E(?#" 12 8
+    ∷ row 0 "a**(?#" 10 2
+    ∷ row 0 "[a(?#" 8 5
+    ∷ row 0 "[z-a](?#" 9 1
+    ∷ row 0 "a)(?#" 12 1
+    -- "A quantifier after a comment applies to the item before, and is 10 if that has one already, a `?` or `+` too."
+    ∷ row 0 "a(?#x)*" 15 7
+    ∷ row 0 "a(?#x)+" 0 0
+    ∷ row 0 "a(?#x)(?#y)*b" 0 0
+    ∷ row 0 "a\\E\\E*b" 0 0
+    ∷ row 0 "(a)(?#){2}" 0 0
+    ∷ row 0 "[a](?#)?b" 0 0
+    ∷ row 0 "a(?#){256}" 0 0
+    ∷ row 0 "a(?#){257}" 16 10
+    ∷ row 0 "a(?#x)*+" 14 6
+    ∷ row 0 "a(?#x){3,2}" 11 6
+    ∷ row 0 "a*(?#x)?" 10 7
+    ∷ row 0 "a*\\E+" 10 4
+    ∷ row 0 "a*\\Q\\E{2}" 10 6
+    ∷ row 0 "a*?(?#x)+" 10 8
+    ∷ row 0 "a*(?#\\)?" 10 7
+    ∷ row 0 "(?#x)*" 10 5
+    ∷ row 0 "^\\E*" 10 3
+    ∷ row 0 "(?i)(?#)*" 10 8
+    ∷ row 0 "(\\Q\\E*" 10 5
+    ∷ row 0 "(\\E?:a)" 10 3
+    ∷ row 0 "\\E*" 10 2
+    ∷ row 0 "a|\\E*" 10 4
+    ∷ row 0 "$(?#){2}" 10 5
+    ∷ row 0 "a(?i)(?#)*" 10 9
     -- longer ones, each with several of these in it
     ∷ row 1 "(A)||a$" 15 7
     ∷ row 1 "(aAc{1,}?)*\\z|a$" 15 16
@@ -641,4 +768,127 @@ takings =
     ∷ takes 1 "(?-i:a)b" 1 66
     ∷ leaves 0 "(?is-i)a." 0 65
     ∷ takes 0 "(?is-i)a." 1 10
+    -- "all fourteen PCRE2 names .., plain and negated, with the ASCII meaning"
+    ∷ takes 0 "[[:alpha:]]" 0 65
+    ∷ takes 0 "[[:alpha:]]" 0 122
+    ∷ leaves 0 "[[:alpha:]]" 0 48
+    ∷ leaves 0 "[[:alpha:]]" 0 95
+    ∷ leaves 0 "[[:alpha:]]" 0 200
+    ∷ leaves 0 "[[:^alpha:]]" 0 65
+    ∷ takes 0 "[[:^alpha:]]" 0 48
+    ∷ takes 0 "[[:lower:]]" 0 97
+    ∷ leaves 0 "[[:lower:]]" 0 65
+    ∷ leaves 0 "[[:^lower:]]" 0 97
+    ∷ takes 0 "[[:^lower:]]" 0 65
+    ∷ takes 0 "[[:upper:]]" 0 90
+    ∷ leaves 0 "[[:upper:]]" 0 122
+    ∷ leaves 0 "[[:^upper:]]" 0 90
+    ∷ takes 0 "[[:^upper:]]" 0 122
+    ∷ takes 0 "[[:alnum:]]" 0 48
+    ∷ takes 0 "[[:alnum:]]" 0 97
+    ∷ leaves 0 "[[:alnum:]]" 0 95
+    ∷ leaves 0 "[[:^alnum:]]" 0 48
+    ∷ takes 0 "[[:^alnum:]]" 0 95
+    ∷ takes 0 "[[:ascii:]]" 0 0
+    ∷ takes 0 "[[:ascii:]]" 0 127
+    ∷ leaves 0 "[[:ascii:]]" 0 128
+    ∷ leaves 0 "[[:^ascii:]]" 0 0
+    ∷ takes 0 "[[:^ascii:]]" 0 128
+    ∷ takes 0 "[[:blank:]]" 0 9
+    ∷ takes 0 "[[:blank:]]" 0 32
+    ∷ leaves 0 "[[:blank:]]" 0 10
+    ∷ leaves 0 "[[:^blank:]]" 0 9
+    ∷ takes 0 "[[:^blank:]]" 0 10
+    ∷ takes 0 "[[:cntrl:]]" 0 0
+    ∷ takes 0 "[[:cntrl:]]" 0 31
+    ∷ takes 0 "[[:cntrl:]]" 0 127
+    ∷ leaves 0 "[[:cntrl:]]" 0 32
+    ∷ leaves 0 "[[:^cntrl:]]" 0 0
+    ∷ takes 0 "[[:^cntrl:]]" 0 32
+    ∷ takes 0 "[[:digit:]]" 0 57
+    ∷ leaves 0 "[[:digit:]]" 0 58
+    ∷ leaves 0 "[[:^digit:]]" 0 57
+    ∷ takes 0 "[[:^digit:]]" 0 58
+    ∷ takes 0 "[[:graph:]]" 0 33
+    ∷ takes 0 "[[:graph:]]" 0 126
+    ∷ leaves 0 "[[:graph:]]" 0 32
+    ∷ leaves 0 "[[:^graph:]]" 0 33
+    ∷ takes 0 "[[:^graph:]]" 0 32
+    ∷ takes 0 "[[:print:]]" 0 32
+    ∷ takes 0 "[[:print:]]" 0 126
+    ∷ leaves 0 "[[:print:]]" 0 31
+    ∷ leaves 0 "[[:print:]]" 0 127
+    ∷ leaves 0 "[[:^print:]]" 0 32
+    ∷ takes 0 "[[:^print:]]" 0 31
+    ∷ takes 0 "[[:punct:]]" 0 33
+    ∷ takes 0 "[[:punct:]]" 0 64
+    ∷ takes 0 "[[:punct:]]" 0 95
+    ∷ takes 0 "[[:punct:]]" 0 126
+    ∷ leaves 0 "[[:punct:]]" 0 97
+    ∷ leaves 0 "[[:punct:]]" 0 48
+    ∷ leaves 0 "[[:punct:]]" 0 32
+    ∷ leaves 0 "[[:^punct:]]" 0 33
+    ∷ takes 0 "[[:^punct:]]" 0 97
+    ∷ takes 0 "[[:space:]]" 0 9
+    ∷ takes 0 "[[:space:]]" 0 11
+    ∷ takes 0 "[[:space:]]" 0 13
+    ∷ takes 0 "[[:space:]]" 0 32
+    ∷ leaves 0 "[[:space:]]" 0 8
+    ∷ leaves 0 "[[:space:]]" 0 133
+    ∷ leaves 0 "[[:^space:]]" 0 9
+    ∷ takes 0 "[[:^space:]]" 0 8
+    ∷ takes 0 "[[:word:]]" 0 95
+    ∷ takes 0 "[[:word:]]" 0 48
+    ∷ leaves 0 "[[:word:]]" 0 45
+    ∷ leaves 0 "[[:^word:]]" 0 95
+    ∷ takes 0 "[[:^word:]]" 0 45
+    ∷ takes 0 "[[:xdigit:]]" 0 70
+    ∷ takes 0 "[[:xdigit:]]" 0 102
+    ∷ leaves 0 "[[:xdigit:]]" 0 71
+    ∷ leaves 0 "[[:^xdigit:]]" 0 70
+    ∷ takes 0 "[[:^xdigit:]]" 0 71
+    -- "Under caseless, upper and lower read as alpha before their own negation."
+    ∷ takes 1 "[[:upper:]]" 0 97
+    ∷ takes 1 "[[:lower:]]" 0 65
+    ∷ leaves 1 "[[:upper:]]" 0 48
+    ∷ leaves 1 "[[:^upper:]]" 0 65
+    ∷ leaves 1 "[[:^upper:]]" 0 97
+    ∷ takes 1 "[[:^upper:]]" 0 48
+    ∷ leaves 0 "(?i)[[:^lower:]]" 0 90
+    ∷ takes 1 "[^[:^lower:]]" 0 65
+    ∷ leaves 1 "[^[:^lower:]]" 0 48
+    ∷ leaves 1 "[[:^digit:]]" 0 48
+    -- quotes outside a class
+    ∷ takes 0 "\\Q.\\E" 0 46
+    ∷ leaves 0 "\\Q.\\E" 0 97
+    ∷ takes 0 "\\Qa*" 1 42
+    ∷ takes 0 "\\Q\\\\E" 0 92
+    ∷ takes 0 "\\Q\\Qa" 1 81
+    ∷ takes 1 "\\Qa" 0 65
+    ∷ takes 0 "a\\Q\\E{,}" 1 123
+    ∷ takes 0 "\\x\\E41" 0 0
+    ∷ takes 0 "\\x\\E41" 1 52
+    ∷ takes 0 "\\c\\E" 1 69
+    -- and inside one
+    ∷ leaves 0 "[\\E^a]" 0 97
+    ∷ takes 0 "[\\E^a]" 0 98
+    ∷ takes 0 "[\\Q\\E]a]" 0 93
+    ∷ leaves 0 "[^\\E]a]" 0 93
+    ∷ takes 0 "[a-\\E]" 0 45
+    ∷ takes 0 "[a\\E-z]" 0 98
+    ∷ takes 0 "[\\Q^\\Ea]" 0 94
+    ∷ takes 0 "[\\Q^\\Ea]" 0 97
+    ∷ takes 0 "[\\Qa]\\E]" 0 93
+    ∷ takes 0 "[\\Qz-a\\E]" 0 45
+    ∷ leaves 0 "[\\Qa-z\\E]" 0 98
+    ∷ leaves 0 "[a\\Q-\\Ez]" 0 98
+    ∷ takes 0 "[\\Qa\\E-z]" 0 98
+    ∷ takes 0 "[a-\\Qz\\E]" 0 98
+    ∷ takes 0 "[Z-\\Q]\\E]" 0 91
+    ∷ leaves 0 "[\\Q\\d\\E]" 0 48
+    ∷ takes 0 "[\\Q\\d\\E]" 0 92
+    ∷ takes 0 "[\\Q[:digit:]\\E]" 0 91
+    ∷ leaves 0 "[\\Q[:digit:]\\E]" 0 48
+    ∷ takes 1 "[\\Qa\\E]" 0 65
+    ∷ takes 0 "[\\d-\\E]" 0 45
     ∷ []

@@ -10,7 +10,7 @@ use Rattle.sets.proofs.Laws.{Words}
 use Rattle.tokens.specs.declared.Options.{Options}
 use Rattle.atoms.specs.declared.Atom.{Atom}
 use Rattle.tokens.specs.declared.Token.{Token}
-use Rattle.tokens.specs.declared.Token.the-variants.{Finish, Bar, Close, Class, One, Open, Set, Repeat, Bad}
+use Rattle.tokens.specs.declared.Token.the-variants.{Finish, Bar, Close, Class, One, Open, Set, Note, Unclosed, Repeat, Bad}
 use Rattle.tokens.specs.declared.Lexeme.{Lexeme}
 use Rattle.atoms.specs.Class.{classOf}
 use Rattle.atoms.specs.Number.{cap}
@@ -83,7 +83,7 @@ classEnds s at m =
 
 -- a refusal, and a tree read up to place `at`, its root the last of the words below n
 abbrev pub refusal : ℕ → ℕ → Got
-refusal fault at = record { fault = fault; at = at; n = 0; root = 0; options = record { caseless = false; dotall = false } }
+refusal fault at = record { fault = fault; at = at; n = 0; root = 0; options = record { caseless = false; dotall = false; quoted = false } }
 
 abbrev pub got : (at n root : ℕ) → Options → Got
 got at n root o = record { fault = 0; at = at; n = n; root = root; options = o }
@@ -117,18 +117,18 @@ SaysSequence s at d o g t =
     (st : List Frame) (al it : List Syntax)
     → length st ≡ d → from s at (state st al it o nothing) ≡ onward g (branchEnds s st al (chained it t) (g .options) (g .at))
 
--- where an item was read, with its quantifier
-abbrev pub goesOn : List ℕ → List Frame → List Syntax → List Syntax → Options → Got → Syntax → Read
-goesOn s st al it o g t = onward g (from s (g .at) (state st al (t ∷ it) o nothing))
+-- where an item was read, with its quantifier: a note after it may have opened a quote, or ended it
+abbrev pub goesOn : List ℕ → List Frame → List Syntax → List Syntax → Got → Syntax → Read
+goesOn s st al it g t = onward g (from s (g .at) (state st al (t ∷ it) (g .options) nothing))
 
 abbrev pub SaysItem : List ℕ → ℕ → ℕ → Options → Got → Syntax → Type 0
-SaysItem s at d o g t = (st : List Frame) (al it : List Syntax) → length st ≡ d → from s at (state st al it o nothing) ≡ goesOn s st al it o g t
+SaysItem s at d o g t = (st : List Frame) (al it : List Syntax) → length st ≡ d → from s at (state st al it o nothing) ≡ goesOn s st al it g t
 
 abbrev pub SaysOne : List ℕ → ℕ → Options → Atom → Got → Syntax → Type 0
-SaysOne s at o x g t = (st : List Frame) (al it : List Syntax) → from s at (one (state st al it o nothing) x) ≡ goesOn s st al it o g t
+SaysOne s at o x g t = (st : List Frame) (al it : List Syntax) → from s at (one (state st al it o nothing) x) ≡ goesOn s st al it g t
 
 abbrev pub SaysClass : List ℕ → ℕ → Options → Got → Syntax → Type 0
-SaysClass s at o g t = (st : List Frame) (al it : List Syntax) → classEnds s at (state st al it o nothing) ≡ goesOn s st al it o g t
+SaysClass s at o g t = (st : List Frame) (al it : List Syntax) → classEnds s at (state st al it o nothing) ≡ goesOn s st al it g t
 
 abbrev pub SaidBranches : List ℕ → List ℕ → List ℕ → ℕ → ℕ → Options → ℕ → Got → Type 0
 SaidBranches s a b at d o n g = Said (SaysBranches s at d o g) s a b at n (n + 6 * (length s - at) + 1) g
@@ -147,7 +147,7 @@ SaidClass s a b at o n g = Said (SaysClass s at o g) s a b at n (n + 6 * (length
 
 -- where the quantifier that may stand at place `at` was read, after a tree x
 abbrev pub SaysQuantified : List ℕ → ℕ → Options → Syntax → Got → Syntax → Type 0
-SaysQuantified s at o x g t = (st : List Frame) (al it : List Syntax) → from s at (state st al (x ∷ it) o single) ≡ goesOn s st al it o g t
+SaysQuantified s at o x g t = (st : List Frame) (al it : List Syntax) → from s at (state st al (x ∷ it) o single) ≡ goesOn s st al it g t
 
 -- the tree that is repeated is the one of node `root`, which was read over some words a0
 abbrev pub SaidQuantified : List ℕ → List ℕ → List ℕ → ℕ → Options → ℕ → ℕ → Got → Type 0
@@ -167,13 +167,15 @@ faultFor f Class = f
 faultFor f (One a) = f
 faultFor f (Open o) = f
 faultFor f (Set o) = f
+faultFor f (Note o) = f
+faultFor f Unclosed = f
 faultFor f (Repeat least extra) = 10
 faultFor f Bad = f
 
 unfoldable pub faultOf : Lexeme → ℕ
 faultOf l = faultFor (l .fault) (l .token)
 
--- a token that neither ends a branch nor sets options
+-- a token that neither ends a branch, nor sets options, nor is a note
 abbrev pub begins : Token → Bool
 begins Finish = false
 begins Bar = false
@@ -182,6 +184,8 @@ begins Class = true
 begins (One a) = true
 begins (Open o) = true
 begins (Set o) = false
+begins (Note o) = false
+begins Unclosed = false
 begins (Repeat least extra) = true
 begins Bad = true
 

@@ -1,7 +1,7 @@
 -- Why a pattern is refused: the rows of the table "When the watcher says no" from 6 to 16, each as a predicate of its own: on the bytes of one token and
 -- what stands before it, on the finished tree, or on the pattern's end. Taken over from the reading: where the tokens and members stand, each after one that
--- is not refused (`Stands`, `InClass`), what stands before a token (the open groups, and what a quantifier would repeat), which token it is, what a member
--- stands for, which braces are a quantifier, and the finished tree. Said anew: everything that makes one of them faulty. The theorems are `decided` and
+-- is not refused (`Stands`, `InClass`), whether a quote is open there, what stands before a token (the open groups, and what a quantifier would repeat), which
+-- token it is, what a member stands for, which braces are a quantifier, and the finished tree. Said anew: everything that makes one of them faulty. The theorems are `decided` and
 -- `accepted` of proofs/Accepted.antt. Assumes nothing: these are definitions.
 use mathlib.Core.Path.{_≡_}
 use mathlib.Core.Bool.{Bool, true, false, cond, not, _&&_, _||_}
@@ -12,11 +12,15 @@ use lib.ListN.{length, getD, drop}
 use Rattle.kinds.specs.Kind.{within}
 use Rattle.tokens.specs.declared.Options.{Options}
 use Rattle.atoms.specs.declared.Part.{Part}
+use Rattle.atoms.specs.declared.Gap.{Gap}
+use Rattle.atoms.specs.declared.Joint.{Joint}
 use Rattle.tokens.specs.declared.Token.{Token}
-use Rattle.tokens.specs.declared.Token.the-variants.{Finish, Bar, Close, Class, One, Open, Set, Repeat, Bad}
+use Rattle.tokens.specs.declared.Token.the-variants.{Finish, Bar, Close, Class, One, Open, Set, Note, Unclosed, Repeat, Bad}
 use Rattle.atoms.specs.Number.{some, digits, valueFrom}
 use Rattle.atoms.specs.Escape.{isAlnum}
-use Rattle.atoms.specs.Class.{opensName, memberOf, isType, byteOf, ranges, memberAt}
+use Rattle.atoms.specs.Quote.{isMark, opensQuote, gapOf}
+use Rattle.atoms.specs.Name.{Name, names, begins as beginsWith}
+use Rattle.atoms.specs.Class.{memberOf, isType, byteOf, jointOf, memberAt}
 use Rattle.tokens.specs.Quantifier.{formOf}
 use Rattle.tokens.specs.Token.{lexemeOf}
 use Rattle.regex.specs.Form.{write, positions}
@@ -46,10 +50,11 @@ unfoldable pub tooLarge : List ℕ → Bool
 tooLarge v =
     eqb (getD v 1 0) 123 && ((eqb (getD v 0 0) 120 && over255 16 (drop 2 v)) || (eqb (getD v 0 0) 111 && over255 8 (drop 2 v)))
 
--- the letters and digits that mean something after a `\`: x o 0 c, a e f n r t, d w s h v and their capitals, and by where they stand b or N A z
+-- the letters and digits that mean something after a `\`: x o 0 c, a e f n r t, d w s h v and their capitals, by where they stand b or N A z, and the marks of
+-- quotes, Q E
 abbrev pub letters : Bool → List ℕ
-letters true = 120 ∷ 111 ∷ 48 ∷ 99 ∷ 97 ∷ 101 ∷ 102 ∷ 110 ∷ 114 ∷ 116 ∷ 100 ∷ 119 ∷ 115 ∷ 104 ∷ 118 ∷ 68 ∷ 87 ∷ 83 ∷ 72 ∷ 86 ∷ 98 ∷ []
-letters false = 120 ∷ 111 ∷ 48 ∷ 99 ∷ 97 ∷ 101 ∷ 102 ∷ 110 ∷ 114 ∷ 116 ∷ 100 ∷ 119 ∷ 115 ∷ 104 ∷ 118 ∷ 68 ∷ 87 ∷ 83 ∷ 72 ∷ 86 ∷ 78 ∷ 65 ∷ 122 ∷ []
+letters true = 120 ∷ 111 ∷ 48 ∷ 99 ∷ 97 ∷ 101 ∷ 102 ∷ 110 ∷ 114 ∷ 116 ∷ 100 ∷ 119 ∷ 115 ∷ 104 ∷ 118 ∷ 68 ∷ 87 ∷ 83 ∷ 72 ∷ 86 ∷ 98 ∷ 81 ∷ 69 ∷ []
+letters false = 120 ∷ 111 ∷ 48 ∷ 99 ∷ 97 ∷ 101 ∷ 102 ∷ 110 ∷ 114 ∷ 116 ∷ 100 ∷ 119 ∷ 115 ∷ 104 ∷ 118 ∷ 68 ∷ 87 ∷ 83 ∷ 72 ∷ 86 ∷ 78 ∷ 65 ∷ 122 ∷ 81 ∷ 69 ∷ []
 
 abbrev pub among : ℕ → List ℕ → Bool
 among c [] = false
@@ -76,9 +81,13 @@ setting v =
     leb (hyphens (optionBytes v)) 1
     && (ltb (hyphens (optionBytes v)) (length (optionBytes v)) && (eqb (getD v (length (optionBytes v)) 0) 41 || eqb (getD v (length (optionBytes v)) 0) 58))
 
--- 14: "any other `(?`; `(*`"
+-- 14: "any other `(?`; `(*`"; `(?#` begins a comment
 unfoldable pub badOpening : List ℕ → Bool
-badOpening v = eqb (getD v 0 0) 42 || (eqb (getD v 0 0) 63 && not (eqb (getD v 1 0) 58 || setting (drop 1 v)))
+badOpening v = eqb (getD v 0 0) 42 || (eqb (getD v 0 0) 63 && not (eqb (getD v 1 0) 58 || (eqb (getD v 1 0) 35 || setting (drop 1 v))))
+
+-- 12: "An open comment": `(?#` with no `)` after it
+unfoldable pub openComment : List ℕ → Bool
+openComment v = eqb (getD v 0 0) 63 && (eqb (getD v 1 0) 35 && not (among 41 (drop 2 v)))
 
 -- ---- quantifiers: v is the pattern from the quantifier on
 
@@ -98,6 +107,10 @@ badBounds v =
 
 -- ---- one token outside a class: v is the pattern from its first byte on
 
+-- In a quote a byte stands for itself, so that no row on the bytes of a token or of a member holds there.
+abbrev pub plainly : (quoted row : Bool) → Bool
+plainly quoted row = not quoted && row
+
 unfoldable pub row6 : List ℕ → Bool
 row6 v = eqb (getD v 0 0) 92 && cutShort (drop 1 v)
 
@@ -107,6 +120,10 @@ row7 v = eqb (getD v 0 0) 92 && tooLarge (drop 1 v)
 unfoldable pub row11 : List ℕ → Bool
 row11 v = formOf v .is && (eqb (getD v 0 0) 123 && badBounds (drop 1 v))
 
+-- 12 of an opening: an open comment
+unfoldable pub row12 : List ℕ → Bool
+row12 v = eqb (getD v 0 0) 40 && openComment (drop 1 v)
+
 -- 14 besides: "possessive `+`"
 unfoldable pub row14 : List ℕ → Bool
 row14 v =
@@ -114,7 +131,8 @@ row14 v =
     || ((eqb (getD v 0 0) 40 && badOpening (drop 1 v)) || (formOf v .is && eqb (getD v (formOf v .size) 0) 43))
 
 -- 10: "quantifier at the start of a pattern, group or branch, or after an assertion, an option setting or another quantifier". What stands before is the
--- walk's: `nothing` at a start, after an assertion and after a setting, `repeated` after a quantifier, `single` after an item or a group.
+-- walk's: `nothing` at a start, after an assertion and after a setting, `repeated` after a quantifier, `single` after an item or a group. "A quantifier after a
+-- comment applies to the item before, and is 10 if that has one already."
 abbrev pub row10 : Target → Token → Bool
 row10 t Finish = false
 row10 t Bar = false
@@ -123,38 +141,54 @@ row10 t Class = false
 row10 t (One a) = false
 row10 t (Open o) = false
 row10 t (Set o) = false
+row10 t (Note o) = false
+row10 t Unclosed = false
 row10 nothing (Repeat least extra) = true
 row10 single (Repeat least extra) = false
 row10 repeated (Repeat least extra) = true
 row10 t Bad = false
 
--- ---- one member of a class, or one range: v is the pattern from its first byte on
+-- ---- one member of a class, or one range: v is the pattern from its first byte on, where a quote is open or not
 
--- a hyphen makes a range of the member at the front, and its second end
-abbrev pub isRange : List ℕ → Bool
-isRange v = ranges (drop (memberOf v .size) v)
+-- what joins the member at the front to a second end, if it does; and the second end
+abbrev pub jointAt : (caseless quoted : Bool) → List ℕ → Joint
+jointAt caseless quoted v = jointOf quoted (drop (memberOf caseless quoted v .size) v)
 
-abbrev pub farEnd : List ℕ → List ℕ
-farEnd v = drop (memberOf v .size + 1) v
+abbrev pub farEnd : (caseless quoted : Bool) → List ℕ → List ℕ
+farEnd caseless quoted v = drop (memberOf caseless quoted v .size + jointAt caseless quoted v .size) v
 
 -- a row of a member, or of one end of a range
-abbrev pub ofEnd : (List ℕ → Bool) → List ℕ → Bool
-ofEnd row v = row v || (isRange v && row (farEnd v))
+abbrev pub ofEnd : (List ℕ → Bool) → (caseless quoted : Bool) → List ℕ → Bool
+ofEnd row caseless quoted v =
+    let j : Joint = jointAt caseless quoted v in
+    plainly quoted (row v) || (j .is && plainly (j .quoted) (row (farEnd caseless quoted v)))
 
--- 14 besides: "`[:`, `[.`, `[=` in a class"
+-- one of these names stands at the front
+unfoldable pub isNamed : List Name → List ℕ → Bool
+isNamed [] v = false
+isNamed (n ∷ ns) v = beginsWith (n .text) v || isNamed ns v
+
+-- "An unknown name, `[.` and `[=` stay 14": v is the pattern after a `[` in a class. A name stands after `[:`, or after `[:^`, and `:]` after it.
+unfoldable pub unknownName : List ℕ → Bool
+unknownName v =
+    cond (eqb (getD v 0 0) 58) (not (isNamed names (cond (eqb (getD v 1 0) 94) (drop 2 v) (drop 1 v)))) (eqb (getD v 0 0) 46 || eqb (getD v 0 0) 61)
+
+-- 14 of a member, of an escape or of what `[` begins in a class
 unfoldable pub memberRow14 : List ℕ → Bool
-memberRow14 v = (eqb (getD v 0 0) 92 && unknown true (drop 1 v)) || (eqb (getD v 0 0) 91 && opensName (getD v 1 0))
+memberRow14 v = (eqb (getD v 0 0) 92 && unknown true (drop 1 v)) || (eqb (getD v 0 0) 91 && unknownName (drop 1 v))
 
 -- an end that is faulty by itself, so that it stands for no byte
-abbrev pub faultyEnd : List ℕ → Bool
-faultyEnd v = row6 v || (row7 v || memberRow14 v)
+abbrev pub faultyEnd : Bool → List ℕ → Bool
+faultyEnd quoted v = plainly quoted (row6 v) || (plainly quoted (row7 v) || plainly quoted (memberRow14 v))
 
--- 9: "range falling, or with a type such as `\d` at either end"
-unfoldable pub row9 : List ℕ → Bool
-row9 v =
-    let m : Part = memberOf v in
-    let n : Part = memberOf (farEnd v) in
-    isRange v && (isType (m .atom) || isType (n .atom) || (not (faultyEnd v) && (not (faultyEnd (farEnd v)) && ltb (byteOf (n .atom)) (byteOf (m .atom)))))
+-- 9: "range falling, or with a type such as `\d` at either end"; "a known name at either end of a range is 9"
+unfoldable pub row9 : (caseless quoted : Bool) → List ℕ → Bool
+row9 caseless quoted v =
+    let j : Joint = jointAt caseless quoted v in
+    let w : List ℕ = farEnd caseless quoted v in
+    let m : Part = memberOf caseless quoted v in
+    let n : Part = memberOf caseless (j .quoted) w in
+    j .is && (isType (m .atom) || isType (n .atom) || (not (faultyEnd quoted v) && (not (faultyEnd (j .quoted) w) && ltb (byteOf (n .atom)) (byteOf (m .atom)))))
 
 -- ---- where tokens stand
 
@@ -163,38 +197,51 @@ pub data Stands (s : List ℕ) (o : Options) : ℕ → State → Type 0 where
   begins : Stands s o 0 (begin o)
   onward : (at k : ℕ) (m n : State) → Stands s o at m → at < length s → next at (drop at s) m ≡ go k n → Stands s o (at + 1 + k) n
 
--- where the members of a class begin: "`[^..]`"
+-- where the members of a class begin: "`[^..]`". Quotes' marks before the `^` are "as not there".
 abbrev pub membersAt : List ℕ → ℕ → ℕ
-membersAt s at = cond (eqb (getD s at 0) 94) (at + 1) at
+membersAt s at =
+    let g : Gap = gapOf false (drop at s) in
+    cond (eqb (getD (drop at s) (g .size) 0) 94 && not (g .quoted)) (at + (g .size + 1)) at
 
--- "A `]` first (or after `^`) is literal"
-abbrev pub closes : List ℕ → ℕ → Bool → Bool
-closes s at isFirst = eqb (getD s at 0) 93 && not isFirst
+-- a quote's mark stands at a place
+abbrev pub markAt : List ℕ → ℕ → (quoted : Bool) → Bool
+markAt s at quoted = isMark quoted (getD s at 0) (getD s (at + 1) 0)
 
--- A member, a range, the closing bracket or the pattern's end stands at a place of the class whose `[` is before `from`, the first one or a later one.
-pub data InClass (s : List ℕ) (from : ℕ) : ℕ → Bool → Type 0 where
-  begins : InClass s from (membersAt s from) true
-  onward : (at : ℕ) (isFirst : Bool)
-      → InClass s from at isFirst → at < length s → closes s at isFirst ≡ false → memberAt (drop at s) .fault ≡ 0
-      → InClass s from (at + memberAt (drop at s) .size) false
+-- "A `]` first (or after `^`) is literal", and so is one in a quote
+abbrev pub closes : List ℕ → ℕ → (isFirst quoted : Bool) → Bool
+closes s at isFirst quoted = eqb (getD s at 0) 93 && not (isFirst || quoted)
+
+-- A member, a range, a quote's mark, the closing bracket or the pattern's end stands at a place of the class whose `[` is before `from`, the first member
+-- or a later one, in a quote or not.
+pub data InClass (s : List ℕ) (caseless : Bool) (from : ℕ) : (at : ℕ) (isFirst quoted : Bool) → Type 0 where
+  begins : InClass s caseless from (membersAt s from) true false
+  mark : (at : ℕ) (isFirst quoted : Bool)
+      → InClass s caseless from at isFirst quoted → markAt s at quoted ≡ true
+      → InClass s caseless from (at + 2) isFirst (opensQuote (getD s (at + 1) 0))
+  onward : (at : ℕ) (isFirst quoted : Bool)
+      → InClass s caseless from at isFirst quoted → at < length s → markAt s at quoted ≡ false → closes s at isFirst quoted ≡ false
+      → memberAt caseless quoted (drop at s) .fault ≡ 0
+      → InClass s caseless from (at + memberAt caseless quoted (drop at s) .size) false (memberAt caseless quoted (drop at s) .quoted)
 
 -- the token at a place, and a class that begins at a place
 abbrev pub tokenAt : List ℕ → ℕ → State → Token
 tokenAt s at m = lexemeOf (m .options) (drop at s) .token
 
-pub record ClassAt (s : List ℕ) (o : Options) (at : ℕ) : Type 0 where
+pub record ClassAt (s : List ℕ) (o : Options) (caseless : Bool) (at : ℕ) : Type 0 where
   pub state : State
   pub stands : Stands s o at state
   pub token : tokenAt s at state ≡ Class
+  pub case : state .options .caseless ≡ caseless
 
 -- a member or a range of a class, at a place
-pub record MemberAt (s : List ℕ) (o : Options) (at : ℕ) : Type 0 where
+pub record MemberAt (s : List ℕ) (o : Options) (caseless quoted : Bool) (at : ℕ) : Type 0 where
   pub bracket : ℕ
   pub isFirst : Bool
-  pub class : ClassAt s o bracket
-  pub stands : InClass s (bracket + 1) at isFirst
+  pub class : ClassAt s o caseless bracket
+  pub stands : InClass s caseless (bracket + 1) at isFirst quoted
   pub inside : at < length s
-  pub member : closes s at isFirst ≡ false
+  pub unmarked : markAt s at quoted ≡ false
+  pub member : closes s at isFirst quoted ≡ false
 
 -- the tree t is finished: the walk stands at the pattern's end and no group is open
 pub record Finished (s : List ℕ) (o : Options) (t : Syntax) : Type 0 where
@@ -206,25 +253,27 @@ pub record Finished (s : List ℕ) (o : Options) (t : Syntax) : Type 0 where
   pub tree : t ≡ groupOf state
 
 -- ---- the reasons, each with its number and place: "The place is the token's first byte. Faults known only at the end (8, 12 for an open group, 15, 16, ..)
--- have the pattern's length as place"
+-- have the pattern's length as place"; "An open comment is 12 at the pattern's length"
 
 pub data Reason (s : List ℕ) (o : Options) : (number place : ℕ) → Type 0 where
-  escape-cut : (at : ℕ) (m : State) → Stands s o at m → T (row6 (drop at s)) → Reason s o 6 at
-  member-cut : (at : ℕ) → MemberAt s o at → T (ofEnd row6 (drop at s)) → Reason s o 6 at
-  escape-large : (at : ℕ) (m : State) → Stands s o at m → T (row7 (drop at s)) → Reason s o 7 at
-  member-large : (at : ℕ) → MemberAt s o at → T (ofEnd row7 (drop at s)) → Reason s o 7 at
+  escape-cut : (at : ℕ) (m : State) → Stands s o at m → T (plainly (m .options .quoted) (row6 (drop at s))) → Reason s o 6 at
+  member-cut : (at : ℕ) (caseless quoted : Bool) → MemberAt s o caseless quoted at → T (ofEnd row6 caseless quoted (drop at s)) → Reason s o 6 at
+  escape-large : (at : ℕ) (m : State) → Stands s o at m → T (plainly (m .options .quoted) (row7 (drop at s))) → Reason s o 7 at
+  member-large : (at : ℕ) (caseless quoted : Bool) → MemberAt s o caseless quoted at → T (ofEnd row7 caseless quoted (drop at s)) → Reason s o 7 at
   -- "class not closed"
-  class-open : (at bracket : ℕ) (isFirst : Bool) → ClassAt s o bracket → InClass s (bracket + 1) at isFirst → length s ≤ at → Reason s o 8 (length s)
-  bad-range : (at : ℕ) → MemberAt s o at → T (row9 (drop at s)) → Reason s o 9 at
+  class-open : (at bracket : ℕ) (caseless isFirst quoted : Bool)
+      → ClassAt s o caseless bracket → InClass s caseless (bracket + 1) at isFirst quoted → length s ≤ at → Reason s o 8 (length s)
+  bad-range : (at : ℕ) (caseless quoted : Bool) → MemberAt s o caseless quoted at → T (row9 caseless quoted (drop at s)) → Reason s o 9 at
   nothing-repeated : (at : ℕ) (m : State) → Stands s o at m → T (row10 (m .target) (tokenAt s at m)) → Reason s o 10 at
-  bad-bounds : (at : ℕ) (m : State) → Stands s o at m → T (row11 (drop at s)) → Reason s o 11 at
+  bad-bounds : (at : ℕ) (m : State) → Stands s o at m → T (plainly (m .options .quoted) (row11 (drop at s))) → Reason s o 11 at
   -- "group not closed, or `)` without one"
   group-open : (at : ℕ) (m : State) → Stands s o at m → length s ≤ at → 0 < length (m .stack) → Reason s o 12 (length s)
   no-group : (at : ℕ) (m : State) → Stands s o at m → tokenAt s at m ≡ Close → m .stack ≡ [] → Reason s o 12 at
+  comment-open : (at : ℕ) (m : State) → Stands s o at m → T (plainly (m .options .quoted) (row12 (drop at s))) → Reason s o 12 (length s)
   -- "a 17th group open (only `(`, `(?:` and option groups count)"
   too-deep : (at : ℕ) (m : State) (inside : Options) → Stands s o at m → tokenAt s at m ≡ Open inside → deepest ≤ length (m .stack) → Reason s o 13 at
-  unsupported : (at : ℕ) (m : State) → Stands s o at m → T (row14 (drop at s)) → Reason s o 14 at
-  member-unsupported : (at : ℕ) → MemberAt s o at → T (ofEnd memberRow14 (drop at s)) → Reason s o 14 at
+  unsupported : (at : ℕ) (m : State) → Stands s o at m → T (plainly (m .options .quoted) (row14 (drop at s))) → Reason s o 14 at
+  member-unsupported : (at : ℕ) (caseless quoted : Bool) → MemberAt s o caseless quoted at → T (ofEnd memberRow14 caseless quoted (drop at s)) → Reason s o 14 at
   -- "the rule could match no bytes, were all its assertions true"
   matches-nothing : (t : Syntax) → Finished s o t → MatchesEmpty t → Reason s o 15 (length s)
   -- "over 256 positions in this rule"

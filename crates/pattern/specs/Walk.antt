@@ -9,7 +9,7 @@ use Rattle.atoms.specs.declared.Atom.{Atom}
 use Rattle.atoms.specs.declared.Atom.the-variants.{Byte, OfKind, NotOfKind, Dot, NotNewline, Start, End}
 use Rattle.tokens.specs.declared.Options.{Options}
 use Rattle.tokens.specs.declared.Token.{Token}
-use Rattle.tokens.specs.declared.Token.the-variants.{Finish, Bar, Close, Class, One, Open, Set, Repeat, Bad}
+use Rattle.tokens.specs.declared.Token.the-variants.{Finish, Bar, Close, Class, One, Open, Set, Note, Unclosed, Repeat, Bad}
 use Rattle.tokens.specs.declared.Lexeme.{Lexeme}
 use Rattle.atoms.specs.Fault.{lower}
 use Rattle.atoms.specs.Class.{classOf}
@@ -71,6 +71,10 @@ with-item m x t = record { stack = m .stack; branches = m .branches; items = x �
 abbrev pub with-options : State → Options → State
 with-options m o = record { stack = m .stack; branches = m .branches; items = m .items; options = o; target = nothing }
 
+-- "A quantifier after a comment applies to the item before, and is 10 if that has one already": what it would repeat stays
+abbrev pub noted : State → Options → State
+noted m o = record { stack = m .stack; branches = m .branches; items = m .items; options = o; target = m .target }
+
 -- an item takes a quantifier, an assertion does not
 unfoldable pub one : State → Atom → State
 one m (Byte b) = with-item m (item (itemSet (m .options) (Byte b))) single
@@ -108,8 +112,8 @@ opening at skip m o =
     cond (leb deepest (length (m .stack))) (stop 13 at)
     (go skip (record { stack = record { branches = m .branches; items = m .items; options = m .options } ∷ m .stack; branches = []; items = []; options = o; target = nothing }))
 
--- What a token without a fault does, at place `at` with v from there on. A `|` keeps the options: "later branches included". `Finish` is no token of a
--- byte and `Bad` has a fault, so these two do not occur.
+-- What a token without a fault does, at place `at` with v from there on. A `|` keeps the options: "later branches included". "An open comment is 12 at the
+-- pattern's length". `Finish` is no token of a byte and `Bad` has a fault, so these two do not occur.
 unfoldable pub act : (at : ℕ) → List ℕ → State → (size : ℕ) → Token → Next
 act at v m size Finish = go 0 m
 act at v m size Bar = go 0 (record { stack = m .stack; branches = branchOf m ∷ m .branches; items = []; options = m .options; target = nothing })
@@ -120,6 +124,8 @@ act at v m size Class =
 act at v m size (One a) = go (pred size) (one m a)
 act at v m size (Open o) = opening at (pred size) m o
 act at v m size (Set o) = go (pred size) (with-options m o)
+act at v m size (Note o) = go (pred size) (noted m o)
+act at v m size Unclosed = stop 12 (at + length v)
 act at v m size (Repeat least extra) =
     go (pred size) (record { stack = m .stack; branches = m .branches; items = repeating (m .items) least extra; options = m .options; target = repeated })
 act at v m size Bad = go 0 m
@@ -133,6 +139,8 @@ context m Class = 0
 context m (One a) = 0
 context m (Open o) = 0
 context m (Set o) = 0
+context m (Note o) = 0
+context m Unclosed = 0
 context m (Repeat least extra) = targetFault (m .target)
 context m Bad = 0
 

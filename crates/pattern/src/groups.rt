@@ -50,7 +50,7 @@ pub(super) fn branches(
     join(a, OR, g, h)
 }
 
-// One branch, up to its end: items one after the other, and option settings.
+// One branch, up to its end: items one after the other, option settings, comments and quotes' marks.
 fn sequence(
     s: &[u8],
     at: usize,
@@ -67,13 +67,15 @@ fn sequence(
     let token = l.token;
     match token {
         Token::Finish | Token::Bar | Token::Close => leaf(a, n, EMPTY, 0, at, options),
-        Token::Set(after) => sequence(s, at + l.size, depth, after, a, n),
+        Token::Set(after) | Token::Note(after) => sequence(s, at + l.size, depth, after, a, n),
+        Token::Unclosed => refuse(12, s.len()),
         _ => {
             let g = item(s, at, depth, options, l, a, n);
             if g.fault != 0 {
                 return g;
             }
-            let h = sequence(s, g.at, depth, options, a, g.n);
+            let after = g.options;
+            let h = sequence(s, g.at, depth, after, a, g.n);
             if h.fault != 0 {
                 return h;
             }

@@ -38,6 +38,7 @@ pub(super) fn refuse(fault: u32, at: usize) -> Got
         options: Options {
             caseless: false,
             dotall: false,
+            quoted: false,
         },
     }
 }
@@ -81,7 +82,7 @@ pub(super) fn join(a: &mut [u64; 2048], op: u64, g: Got, h: Got) -> Got
     }
 }
 
-// The quantifier that may follow an item or a group, which was read up to `at`.
+// The quantifier that may follow an item or a group, which was read up to `at`: comments and quotes' marks may stand between them.
 pub(super) fn quantified(
     s: &[u8],
     at: usize,
@@ -96,25 +97,28 @@ pub(super) fn quantified(
 {
     let l = token_at(s, at, options);
     let token = l.token;
-    if let Token::Repeat { least, extra } = token {
-        if l.fault != 0 {
-            return refuse(l.fault, at);
+    match token {
+        Token::Note(after) => quantified(s, at + l.size, after, a, n, root),
+        Token::Repeat { least, extra } => {
+            if l.fault != 0 {
+                return refuse(l.fault, at);
+            }
+            put(a, n, REPEAT, root as u64, least as u64, extra as u64);
+            Got {
+                fault: 0,
+                at: at + l.size,
+                n: n + 1,
+                root: n,
+                options,
+            }
         }
-        put(a, n, REPEAT, root as u64, least as u64, extra as u64);
-        return Got {
+        _ => Got {
             fault: 0,
-            at: at + l.size,
-            n: n + 1,
-            root: n,
+            at,
+            n,
+            root,
             options,
-        };
-    }
-    Got {
-        fault: 0,
-        at,
-        n,
-        root,
-        options,
+        },
     }
 }
 

@@ -1,20 +1,21 @@
 -- How many bytes a token takes: never more than there are, and at least one unless it is faulty. Callers cite `lexeme-takes` and `lexeme-fits`. By cases on
 -- what the definitions ask, and by going down the bytes.
 use mathlib.Core.Path.{_≡_, sym}
-use mathlib.Core.Bool.{Bool, true, false, cond, not, _&&_, and-eq-true-iff, true≢false}
+use mathlib.Core.Bool.{Bool, true, false, cond, not, _&&_, _||_, and-eq-true-iff, true≢false}
 use mathlib.Core.List.{List, [], _∷_}
 use Prim.Native.Nat.{ℕ, zero, suc, pred, _+_, _≤_, _<_}
 use native.Mathlib.Omega.{arith}
-use borrow.Author.Tests.{eqb-true, eqb-false}
+use borrow.Author.Tests.{eqb-true, eqb-false, ltb-true}
 use lib.Dec.{eqb, leb, ltb}
 use lib.ListN.{length, getD, drop, length-drop}
 use Rattle.sets.specs.Set.{emptySet}
 use Rattle.atoms.specs.Number.{cap, numeralOf}
 use Rattle.atoms.specs.Fault.{lower}
+use Rattle.atoms.specs.Quote.{isMark, opensQuote, gapOf}
 use Rattle.atoms.specs.Class.{joined, membersOf, classOf, memberAt}
-use Rattle.tokens.specs.Option.{plain, faulty, withCaseless, withDotAll, lettersOf, openingOf}
+use Rattle.tokens.specs.Option.{plain, faulty, withCaseless, withDotAll, lettersOf, beforeClose, commentOf, openingOf}
 use Rattle.tokens.specs.Quantifier.{noForm, bounded, open-ended, bracesOf, formOf, marked, quantifierOf}
-use Rattle.tokens.specs.Token.{escaped, lexemeOf}
+use Rattle.tokens.specs.Token.{escaped, unquotedOf, lexemeOf}
 use Rattle.atoms.specs.declared.Part.{Part}
 use Rattle.atoms.specs.declared.Class.{Class}
 use Rattle.tokens.specs.declared.Options.{Options}
@@ -22,7 +23,7 @@ use Rattle.tokens.specs.declared.Token.{Token}
 use Rattle.tokens.specs.declared.Form.{Form}
 use Rattle.tokens.specs.declared.Lexeme.{Lexeme}
 use Rattle.atoms.proofs.Suffixes.{inside}
-use Rattle.atoms.proofs.Sizes.{either, pick, byte-within, Stands, escape-stands}
+use Rattle.atoms.proofs.Sizes.{either, pick, byte-within, mark-within, Stands, escape-stands}
 
 -- ---- quantifiers
 
@@ -104,6 +105,21 @@ letters-take on any o k (c ∷ v) =
     (pick (Takes n) (eqb c 41) (λ e. pick (Takes n) any (λ z. plain-takes n (k + 1) _ (omega arith) (omega arith)) bad)
     (pick (Takes n) (eqb c 58) (λ e. pick (Takes n) any (λ z. plain-takes n (k + 1) _ (omega arith) (omega arith)) bad) bad))))
 
+before-fits : (v : List ℕ) → beforeClose v ≤ length v
+unfolding beforeClose
+before-fits [] = omega arith
+before-fits (c ∷ v) =
+    let more = before-fits v in
+    pick (λ (k : ℕ). k ≤ length (c ∷ v)) (eqb c 41) (λ e. omega arith) (omega (arith, more))
+
+comment-takes : (o : Options) (v : List ℕ) → Takes (3 + length v) (commentOf o v)
+unfolding commentOf
+comment-takes o v =
+    let n = 3 + length v in
+    let k = beforeClose v in
+    pick (Takes n) (ltb k (length v)) (λ e. plain-takes n (4 + k) _ (omega arith) (omega (arith, ltb-true k (length v) e)))
+    (plain-takes n (3 + k) _ (omega arith) (omega (arith, before-fits v)))
+
 opening-takes : (o : Options) (v : List ℕ) → Takes (1 + length v) (openingOf o v)
 unfolding openingOf
 opening-takes o v =
@@ -112,8 +128,10 @@ opening-takes o v =
     (pick (Takes n) (eqb (getD v 0 0) 63)
     (λ e.
     pick (Takes n) (eqb (getD v 1 0) 58) (λ z. plain-takes n 3 _ (omega arith) (omega (arith, byte-within v 1 57 z)))
+    (pick (Takes n) (eqb (getD v 1 0) 35)
+    (λ z. let more : 3 + length (drop 2 v) ≡ n = omega (arith, byte-within v 1 34 z, length-drop 2 v) in rw more at (comment-takes o (drop 2 v)))
     (let more : 2 + length (drop 1 v) ≡ n = omega (arith, byte-within v 0 62 e, length-drop 1 v) in
-    rw more at (letters-take true false o 2 (drop 1 v))))
+    rw more at (letters-take true false o 2 (drop 1 v)))))
     (plain-takes n 1 _ (omega arith) (omega arith)))
 
 marked-takes : (n : ℕ) (q : Form) (m : ℕ) → q .is ≡ true → Counts n q → (m ≡ 63 → suc (q .size) ≤ n) → Takes n (marked q m)
@@ -134,10 +152,9 @@ escaped-takes n p s =
     either (Takes n) (eqb (p .fault) 0) (λ e. plain-takes n (p .size) _ (s .takes (eqb-true (p .fault) 0 e)) (s .fits))
     (λ e. faulty-takes n (p .fault) (eqb-false (p .fault) 0 e))
 
--- where the pattern has not ended, a token that is not faulty takes a byte at least, and no token more than there are
-pub lexeme-takes : (o : Options) (c : ℕ) (v : List ℕ) → Takes (length (c ∷ v)) (lexemeOf o (c ∷ v))
-unfolding lexemeOf quantifierOf
-lexeme-takes o c v =
+unquoted-takes : (o : Options) (c : ℕ) (v : List ℕ) → Takes (length (c ∷ v)) (unquotedOf o c v)
+unfolding unquotedOf quantifierOf
+unquoted-takes o c v =
     let n = length (c ∷ v) in
     let more : n ≡ 1 + length v = omega arith in
     let byte : (t : Token) → Takes n (plain 1 t) = λ t. plain-takes n 1 t (omega arith) (omega arith) in
@@ -153,6 +170,15 @@ lexeme-takes o c v =
     (pick (Takes n) (q .is)
     (λ e. marked-takes n q (getD (c ∷ v) (q .size) 0) e (form-counts (c ∷ v)) (λ z. inside (c ∷ v) (q .size) (λ y. omega arith)))
     (byte _)))))))))
+
+-- where the pattern has not ended, a token that is not faulty takes a byte at least, and no token more than there are
+pub lexeme-takes : (o : Options) (c : ℕ) (v : List ℕ) → Takes (length (c ∷ v)) (lexemeOf o (c ∷ v))
+unfolding lexemeOf
+lexeme-takes o c v =
+    let n = length (c ∷ v) in
+    let quoted = o .quoted in
+    pick (Takes n) (isMark quoted c (getD v 0 0)) (λ e. plain-takes n 2 _ (omega arith) (omega (arith, mark-within quoted c v e)))
+    (pick (Takes n) quoted (λ e. plain-takes n 1 _ (omega arith) (omega arith)) (unquoted-takes o c v))
 
 pub lexeme-fits : (o : Options) (v : List ℕ) → lexemeOf o v .size ≤ length v
 unfolding lexemeOf

@@ -1,18 +1,18 @@
--- Option letters, as the function reads them: what each byte does, at the bytes from a place on. The byte 0, which stands for the pattern's end, is
--- refused as the end is.
+-- Openings, option letters and comments, as the functions read them: what each byte does, at the bytes from a place on. The byte 0, which stands for the
+-- pattern's end, is refused as a letter as the end is.
 use mathlib.Core.Path.{_≡_, refl, _∙_}
 use mathlib.Core.Bool.{Bool, true, false, cond}
 use mathlib.Core.List.{List, [], _∷_}
-use Prim.Native.Nat.{ℕ, _+_}
-use borrow.Author.Tests.{ne-eqb}
+use Prim.Native.Nat.{ℕ, suc, _+_, _-_, _≤_, _<_}
+use borrow.Author.Tests.{ne-eqb, lt-ltb, le-ltb}
 use lib.Dec.{eqb}
-use lib.ListN.{getD, drop}
+use lib.ListN.{length, getD, drop, length-drop, drop-of-length-le}
 use lib.Seq.{getD-drop, drop-drop}
-use Rattle.tokens.specs.Option.{plain, faulty, withCaseless, withDotAll, lettersOf, openingOf}
+use Rattle.tokens.specs.Option.{plain, faulty, withCaseless, withDotAll, lettersOf, beforeClose, commentOf, openingOf}
 use Rattle.tokens.specs.declared.Options.{Options}
-use Rattle.tokens.specs.declared.Token.the-variants.{Open, Set}
+use Rattle.tokens.specs.declared.Token.the-variants.{Open, Set, Note, Unclosed}
 use Rattle.tokens.specs.declared.Lexeme.{Lexeme}
-use Rattle.atoms.proofs.Suffixes.{first}
+use Rattle.atoms.proofs.Suffixes.{front, first}
 
 module _ (on any : Bool) (o : Options) (size : ℕ) where
   -- what the byte c does, with v after it
@@ -59,7 +59,34 @@ module _ (on any : Bool) (o : Options) (size : ℕ) where
 pub opening-is : (o : Options) (s : List ℕ) (at c d : ℕ) → c ≡ getD s at 0 → d ≡ getD s (at + 1) 0
     → openingOf o (drop at s)
     ≡ cond (eqb c 42) (faulty 14)
-    (cond (eqb c 63) (cond (eqb d 58) (plain 3 (Open o)) (lettersOf true false o 2 (drop (at + 1) s)))
+    (cond (eqb c 63)
+    (cond (eqb d 58) (plain 3 (Open o)) (cond (eqb d 35) (commentOf o (drop (at + 2) s)) (lettersOf true false o 2 (drop (at + 1) s))))
     (plain 1 (Open o)))
 unfolding openingOf
-opening-is o s at c d ec ed = rw (first s at, ← ec, getD-drop at s 1 0, ← ed, drop-drop 1 at s)
+opening-is o s at c d ec ed = rw (first s at, ← ec, getD-drop at s 1 0, ← ed, drop-drop 1 at s, drop-drop 2 at s)
+
+-- ---- comments
+
+module _ (s : List ℕ) where
+  module _ (i : ℕ) where
+    pub before-end : length s ≤ i → beforeClose (drop i s) ≡ 0
+    unfolding beforeClose
+    before-end h = rw (drop-of-length-le s h)
+
+    pub before-close : i < length s → getD s i 0 ≡ 41 → beforeClose (drop i s) ≡ 0
+    unfolding beforeClose
+    before-close h e = rw (front s i h, e)
+
+    pub before-more : i < length s → (getD s i 0 ≡ 41 → ⊥) → beforeClose (drop i s) ≡ suc (beforeClose (drop (i + 1) s))
+    unfolding beforeClose
+    before-more h f = rw (front s i h, ne-eqb _ _ f)
+
+  -- the comment after `at`, with k bytes before its end
+  module _ (o : Options) (at k : ℕ) (e : k ≡ beforeClose (drop at s)) where
+    pub comment-closed : k < length s - at → commentOf o (drop at s) ≡ plain (4 + k) (Note o)
+    unfolding commentOf
+    comment-closed h = rw (← e, length-drop at s, lt-ltb k (length s - at) h)
+
+    pub comment-open : length s - at ≤ k → commentOf o (drop at s) ≡ plain (3 + k) Unclosed
+    unfolding commentOf
+    comment-open h = rw (← e, length-drop at s, le-ltb k (length s - at) h)

@@ -1,8 +1,9 @@
 -- The token at a place outside a class, and the set of bytes that an item takes. Assumes nothing: these are definitions.
-use mathlib.Core.Bool.{false, cond}
+use mathlib.Core.Bool.{Bool, false, cond}
 use mathlib.Core.List.{List, [], _∷_}
 use Prim.Native.Nat.{ℕ}
 use lib.Dec.{eqb}
+use lib.ListN.{getD}
 use Rattle.sets.specs.Set.{setOf, emptySet, fullSet, inserted, complementOf}
 use Rattle.kinds.specs.Kind.{isKind, isNotKind}
 use Rattle.kinds.specs.Case.{caseClosed}
@@ -10,9 +11,10 @@ use Rattle.atoms.specs.declared.Atom.{Atom}
 use Rattle.atoms.specs.declared.Atom.the-variants.{Byte, OfKind, NotOfKind, Dot, NotNewline, Start, End}
 use Rattle.atoms.specs.declared.Part.{Part}
 use Rattle.tokens.specs.declared.Options.{Options}
-use Rattle.tokens.specs.declared.Token.the-variants.{Finish, Bar, Close, Class, One}
+use Rattle.tokens.specs.declared.Token.the-variants.{Finish, Bar, Close, Class, One, Note}
 use Rattle.tokens.specs.declared.Lexeme.{Lexeme}
 use Rattle.atoms.specs.Escape.{escapeOf}
+use Rattle.atoms.specs.Quote.{isMark, opensQuote}
 use Rattle.tokens.specs.Option.{plain, faulty, openingOf}
 use Rattle.tokens.specs.Quantifier.{formOf, quantifierOf}
 
@@ -20,11 +22,14 @@ use Rattle.tokens.specs.Quantifier.{formOf, quantifierOf}
 unfoldable pub escaped : Part → Lexeme
 escaped p = cond (eqb (p .fault) 0) (plain (p .size) (One (p .atom))) (faulty (p .fault))
 
--- "A token is a byte, an escape, a quantifier with its mark, .. an opening, an option setting." What the byte at the front of v starts, where o are
--- the options there. "A byte stands for itself. .. `]` and `}` outside a class are literal."
-unfoldable pub lexemeOf : Options → List ℕ → Lexeme
-lexemeOf o [] = plain 0 Finish
-lexemeOf o (c ∷ v) =
+-- the options with a quote open or not
+abbrev pub withQuoted : Bool → Options → Options
+withQuoted b o = record { caseless = o .caseless; dotall = o .dotall; quoted = b }
+
+-- "A token is a byte, an escape, a quantifier with its mark, .. an opening, an option setting." What the byte c starts outside a quote, with v
+-- after it, where o are the options there. "A byte stands for itself. .. `]` and `}` outside a class are literal."
+unfoldable pub unquotedOf : Options → (c : ℕ) → List ℕ → Lexeme
+unquotedOf o c v =
     cond (eqb c 92) (escaped (escapeOf false v))
     (cond (eqb c 91) (plain 1 Class)
     (cond (eqb c 40) (openingOf o v)
@@ -35,6 +40,15 @@ lexemeOf o (c ∷ v) =
     (cond (eqb c 36) (plain 1 (One End))
     (cond (formOf (c ∷ v) .is) (quantifierOf (c ∷ v))
     (plain 1 (One (Byte c)))))))))))
+
+-- The token at the front of v, where o are the options there. The marks of quotes are notes, as comments are: "An empty quote and a lone `\E` count as
+-- comments". In a quote each byte stands for itself.
+unfoldable pub lexemeOf : Options → List ℕ → Lexeme
+lexemeOf o [] = plain 0 Finish
+lexemeOf o (c ∷ v) =
+    cond (isMark (o .quoted) c (getD v 0 0)) (plain 2 (Note (withQuoted (opensQuote (getD v 0 0)) o)))
+    (cond (o .quoted) (plain 1 (One (Byte c)))
+    (unquotedOf o c v))
 
 -- all bytes but 10
 abbrev pub allButNewline : List ℕ

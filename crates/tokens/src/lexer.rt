@@ -11,16 +11,17 @@ use atoms::Atom;
 use atoms::Part;
 use atoms::cased;
 use atoms::escape_at;
+use atoms::is_mark;
 use atoms::peek;
 ghost use mathlib.Core.Path.{_≡_};
 ghost use mathlib.Core.Bool.{cond};
-ghost use Prim.Native.Nat.{_<_};
+ghost use Prim.Native.Nat.{_+_, _<_};
 ghost use lib.ListN.{length, getD, drop};
 ghost use Rattle.tokens.specs.Option.{plain};
 ghost use Rattle.tokens.specs.Quantifier.{formOf, quantifierOf};
 ghost use Rattle.atoms.specs.declared.Atom.the-variants.{Byte};
 ghost use Rattle.tokens.specs.declared.Token.the-variants.{One};
-ghost use Rattle.tokens.specs.Token.{escaped, lexemeOf, allButNewline, itemSet};
+ghost use Rattle.tokens.specs.Token.{escaped, unquotedOf, lexemeOf, allButNewline, itemSet};
 
 // An escape as a token.
 fn escaped(p: Part) -> Lexeme
@@ -48,13 +49,11 @@ fn quantifier_or_byte(s: &[u8], at: usize) -> Lexeme
     plain(1, Token::One(Atom::Byte(s[at])))
 }
 
-// What stands at a place outside a class, where the options are these.
-pub fn token_at(s: &[u8], at: usize, options: Options) -> Lexeme
-    ensures { λ r. ⌜ r ≡ lexemeOf options (drop at (now (s .entry))) ⌝ }
+// What the byte at a place starts outside a quote.
+fn unquoted(s: &[u8], at: usize, options: Options) -> Lexeme
+    requires { ⌜ at < length (now s) ⌝ }
+    ensures { λ r. ⌜ r ≡ unquotedOf options (getD (now (s .entry)) at 0) (drop (at + 1) (now (s .entry))) ⌝ }
 {
-    if s.len() <= at {
-        return plain(0, Token::Finish);
-    }
     let c = s[at];
     match c {
         b'\\' => escaped(escape_at(s, at + 1, false)),
@@ -67,6 +66,31 @@ pub fn token_at(s: &[u8], at: usize, options: Options) -> Lexeme
         b'$' => plain(1, Token::One(Atom::End)),
         _ => quantifier_or_byte(s, at),
     }
+}
+
+// What stands at a place outside a class, where the options are these.
+pub fn token_at(s: &[u8], at: usize, options: Options) -> Lexeme
+    ensures { λ r. ⌜ r ≡ lexemeOf options (drop at (now (s .entry))) ⌝ }
+{
+    if s.len() <= at {
+        return plain(0, Token::Finish);
+    }
+    let c = s[at];
+    let d = peek(s, at + 1);
+    if is_mark(options.quoted, c, d) {
+        return plain(
+            2,
+            Token::Note(Options {
+                caseless: options.caseless,
+                dotall: options.dotall,
+                quoted: d == b'Q',
+            }),
+        );
+    }
+    if options.quoted {
+        return plain(1, Token::One(Atom::Byte(c)));
+    }
+    unquoted(s, at, options)
 }
 
 // Every byte but 10.

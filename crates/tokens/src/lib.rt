@@ -9,10 +9,11 @@ use atoms::Atom;
 pub use lexer::item_set;
 pub use lexer::token_at;
 
-// The options `i` and `s`.
+// How the bytes at a place are read: the options `i` and `s`, and whether a quote is open.
 pub struct Options {
     pub caseless: bool,
     pub dotall: bool,
+    pub quoted: bool,
 }
 
 // What stands at a place outside a class.
@@ -31,6 +32,10 @@ pub enum Token {
     Open(Options),
     // an option setting, and the options after it
     Set(Options),
+    // a comment, or a quote's mark, and the options after it
+    Note(Options),
+    // a comment that is not closed
+    Unclosed,
     // a quantifier: the least number of copies, and how many more; 65,536 more is any number
     Repeat { least: u32, extra: u32 },
     // none of these

@@ -1,4 +1,4 @@
-// What begins with `(`: openings, option settings, and what is refused.
+// What begins with `(`: openings, option settings, comments, and what is refused.
 use crate::Lexeme;
 use crate::Options;
 use crate::Token;
@@ -7,7 +7,7 @@ ghost use mathlib.Core.Path.{_≡_};
 ghost use mathlib.Core.Bool.{cond, true, false};
 ghost use Prim.Native.Nat.{_≤_};
 ghost use lib.ListN.{length, drop};
-ghost use Rattle.tokens.specs.Option.{plain, faulty, lettersOf, openingOf};
+ghost use Rattle.tokens.specs.Option.{plain, faulty, lettersOf, commentOf, openingOf};
 
 // A token of so many bytes.
 pub(super) fn plain(size: usize, token: Token) -> Lexeme
@@ -48,6 +48,7 @@ fn letters(s: &[u8], at: usize, options: Options) -> Lexeme
 {
     let mut caseless = options.caseless;
     let mut dotall = options.dotall;
+    let quoted = options.quoted;
     let mut on = true;
     let mut any = false;
     let mut i = at;
@@ -71,11 +72,42 @@ fn letters(s: &[u8], at: usize, options: Options) -> Lexeme
                 }
                 on = false;
             }
-            b')' => return lettered(any, size, Token::Set(Options { caseless, dotall })),
-            b':' => return lettered(any, size, Token::Open(Options { caseless, dotall })),
+            b')' => return lettered(
+                any,
+                size,
+                Token::Set(Options {
+                    caseless,
+                    dotall,
+                    quoted,
+                }),
+            ),
+            b':' => return lettered(
+                any,
+                size,
+                Token::Open(Options {
+                    caseless,
+                    dotall,
+                    quoted,
+                }),
+            ),
             _ => return refused(14),
         }
     }
+}
+
+// After `(?#`: a comment, up to the first `)`.
+fn comment(s: &[u8], at: usize, options: Options) -> Lexeme
+    requires { ⌜ at ≤ length (now s) ⌝ }
+    ensures { λ r. ⌜ r ≡ commentOf options (drop at (now (s .entry))) ⌝ }
+{
+    let mut i = at;
+    while i < s.len() {
+        if s[i] == b')' {
+            return plain(4 + (i - at), Token::Note(options));
+        }
+        i += 1;
+    }
+    plain(3 + (i - at), Token::Unclosed)
 }
 
 // After `(`.
@@ -87,8 +119,12 @@ pub(super) fn opening_at(s: &[u8], at: usize, options: Options) -> Lexeme
         return refused(14);
     }
     if c == b'?' {
-        if peek(s, at + 1) == b':' {
+        let d = peek(s, at + 1);
+        if d == b':' {
             return plain(3, Token::Open(options));
+        }
+        if d == b'#' {
+            return comment(s, at + 2, options);
         }
         return letters(s, at + 1, options);
     }

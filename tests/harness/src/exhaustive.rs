@@ -1,5 +1,6 @@
 //! The exhaustive mode: all patterns of up to k tokens over a small alphabet of tokens, with all
-//! logs up to a length over a small alphabet of bytes, and for each log all cuts into blocks.
+//! logs up to a length over a small alphabet of bytes, and for each log all cuts into blocks. There
+//! are two alphabets, one for the meaning of patterns and one for their spelling.
 //!
 //! An accepted pattern stands twice in the table, plain and as a single-match rule, and all its
 //! streams are opened on that table one after another. Each cut is scanned with the least report
@@ -14,17 +15,48 @@ use crate::scenario::{predict_with, Addition, Scenario, Step};
 use crate::shrink::{describe, failure, shrink};
 use crate::watcher::{PatternReader, Watcher};
 
-/// Each token is one of the pattern language's, so that k tokens reach far.
-pub const TOKENS: &[&str] = &[
-    "a", "b", ".", "^", "$", "|", "(", ")", "*", "+", "?", "{2}", "{1,2}", "{,2}", "{2,}", "[^a]",
-    "(?i)", "\\z", "(?:",
-];
+/// What patterns and logs are made of.
+#[derive(Clone, Copy, Debug)]
+pub struct Alphabet {
+    pub tokens: &'static [&'static str],
+    pub bytes: &'static [u8],
+}
 
-/// Two letters that patterns name, one in the other case, and the newline.
-pub const BYTES: &[u8] = b"abA\n";
+/// Each token is one of the pattern language's, so that k tokens reach far. The logs are of two
+/// letters that patterns name, one in the other case, and the newline.
+pub const MEANING: Alphabet = Alphabet {
+    tokens: &[
+        "a", "b", ".", "^", "$", "|", "(", ")", "*", "+", "?", "{2}", "{1,2}", "{,2}", "{2,}",
+        "[^a]", "(?i)", "\\z", "(?:",
+    ],
+    bytes: b"abA\n",
+};
+
+/// Pieces of classes, quotes and comments, whole or not, and what may stand beside them.
+pub const SPELLING: Alphabet = Alphabet {
+    tokens: &[
+        "a",
+        "-",
+        "^",
+        "[",
+        "]",
+        "[:upper:]",
+        "\\Q",
+        "\\E",
+        "\\d",
+        "*",
+        "?",
+        "(",
+        ")",
+        "(?#",
+        "(?i)",
+    ],
+    bytes: b"aA-^]*",
+};
 
 #[derive(Clone, Copy, Debug)]
 pub struct Bounds {
+    pub alphabet: Alphabet,
     pub tokens: usize,
     pub bytes: usize,
     /// Only the patterns whose index leaves this remainder by the divisor, for runs in parts.
@@ -46,17 +78,18 @@ pub fn run<W: Watcher, R: PatternReader>(
     bounds: Bounds,
 ) -> Result<Count, String> {
     let mut count = Count::default();
-    let logs = all_logs(bounds.bytes);
+    let Alphabet { tokens: alphabet, bytes } = bounds.alphabet;
+    let logs = all_logs(bytes, bounds.bytes);
     let mut index = 0;
     for tokens in 0..=bounds.tokens {
         let mut digits = vec![0; tokens];
         loop {
             if index % bounds.part.1 == bounds.part.0 {
-                let pattern: String = digits.iter().map(|&d| TOKENS[d]).collect();
+                let pattern: String = digits.iter().map(|&d| alphabet[d]).collect();
                 one_pattern(watcher, reader, pattern.as_bytes(), &logs, &mut count)?;
             }
             index += 1;
-            if !advance(&mut digits, TOKENS.len()) {
+            if !advance(&mut digits, alphabet.len()) {
                 break;
             }
         }
@@ -76,13 +109,13 @@ fn advance(digits: &mut [usize], base: usize) -> bool {
     false
 }
 
-fn all_logs(longest: usize) -> Vec<Vec<u8>> {
+fn all_logs(bytes: &[u8], longest: usize) -> Vec<Vec<u8>> {
     let mut logs = vec![Vec::new()];
     let mut from = 0;
     for _ in 0..longest {
         let until = logs.len();
         for index in from..until {
-            for &byte in BYTES {
+            for &byte in bytes {
                 let mut longer = logs[index].clone();
                 longer.push(byte);
                 logs.push(longer);

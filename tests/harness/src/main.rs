@@ -1,11 +1,11 @@
-//! The harness as a command: what is under test, and then the corpus, the exhaustive mode, the random
-//! mode, or damaged words. It prints counts, and ends with status 1 when anything disagrees.
+//! The harness as a command: what is under test, and then the corpus, the exhaustive mode with one of
+//! its alphabets, the random mode, or damaged words. It prints counts, and ends with status 1 when anything disagrees.
 
 use std::path::Path;
 use std::process::ExitCode;
 
 use harness::corpus_run::{run_cases, run_definition, run_folder, run_program, Tally};
-use harness::exhaustive::{self, Bounds};
+use harness::exhaustive::{self, Alphabet, Bounds, MEANING, SPELLING};
 #[cfg(feature = "library")]
 use harness::library::Library;
 use harness::model::Model;
@@ -20,6 +20,7 @@ const USAGE: &str = "usage:
   harness [WATCHER] corpus
   harness [WATCHER] play FILE
   harness [WATCHER] exhaustive TOKENS BYTES [PART OF]
+  harness [WATCHER] spelling TOKENS BYTES [PART OF]
   harness [WATCHER] readings LENGTH
   harness [WATCHER] random SEED COUNT [FIRST]
   harness library damaged SEED COUNT [FIRST]
@@ -73,10 +74,8 @@ fn command<W: Watcher + PatternReader>(watcher: &W, words: &[&str]) -> Result<()
     };
     match (*name, &numbers(rest)?[..]) {
         ("corpus", []) => corpus(watcher),
-        ("exhaustive", &[tokens, bytes]) => all_small(watcher, tokens, bytes, (0, 1)),
-        ("exhaustive", &[tokens, bytes, part, of]) if part < of => {
-            all_small(watcher, tokens, bytes, (part, of))
-        }
+        ("exhaustive", bounds) => all_small(watcher, MEANING, bounds),
+        ("spelling", bounds) => all_small(watcher, SPELLING, bounds),
         ("readings", &[length]) => all_readings(watcher, length),
         ("random", &[seed, count]) => many_random(watcher, seed, 0, count),
         ("random", &[seed, count, first]) => many_random(watcher, seed, first, count),
@@ -107,11 +106,15 @@ fn show(what: &str, tally: &Tally) -> Result<(), String> {
 
 fn all_small<W: Watcher + PatternReader>(
     watcher: &W,
-    tokens: u64,
-    bytes: u64,
-    part: (u64, u64),
+    alphabet: Alphabet,
+    bounds: &[u64],
 ) -> Result<(), String> {
-    let bounds = Bounds { tokens: tokens as usize, bytes: bytes as usize, part };
+    let (tokens, bytes, part) = match *bounds {
+        [tokens, bytes] => (tokens, bytes, (0, 1)),
+        [tokens, bytes, part, of] if part < of => (tokens, bytes, (part, of)),
+        _ => return Err(USAGE.to_string()),
+    };
+    let bounds = Bounds { alphabet, tokens: tokens as usize, bytes: bytes as usize, part };
     let count = exhaustive::run(watcher, watcher, bounds)?;
     println!(
         "exhaustive: {} patterns read, {} accepted, {} (pattern, log) pairs, {} streams",

@@ -37,7 +37,6 @@ const NASTY: &[&str] = &[
     "[a-\\d]",
     "[\\d-a]",
     "[a-\\",
-    "[[:alpha:]]",
     "[[.",
     "[=a=]",
     "[\\N]",
@@ -74,7 +73,6 @@ const NASTY: &[&str] = &[
     "\\1",
     "\\b",
     "\\Z",
-    "\\E",
     "\\N",
     "\\A",
     "\\z",
@@ -89,6 +87,58 @@ const NASTY: &[&str] = &[
     "(a{20}){20}",
     "((((((((((((((((",
 ];
+
+/// Named classes, quotes and comments, whole, cut and misspelt: put in by chance, in a class or not.
+const SPELLINGS: &[&str] = &[
+    "[:digit:]",
+    "[:^upper:]",
+    "[[:alpha:]]",
+    "[[:lower:]-z]",
+    "[a-[:word:]]",
+    "[[:digit:]-]",
+    "[:Digit:]",
+    "[:digits:]",
+    "[:^^digit:]",
+    "[:<:]",
+    "[::]",
+    "[:digit",
+    "[:digit:",
+    "[:",
+    ":]",
+    "[.a.]",
+    "[=",
+    "\\Q",
+    "\\E",
+    "\\Q\\E",
+    "\\Q*\\E",
+    "\\Q]\\E",
+    "\\Q-\\E",
+    "\\Q^\\E",
+    "-\\E",
+    "\\E-",
+    "[\\E",
+    "[\\Q\\E",
+    "[\\d\\E-a]",
+    "[\\d-\\E]",
+    "[\\Qz\\E-a]",
+    "(\\E?:",
+    "(\\Q\\E*",
+    "(?#",
+    "(?#)",
+    "(?#x)*",
+    "\\E?",
+    "\\Q\\E+",
+    "(?#a\\)",
+];
+
+const NAMES: &[&str] = &[
+    "alpha", "lower", "upper", "alnum", "ascii", "blank", "cntrl", "digit", "graph", "print",
+    "punct", "space", "word", "xdigit",
+];
+
+/// What counts as a comment.
+const NOTHINGS: &[&str] =
+    &["\\E", "\\Q\\E", "\\E\\E", "(?#)", "(?#x)", "(?#\\)", "(?#(?i*[)", "(?#\\Qa)"];
 
 const QUANTIFIERS: &[&str] = &[
     "?", "*", "+", "{0}", "{1}", "{2}", "{3}", "{0,}", "{1,}", "{2,}", "{,1}", "{,2}", "{,3}",
@@ -130,21 +180,34 @@ fn sequence(rng: &mut Rng, out: &mut Vec<u8>, budget: usize, depth: usize) {
             1 => out
                 .extend(rng.pick(&["(?i)", "(?s)", "(?-i)", "(?-s)", "(?is-i)", "(?i-)"]).bytes()),
             2 => out.extend(rng.pick(&["{", "{,}", "{2", "{2,", "{ 2}", "}", "]"]).bytes()),
+            3 => out.extend(rng.pick(NOTHINGS).bytes()),
             _ => {
                 item(rng, out, budget, depth);
                 if rng.once_in(3) {
-                    out.extend(rng.pick(QUANTIFIERS).bytes());
-                    if rng.once_in(5) {
-                        out.push(b'?');
-                    }
+                    quantified(rng, out);
                 }
             }
         }
     }
 }
 
+/// A quantifier, at times behind a comment, and seldom a second one behind another.
+fn quantified(rng: &mut Rng, out: &mut Vec<u8>) {
+    if rng.once_in(6) {
+        out.extend(rng.pick(NOTHINGS).bytes());
+    }
+    out.extend(rng.pick(QUANTIFIERS).bytes());
+    if rng.once_in(5) {
+        out.push(b'?');
+    }
+    if rng.once_in(30) {
+        out.extend(rng.pick(NOTHINGS).bytes());
+        out.extend(rng.pick(&["?", "+", "*", "{2}", "{,}"]).bytes());
+    }
+}
+
 fn item(rng: &mut Rng, out: &mut Vec<u8>, budget: usize, depth: usize) {
-    match rng.below(20) {
+    match rng.below(22) {
         0..=7 => out.push(*rng.pick(LETTERS)),
         8 => out.push(*rng.pick(PLAIN)),
         9 | 10 => out.push(b'.'),
@@ -152,7 +215,8 @@ fn item(rng: &mut Rng, out: &mut Vec<u8>, budget: usize, depth: usize) {
         12 => out.extend(rng.pick(ESCAPES).bytes()),
         13 => out.push(*rng.pick(ODD_BYTES)),
         14 => out.extend(b"\\N"),
-        15 | 16 => class(rng, out),
+        15..=17 => class(rng, out),
+        18 => quote(rng, out, b"aabA\\\\*+?.|(){}[]^$EQ#d2 "),
         _ if depth < 5 && budget > 1 => {
             let openings = ["(", "(", "(?:", "(?i:", "(?s-i:", "(?-s:", "(?-is:"];
             out.extend(rng.pick(&openings).bytes());
@@ -163,32 +227,104 @@ fn item(rng: &mut Rng, out: &mut Vec<u8>, budget: usize, depth: usize) {
     }
 }
 
+/// Bytes in a quote, which is seldom left open.
+fn quote(rng: &mut Rng, out: &mut Vec<u8>, bytes: &[u8]) {
+    out.extend(b"\\Q");
+    out.extend((0..rng.below(4)).map(|_| *rng.pick(bytes)));
+    if !rng.once_in(25) {
+        out.extend(b"\\E");
+    }
+}
+
 fn class(rng: &mut Rng, out: &mut Vec<u8>) {
-    out.extend(rng.pick(&["[", "[", "[^", "[]", "[^]", "[-", "[^-"]).bytes());
+    out.push(b'[');
+    not_there(rng, out);
+    if rng.once_in(3) {
+        out.push(b'^');
+        not_there(rng, out);
+    }
+    if rng.once_in(4) {
+        out.push(*rng.pick(b"]-"));
+    }
     for _ in 0..1 + rng.below(3) {
-        match rng.below(8) {
+        not_there(rng, out);
+        match rng.below(12) {
             0..=2 => out.push(*rng.pick(LETTERS)),
             3 => out.extend(rng.pick(ESCAPES).bytes()),
-            4 => out.extend(
-                rng.pick(&["a-c", "A-Z", "+--", "--a", "Z-b", "\\x00-\\x1f", "0-9-", "!-~"])
-                    .bytes(),
-            ),
+            4 => out.extend(rng.pick(&["+--", "--a", "\\x00-\\x1f", "0-9-", "!-~"]).bytes()),
             5 => out.push(*rng.pick(ODD_BYTES)),
             6 => out.push(*rng.pick(b"[(){}.*+?|^$,:=")),
+            7 => range(rng, out),
+            8 | 9 => name(rng, out),
+            10 => quote(rng, out, b"aabA^-][:\\\\E"),
             _ => out.extend(rng.pick(&["\\b", "\\]", "\\-", "\\\\", "\\^", "-"]).bytes()),
         }
     }
+    not_there(rng, out);
     out.push(b']');
+}
+
+/// Once in a while an empty quote or a lone `\E`.
+fn not_there(rng: &mut Rng, out: &mut Vec<u8>) {
+    if rng.once_in(14) {
+        out.extend(rng.pick(&["\\E", "\\Q\\E", "\\E\\E"]).bytes());
+    }
+}
+
+/// A range, mostly rising, its ends quoted or not.
+fn range(rng: &mut Rng, out: &mut Vec<u8>) {
+    let ends = rng.pick(&[b"ac", b"AZ", b"+-", b"-a", b"Zb", b"09", b"]a", b"A]", b"\\^", b"^b"]);
+    let (low, high) = if rng.once_in(20) { (ends[1], ends[0]) } else { (ends[0], ends[1]) };
+    range_end(rng, out, low);
+    not_there(rng, out);
+    out.push(b'-');
+    not_there(rng, out);
+    range_end(rng, out, high);
+}
+
+/// The byte in a quote, perhaps with others, or escaped if it needs it, or by itself.
+fn range_end(rng: &mut Rng, out: &mut Vec<u8>, byte: u8) {
+    match rng.below(8) {
+        0 | 1 => out.extend([b'\\', b'Q', byte, b'\\', b'E']),
+        2 => out.extend([b'\\', b'Q', byte, byte, b'\\', b'E']),
+        _ if b"]\\^".contains(&byte) => out.extend([b'\\', byte]),
+        _ => out.push(byte),
+    }
+}
+
+/// A named class, plain or negated, seldom misspelt or cut, seldom before a hyphen.
+fn name(rng: &mut Rng, out: &mut Vec<u8>) {
+    let mut text = b"[:".to_vec();
+    if rng.once_in(3) {
+        text.push(b'^');
+    }
+    text.extend(rng.pick(NAMES).bytes());
+    text.extend(b":]");
+    if rng.once_in(20) {
+        let at = rng.below(text.len());
+        match rng.below(4) {
+            0 => drop(text.remove(at)),
+            1 => text.truncate(at),
+            2 => text.insert(at, *rng.pick(b"^:a]")),
+            _ => text[at] = text[at].to_ascii_uppercase(),
+        }
+    }
+    out.extend(text);
+    if rng.once_in(20) {
+        not_there(rng, out);
+        out.push(b'-');
+    }
 }
 
 /// A few bytes taken out, put in or changed.
 fn break_it(rng: &mut Rng, out: &mut Vec<u8>) {
     let at = rng.below(out.len() + 1);
-    match rng.below(5) {
+    match rng.below(8) {
         0 if at < out.len() => drop(out.remove(at)),
         1 if at < out.len() => out[at] = rng.byte(),
         2 => out.insert(at, *rng.pick(META)),
         3 => out.truncate(at),
+        4 | 5 => drop(out.splice(at..at, rng.pick(SPELLINGS).bytes())),
         _ => drop(out.splice(at..at, rng.pick(NASTY).bytes())),
     }
 }

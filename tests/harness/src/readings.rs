@@ -7,7 +7,7 @@ use reference::rule::check;
 
 use crate::watcher::{PatternReader, Reading};
 
-pub const BYTES: &[u8] = b"\\[]^-(){}?*+|,:.1aixdNc";
+pub const BYTES: &[u8] = b"\\[]^-(){}?*+|,:.1aixdNcQE#";
 
 #[derive(Clone, Debug, Default)]
 pub struct Count {
@@ -27,7 +27,7 @@ pub fn reading(pattern: &[u8]) -> Reading {
 /// Compares all readings; the first disagreement is the error, as a case of the corpus.
 pub fn run<R: PatternReader>(reader: &R, longest: usize) -> Result<Count, String> {
     let mut count = Count::default();
-    for_all(longest, &mut |pattern| {
+    for_all(&bytes(), longest, &mut |pattern| {
         let wanted = reading(pattern);
         let got = reader.read(0, pattern);
         count.patterns += 1;
@@ -44,18 +44,25 @@ pub fn run<R: PatternReader>(reader: &R, longest: usize) -> Result<Count, String
     Ok(count)
 }
 
-/// Hands every pattern up to the length to `each`, the shorter ones first.
-pub fn for_all(
+/// The bytes as the tokens of an alphabet.
+pub fn bytes() -> Vec<&'static [u8]> {
+    BYTES.chunks(1).collect()
+}
+
+/// Hands every pattern of up to so many tokens to `each`, the shorter ones first.
+pub fn for_all<T: AsRef<[u8]>>(
+    alphabet: &[T],
     longest: usize,
     each: &mut dyn FnMut(&[u8]) -> Result<(), String>,
 ) -> Result<(), String> {
     for length in 0..=longest {
-        each_of_length(&mut Vec::new(), length, each)?;
+        each_of_length(alphabet, &mut Vec::new(), length, each)?;
     }
     Ok(())
 }
 
-fn each_of_length(
+fn each_of_length<T: AsRef<[u8]>>(
+    alphabet: &[T],
     pattern: &mut Vec<u8>,
     more: usize,
     each: &mut dyn FnMut(&[u8]) -> Result<(), String>,
@@ -63,10 +70,11 @@ fn each_of_length(
     if more == 0 {
         return each(pattern);
     }
-    for &byte in BYTES {
-        pattern.push(byte);
-        each_of_length(pattern, more - 1, each)?;
-        pattern.pop();
+    let length = pattern.len();
+    for token in alphabet {
+        pattern.extend(token.as_ref());
+        each_of_length(alphabet, pattern, more - 1, each)?;
+        pattern.truncate(length);
     }
     Ok(())
 }

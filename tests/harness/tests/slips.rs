@@ -2,7 +2,7 @@
 //! the random mode must find every one of them, and what the shrinker prints must be a small case
 //! that the corpus's reader reads and that still fails.
 
-use harness::exhaustive::{self, Bounds};
+use harness::exhaustive::{self, Bounds, MEANING, SPELLING};
 use harness::model::Model;
 use harness::play::play;
 use harness::random;
@@ -24,11 +24,13 @@ enum Slip {
     RefusedAdditionAdds,
     TakesNoMoreWhenFull,
     IgnoresTheShorterList,
+    CutsCommentsOut,
+    NegatesBeforeCase,
 }
 
 use Slip::*;
 
-const SLIPS: [Slip; 13] = [
+const SLIPS: [Slip; 15] = [
     PlaceOfTheMark,
     EndFaultAtTheStart,
     HalfOfAByte,
@@ -42,6 +44,8 @@ const SLIPS: [Slip; 13] = [
     RefusedAdditionAdds,
     TakesNoMoreWhenFull,
     IgnoresTheShorterList,
+    CutsCommentsOut,
+    NegatesBeforeCase,
 ];
 
 impl Slip {
@@ -73,6 +77,32 @@ impl Slip {
     }
 }
 
+/// The pattern as if its comments had never been written: then `a*(?#x)?` has a lazy mark.
+fn without_comments(pattern: &[u8]) -> Vec<u8> {
+    let mut rest = pattern;
+    let mut kept = Vec::new();
+    while !rest.is_empty() {
+        let end = rest.iter().position(|&byte| byte == b')').filter(|_| rest.starts_with(b"(?#"));
+        match end {
+            Some(end) => rest = &rest[end + 1..],
+            None => {
+                kept.push(rest[0]);
+                rest = &rest[1..];
+            }
+        }
+    }
+    kept
+}
+
+/// `[:^upper:]` as if the other case of its members were added after the negation: all bytes.
+fn any_for_negated_upper(pattern: &[u8]) -> Vec<u8> {
+    let negated = b"[:^upper:]";
+    match pattern.windows(negated.len()).position(|window| window == negated) {
+        Some(at) => [&pattern[..at], b"\\s\\S", &pattern[at + negated.len()..]].concat(),
+        None => pattern.to_vec(),
+    }
+}
+
 impl Watcher for Slip {
     type Table = Table;
     type Stream = Stream;
@@ -91,6 +121,11 @@ impl Watcher for Slip {
 
     fn add(&self, table: &mut Table, id: u32, flags: u32, pattern: &[u8]) -> (u32, usize) {
         let flags = if *self == ForgetsSingleMatch { flags & !8 } else { flags };
+        let pattern = &match self {
+            CutsCommentsOut => without_comments(pattern),
+            NegatesBeforeCase if flags & 1 != 0 => any_for_negated_upper(pattern),
+            _ => pattern.to_vec(),
+        };
         let (number, place) = Model.add(table, id, flags, pattern);
         match (self, number) {
             (PlaceOfTheMark, 14) => (number, place + 1),
@@ -209,7 +244,7 @@ fn the_random_mode_finds_every_slip_and_makes_it_small() {
 
 #[test]
 fn the_exhaustive_mode_finds_a_slip() {
-    let bounds = Bounds { tokens: 1, bytes: 2, part: (0, 1) };
+    let bounds = Bounds { alphabet: MEANING, tokens: 1, bytes: 2, part: (0, 1) };
     for slip in [FallingIds, StopsEarly, ForgetsSingleMatch] {
         assert!(exhaustive::run(&slip, &Model, bounds).is_err(), "{slip:?}");
     }
@@ -217,10 +252,14 @@ fn the_exhaustive_mode_finds_a_slip() {
 
 #[test]
 fn the_model_agrees_with_the_definition() {
-    let bounds = Bounds { tokens: 2, bytes: 3, part: (0, 1) };
+    let bounds = Bounds { alphabet: MEANING, tokens: 2, bytes: 3, part: (0, 1) };
     let count = exhaustive::run(&Model, &Model, bounds).unwrap();
     assert_eq!(count.patterns, 1 + 19 + 19 * 19);
     assert!(count.accepted > 40 && count.pairs == count.accepted * (1 + 4 + 16 + 64));
+    let bounds = Bounds { alphabet: SPELLING, tokens: 3, bytes: 1, part: (0, 1) };
+    let count = exhaustive::run(&Model, &Model, bounds).unwrap();
+    assert_eq!(count.patterns, 1 + 15 + 15 * 15 + 15 * 15 * 15);
+    assert!(count.accepted > 400 && count.pairs == count.accepted * (1 + 6));
     random::run(&Model, 2, 0, 500).unwrap();
 }
 

@@ -3,13 +3,15 @@
 //!
 //! Left out because the meanings differ: `{,m}` (PCRE2 10.42 reads bytes), a brace after `\N`, `$`
 //! for Hyperscan (it holds before a last newline), and what an outside matcher refuses. What one
-//! side accepts and the other refuses is counted and shown, not judged.
+//! side accepts and the other refuses is counted and shown, not judged: for PCRE2 a `?` or `+` behind
+//! a comment is the mark of the quantifier before it, `[\d-\E]` has a range and `[\d\E-a]` has none.
 
 mod pcre2;
 
 use std::collections::BTreeMap;
 use std::process::ExitCode;
 
+use harness::exhaustive::SPELLING;
 use harness::patterns::pattern;
 use harness::random::log;
 use harness::readings;
@@ -31,24 +33,31 @@ struct Count {
 }
 
 fn main() -> ExitCode {
-    let words: Vec<u64> = std::env::args().skip(1).filter_map(|word| word.parse().ok()).collect();
-    let (seed, cases) = match words[..] {
-        [longest] => {
-            all_readings(longest as usize);
-            return ExitCode::SUCCESS;
-        }
-        [seed, cases] => (seed, cases),
+    let words: Vec<String> = std::env::args().skip(1).collect();
+    let spelling = words.first().is_some_and(|word| word == "spelling");
+    let numbers: Vec<u64> = words.iter().filter_map(|word| word.parse().ok()).collect();
+    let done = match (spelling, &numbers[..]) {
+        (true, &[longest]) => all_readings(SPELLING.tokens, longest as usize, LOGS),
+        (false, &[longest]) => all_readings(&readings::bytes(), longest as usize, &[]),
+        (false, &[seed, cases]) => random_cases(seed, cases),
         _ => {
-            println!("usage: oracles SEED COUNT, or oracles LENGTH");
-            return ExitCode::FAILURE;
+            Err("usage: oracles SEED COUNT, oracles LENGTH, or oracles spelling TOKENS".to_string())
         }
     };
+    match done {
+        Ok(()) => ExitCode::SUCCESS,
+        Err(message) => {
+            println!("{message}");
+            ExitCode::FAILURE
+        }
+    }
+}
+
+fn random_cases(seed: u64, cases: u64) -> Result<(), String> {
     let mut count = Count::default();
     for index in 0..cases {
-        if let Err(message) = one(&mut Rng::for_case(seed, index), &mut count) {
-            println!("seed {seed}, case {index}: {message}");
-            return ExitCode::FAILURE;
-        }
+        one(&mut Rng::for_case(seed, index), &mut count)
+            .map_err(|message| format!("seed {seed}, case {index}: {message}"))?;
     }
     for line in &count.shown {
         println!("{line}");
@@ -61,27 +70,48 @@ fn main() -> ExitCode {
         "PCRE2 refuses {} that are accepted here, and accepts {} that are refused here",
         count.pcre2_refuses, count.pcre2_accepts
     );
-    ExitCode::SUCCESS
+    Ok(())
 }
 
-/// For all short patterns, whether they are accepted here and by PCRE2: a table of our number, 0 for
-/// accepted, and PCRE2's error, 0 for accepted, with the count and the first pattern of each. Our
-/// 14, 15 and 16 are left out: they are about the subset and its limits.
-fn all_readings(longest: usize) {
+/// Bytes that the spelling alphabet may quote or leave out, and some in a row.
+const LOGS: &[&[u8]] = &[
+    b"a", b"A", b"-", b"^", b"]", b"*", b"5", b"[", b"\\", b":", b"(", b"#", b"Q", b"aa", b"-a",
+    b"\\E",
+];
+
+/// For all patterns of up to so many tokens, whether they are accepted here and by PCRE2: a table of
+/// our number, 0 for accepted, and PCRE2's error, 0 for accepted, with the count and the first
+/// pattern of each. Our 14, 15 and 16 are left out: they are about the subset and its limits. What
+/// both accept must have the same meaning on these logs.
+fn all_readings<T: AsRef<[u8]>>(
+    alphabet: &[T],
+    longest: usize,
+    logs: &[&[u8]],
+) -> Result<(), String> {
     let mut table: BTreeMap<(u32, i32), (u64, String)> = BTreeMap::new();
-    let done = readings::for_all(longest, &mut |pattern| {
-        let number = readings::reading(pattern).number;
-        if number < 14 && !reads_otherwise(pattern) {
-            let theirs = pcre2::Pattern::compile(pattern, 0).err().unwrap_or(0);
-            let first = || (0, pattern.escape_ascii().to_string());
-            table.entry((number, theirs)).or_insert_with(first).0 += 1;
+    let mut count = Count::default();
+    readings::for_all(alphabet, longest, &mut |pattern| {
+        let rule = check(&[], 0, 0, pattern);
+        let number = rule.as_ref().err().map_or(0, |refusal| refusal.number);
+        if number >= 14 || reads_otherwise(pattern) {
+            return Ok(());
+        }
+        let code = pcre2::Pattern::compile(pattern, 0);
+        let theirs = code.as_ref().err().copied().unwrap_or(0);
+        let first = || (0, pattern.escape_ascii().to_string());
+        table.entry((number, theirs)).or_insert_with(first).0 += 1;
+        if let (Ok(rule), Ok(code)) = (&rule, &code) {
+            logs.iter().try_for_each(|log| with_pcre2(rule, code, log, &mut count))?;
         }
         Ok(())
-    });
-    assert_eq!(done, Ok(()));
-    for ((ours, theirs), (count, first)) in table {
-        println!("ours {ours}, PCRE2 {theirs}: {count}, first {first}");
+    })?;
+    for ((ours, theirs), (patterns, first)) in table {
+        println!("ours {ours}, PCRE2 {theirs}: {patterns}, first {first}");
     }
+    if !logs.is_empty() {
+        println!("(pattern, log) pairs equal: {} with PCRE2", count.pcre2);
+    }
+    Ok(())
 }
 
 fn one(rng: &mut Rng, count: &mut Count) -> Result<(), String> {

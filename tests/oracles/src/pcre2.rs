@@ -2,6 +2,7 @@
 //! Set up so that its meaning is the product's: `$` at the very end only, newline is byte 10, and
 //! no shortcut that would hide a match.
 
+use std::cell::RefCell;
 use std::ffi::c_void;
 use std::ptr::null_mut;
 
@@ -44,6 +45,11 @@ extern "C" {
     ) -> i32;
 }
 
+thread_local! {
+    /// Room for the matcher, lent to each call as the one before left it.
+    static WORKSPACE: RefCell<Vec<i32>> = RefCell::new(vec![0; 100_000]);
+}
+
 pub struct Pattern {
     code: *mut c_void,
 }
@@ -77,8 +83,11 @@ impl Pattern {
 
     /// The ends of all matches from this start, in rising order; none if PCRE2 gives up.
     pub fn ends(&self, subject: &[u8], start: usize) -> Option<Vec<usize>> {
+        WORKSPACE.with_borrow_mut(|workspace| self.ends_in(subject, start, workspace))
+    }
+
+    fn ends_in(&self, subject: &[u8], start: usize, workspace: &mut [i32]) -> Option<Vec<usize>> {
         let pairs = subject.len() as u32 + 2;
-        let mut workspace = vec![0i32; 100_000];
         // SAFETY: subject and workspace are lent with their lengths; at most `pairs` pairs are read.
         unsafe {
             let data = pcre2_match_data_create_8(pairs, null_mut());

@@ -4,9 +4,14 @@
 //! The members are read from left to right. A member followed by a hyphen that is followed by
 //! something other than `]` is the low end of a range; no other hyphen needs a rule, since it is
 //! read as a member by itself: first, last, right after a range, or as a range's low end.
+//!
+//! Every look at the next byte is at a settled place, so that empty quotes and lone `\E` are not
+//! there, and a quoted `^`, `-`, `]` or `[` is a member like any other byte.
 
 use crate::bytes::ByteSet;
 use crate::escape::{self, Escaped};
+use crate::names;
+use crate::quote::Place;
 use crate::refusal::Refusal;
 
 pub enum Class {
@@ -20,41 +25,41 @@ enum Member {
 }
 
 pub fn read(pattern: &[u8], at: usize, caseless: bool) -> Result<Class, Refusal> {
-    let negated = pattern.get(at + 1) == Some(&b'^');
-    let first = if negated { at + 2 } else { at + 1 };
+    let opened = Place::plain(at + 1).settled(pattern);
+    let negated = opened.has(pattern, b'^');
+    let first = if negated { Place::plain(opened.at + 1).settled(pattern) } else { opened };
     let mut set = ByteSet::none();
-    let mut i = first;
-    loop {
-        match pattern.get(i) {
-            None => return Ok(Class::Open),
-            Some(b']') if i > first => break,
-            Some(_) => {
-                let (more, end) = member_or_range(pattern, i)?;
-                set = set.union(&more);
-                i = end;
+    let mut place = first;
+    while place.at < pattern.len() {
+        if place != first && place.has(pattern, b']') {
+            if caseless {
+                set = set.with_other_case();
             }
+            if negated {
+                set = set.complement();
+            }
+            return Ok(Class::Closed { set, end: place.at + 1 });
         }
+        let (more, after) = member_or_range(pattern, place, caseless)?;
+        set = set.union(&more);
+        place = after.settled(pattern);
     }
-    if caseless {
-        set = set.with_other_case();
-    }
-    if negated {
-        set = set.complement();
-    }
-    Ok(Class::Closed { set, end: i + 1 })
+    Ok(Class::Open)
 }
 
 /// One token of a class: a member, or a range with both its ends. Of all faults within the token
 /// the lowest number is given, at the token's first byte.
-fn member_or_range(pattern: &[u8], at: usize) -> Result<(ByteSet, usize), Refusal> {
-    let (low, after_low) = member(pattern, at);
-    let is_range = pattern.get(after_low) == Some(&b'-')
-        && pattern.get(after_low + 1).is_some_and(|&b| b != b']');
-    if !is_range {
-        let low = low.map_err(|number| Refusal::at(number, at))?;
+fn member_or_range(
+    pattern: &[u8],
+    place: Place,
+    caseless: bool,
+) -> Result<(ByteSet, Place), Refusal> {
+    let (low, after_low) = member(pattern, place, caseless);
+    let Some(high_place) = range_goes_on(pattern, after_low) else {
+        let low = low.map_err(|number| Refusal::at(number, place.at))?;
         return Ok((set_of(low), after_low));
-    }
-    let (high, end) = member(pattern, after_low + 1);
+    };
+    let (high, after) = member(pattern, high_place, caseless);
     let mut faults: Vec<u32> = Vec::new();
     for range_end in [&low, &high] {
         match range_end {
@@ -65,17 +70,32 @@ fn member_or_range(pattern: &[u8], at: usize) -> Result<(ByteSet, usize), Refusa
     }
     if let (Ok(Member::Byte(l)), Ok(Member::Byte(h))) = (&low, &high) {
         if l <= h {
-            return Ok((ByteSet::of(|b| *l <= b && b <= *h), end));
+            return Ok((ByteSet::of(|b| *l <= b && b <= *h), after));
         }
         faults.push(9);
     }
     let lowest = faults.into_iter().min().expect("a range that is not right has a fault");
-    Err(Refusal::at(lowest, at))
+    Err(Refusal::at(lowest, place.at))
 }
 
-/// One end of a range, or a member alone, and the index after it.
-fn member(pattern: &[u8], at: usize) -> (Result<Member, u32>, usize) {
-    match pattern[at] {
+/// The place of a range's other end: after a hyphen, if neither the class nor the pattern ends there.
+fn range_goes_on(pattern: &[u8], after_low: Place) -> Option<Place> {
+    let hyphen = after_low.settled(pattern);
+    if !hyphen.has(pattern, b'-') {
+        return None;
+    }
+    let high = Place::plain(hyphen.at + 1).settled(pattern);
+    (high.at < pattern.len() && !high.has(pattern, b']')).then_some(high)
+}
+
+/// One end of a range, or a member alone, and the place after it. `[:` without a name of the list,
+/// `[.` and `[=` are a faulty member of two bytes.
+fn member(pattern: &[u8], place: Place, caseless: bool) -> (Result<Member, u32>, Place) {
+    let at = place.at;
+    if place.quoted {
+        return (Ok(Member::Byte(pattern[at])), Place { at: at + 1, quoted: true });
+    }
+    let (member, end) = match pattern[at] {
         b'\\' => {
             let escape = escape::read(pattern, at, true);
             let member = escape.meaning.map(|meaning| match meaning {
@@ -85,9 +105,15 @@ fn member(pattern: &[u8], at: usize) -> (Result<Member, u32>, usize) {
             });
             (member, escape.end)
         }
-        b'[' if matches!(pattern.get(at + 1), Some(b':' | b'.' | b'=')) => (Err(14), at + 2),
+        b'[' if matches!(pattern.get(at + 1), Some(b':' | b'.' | b'=')) => {
+            match names::read(pattern, at, caseless) {
+                Some((set, end)) => (Ok(Member::Type(set)), end),
+                None => (Err(14), at + 2),
+            }
+        }
         byte => (Ok(Member::Byte(byte)), at + 1),
-    }
+    };
+    (member, Place::plain(end))
 }
 
 fn set_of(member: Member) -> ByteSet {

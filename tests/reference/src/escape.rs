@@ -1,6 +1,6 @@
 //! Escapes. Comes in: a pattern and the index of a `\`. Goes out: what the escape stands for and
 //! where it ends, or the number of its fault. Whether it stands in a class matters for `\b`, `\N`,
-//! `\A` and `\z` only.
+//! `\A` and `\z` only. `\Q` and `\E` are passed over before a token is read, and never come here.
 
 use crate::bytes::{type_named, ByteSet};
 use crate::tree::Assertion;

@@ -10,7 +10,10 @@
 //! mark, a range with both its ends) and the lowest number is given at the token's first byte.
 //! Faults known only at the end are looked at after the last token, in the order 8, 12, 15, 16, and
 //! 17 in `rule`, where the other rules are known. `rule::check` has the checks 2 to 5 before.
-//! `escape`, `class` and `quantifier` are each one page that can be laid beside the rules.
+//! `escape`, `class`, `names` and `quantifier` are each one page that can be laid beside the rules.
+//! `quote` knows at each place whether a quote is open: `\Q` and `\E` are passed over wherever a token,
+//! a class member or an end of a range may start, and a quoted byte is read as nothing but itself.
+//! They are no part of a token's spelling: `(`, `\E`, `?` is an opening and a quantifier.
 //!
 //! The tree holds what is left once options are applied: items that take one byte of a set,
 //! assertions, sequences, choices, and repeats with their numbers. Whether it can match no bytes
@@ -55,10 +58,12 @@ pub mod class;
 pub mod escape;
 pub mod known;
 pub mod meaning;
+pub mod names;
 pub mod offsets;
 pub mod ordered;
 pub mod program;
 pub mod quantifier;
+pub mod quote;
 pub mod reader;
 pub mod refusal;
 pub mod rule;

@@ -4,11 +4,15 @@
 //! Tokens are read from left to right, and the open groups stand on a stack of frames. A token can
 //! be faulty in several ways at once; its faults are collected and the lowest number is given. The
 //! faults known only at the end follow in their order: 8, 12, 15, 16. (17 needs the table.)
+//!
+//! Between two tokens quotes are opened and closed (`quote`), and comments are passed over; neither
+//! changes what a quantifier would find before it.
 
 use crate::bytes::ByteSet;
 use crate::class::{self, Class};
 use crate::escape::{self, Escaped};
 use crate::quantifier::{self, Quantifier};
+use crate::quote::Place;
 use crate::refusal::{Refusal, CASELESS, DOT_ALL, MAX_GROUPS, MAX_POSITIONS};
 use crate::tree::{Assertion, Node};
 
@@ -36,7 +40,7 @@ struct Frame {
 
 struct Reader<'a> {
     pattern: &'a [u8],
-    at: usize,
+    place: Place,
     options: Options,
     before: Before,
     frames: Vec<Frame>,
@@ -45,14 +49,16 @@ struct Reader<'a> {
 /// The tree of the pattern under the flags, or why it is refused.
 pub fn read(pattern: &[u8], flags: u32) -> Result<Node, Refusal> {
     let options = Options { caseless: flags & CASELESS != 0, dot_all: flags & DOT_ALL != 0 };
+    let place = Place::plain(0).settled(pattern);
     let mut reader =
-        Reader { pattern, at: 0, options, before: Before::Nothing, frames: Vec::new() };
+        Reader { pattern, place, options, before: Before::Nothing, frames: Vec::new() };
     reader.push_frame(options);
     let length = pattern.len();
-    while reader.at < length {
-        if reader.token()? == Token::OpenClass {
-            return Err(Refusal::at(8, length));
+    while reader.place.at < length {
+        if let Token::Open(number) = reader.token()? {
+            return Err(Refusal::at(number, length));
         }
+        reader.place = reader.place.settled(pattern);
     }
     if reader.frames.len() > 1 {
         return Err(Refusal::at(12, length));
@@ -67,11 +73,10 @@ pub fn read(pattern: &[u8], flags: u32) -> Result<Node, Refusal> {
     Ok(tree)
 }
 
-#[derive(PartialEq, Eq)]
 enum Token {
     Whole,
-    /// A class that reaches the pattern's end.
-    OpenClass,
+    /// A class or a comment that reaches the pattern's end, with the number that it has there.
+    Open(u32),
 }
 
 impl Reader<'_> {
@@ -95,7 +100,7 @@ impl Reader<'_> {
     fn push(&mut self, node: Node, before: Before, end: usize) {
         self.innermost().sequence.push(node);
         self.before = before;
-        self.at = end;
+        self.place.at = end;
     }
 
     fn push_byte(&mut self, byte: u8, end: usize) {
@@ -106,13 +111,18 @@ impl Reader<'_> {
 
     /// Reads the token at the present place.
     fn token(&mut self) -> Result<Token, Refusal> {
-        let at = self.at;
+        let at = self.place.at;
+        if self.place.quoted {
+            self.push_byte(self.pattern[at], at + 1);
+            return Ok(Token::Whole);
+        }
         if let Some(quantifier) = quantifier::read(self.pattern, at) {
             return self.quantifier(quantifier);
         }
         match self.pattern[at] {
             b'\\' => self.escape()?,
             b'[' => return self.class(),
+            b'(' if self.pattern[at..].starts_with(b"(?#") => return Ok(self.comment()),
             b'(' => self.parenthesis()?,
             b')' => {
                 if self.frames.len() == 1 {
@@ -126,7 +136,7 @@ impl Reader<'_> {
                 let branch = Node::Sequence(std::mem::take(&mut frame.sequence));
                 frame.branches.push(branch);
                 self.before = Before::Nothing;
-                self.at = at + 1;
+                self.place.at = at + 1;
             }
             b'.' if self.options.dot_all => {
                 self.push(Node::Item(ByteSet::all()), Before::Item, at + 1)
@@ -151,7 +161,7 @@ impl Reader<'_> {
             faults.push(14);
         }
         if let Some(lowest) = faults.into_iter().min() {
-            return Err(Refusal::at(lowest, self.at));
+            return Err(Refusal::at(lowest, self.place.at));
         }
         let item = self.innermost().sequence.pop().expect("an item stands before");
         let repeat =
@@ -161,8 +171,9 @@ impl Reader<'_> {
     }
 
     fn escape(&mut self) -> Result<(), Refusal> {
-        let escape = escape::read(self.pattern, self.at, false);
-        match escape.meaning.map_err(|number| Refusal::at(number, self.at))? {
+        let at = self.place.at;
+        let escape = escape::read(self.pattern, at, false);
+        match escape.meaning.map_err(|number| Refusal::at(number, at))? {
             Escaped::Byte(byte) => self.push_byte(byte, escape.end),
             Escaped::Type(set) => self.push(Node::Item(set), Before::Item, escape.end),
             Escaped::NotNewline => {
@@ -174,8 +185,8 @@ impl Reader<'_> {
     }
 
     fn class(&mut self) -> Result<Token, Refusal> {
-        match class::read(self.pattern, self.at, self.options.caseless)? {
-            Class::Open => Ok(Token::OpenClass),
+        match class::read(self.pattern, self.place.at, self.options.caseless)? {
+            Class::Open => Ok(Token::Open(8)),
             Class::Closed { set, end } => {
                 self.push(Node::Item(set), Before::Item, end);
                 Ok(Token::Whole)
@@ -183,9 +194,21 @@ impl Reader<'_> {
         }
     }
 
+    /// `(?#` and all that follows up to the first `)`. It is no group and no item.
+    fn comment(&mut self) -> Token {
+        let text = self.place.at + 3;
+        match self.pattern[text..].iter().position(|&byte| byte == b')') {
+            Some(length) => {
+                self.place.at = text + length + 1;
+                Token::Whole
+            }
+            None => Token::Open(12),
+        }
+    }
+
     /// A `(`: the opening of a group, an option setting, or nothing of the subset.
     fn parenthesis(&mut self) -> Result<(), Refusal> {
-        let at = self.at;
+        let at = self.place.at;
         let (inside, end, opens) = match (self.pattern.get(at + 1), self.pattern.get(at + 2)) {
             (Some(b'*'), _) => return Err(Refusal::at(14, at)),
             (Some(b'?'), Some(b':')) => (self.options, at + 3, true),
@@ -200,7 +223,7 @@ impl Reader<'_> {
         }
         self.options = inside;
         self.before = Before::Nothing;
-        self.at = end;
+        self.place.at = end;
         Ok(())
     }
 

@@ -2,11 +2,13 @@
 -- calls at one place. Every return is one law of `Returns`; the other answers are places inside the pattern and room in the words.
 use Prim.Native.Nat.{ℕ, _+_, _*_, _-_, _<_}
 use mathlib.Core.Path.{sym, ap, _∙_}
+use mathlib.Core.Logic.{inl, inr, ⊎-elim}
 use borrow.Author.Needs.{needs}
 use native.Mathlib.Omega.{arith}
 use lib.ListN.{length}
 use borrow.Fn.Kinds.{In}
 use borrow.Fn.PlainCycle.{Measures, is, falls, and}
+use Rattle.tokens.specs.declared.Token.the-variants.{Set, Note}
 use Rattle.pattern.specs.Invariants.{refusal}
 use Rattle.pattern.proofs.Keys.{ends, beginning, not-last, only-class}
 use Rattle.pattern.proofs.Returns as returned
@@ -64,7 +66,7 @@ abbrev item-uses : ℕ → item-lts.Claims
 item-uses t = (fault-of-reads.Asked, fault-of-reads.Learnt, refuse-reads.Asked, refuse-reads.Learnt, single-reads.Asked, single-reads.Learnt, branches-below t, branches.Post, quantified-reads.Asked, quantified-reads.Learnt, class-reads.Asked, class-reads.Learnt)
 
 abbrev sequence-uses : ℕ → sequence-lts.Claims
-sequence-uses t = (token-at-reads.Asked, token-at-reads.Learnt, leaf-reads.Asked, leaf-reads.Learnt, sequence-below t, sequence.Post, item-below t, item.Post, join-reads.Asked, join-reads.Learnt)
+sequence-uses t = (token-at-reads.Asked, token-at-reads.Learnt, leaf-reads.Asked, leaf-reads.Learnt, refuse-reads.Asked, refuse-reads.Learnt, item-below t, item.Post, sequence-below t, sequence.Post, join-reads.Asked, join-reads.Learnt)
 
 module _ (t : ℕ) where
   branches-sequence-requires : branches-lts.Need-sequence-requires (branches-uses t) (branches-at t) branches.Post
@@ -310,26 +312,21 @@ module _ (t : ℕ) where
   sequence-enum-known-token : sequence-lts.Need-enum-known-token (sequence-uses t) (sequence-at t) sequence.Post
   sequence-enum-known-token c = search needs
 
-  sequence-add-sequence : sequence-lts.Need-add-sequence (sequence-uses t) (sequence-at t) sequence.Post
-  sequence-add-sequence c =
-      let c-start = c .before .before .before .before .before .before in
-      let c-token-at = c .before .before .before .before .token-at in
-      let c-token = c .before .before .token in
-      let x = c-start .args in let i = returned.seq-set-inside (x .s .now) (x .a .now) (x .at) (x .depth) (x .options) (x .n) (c-start .pre .1 .0) (c-token-at .result) _ (sym (c-token-at .ensures)) (c-token .given .1) in omega arith
+  sequence-enum-known-token-2 : sequence-lts.Need-enum-known-token-2 (sequence-uses t) (sequence-at t) sequence.Post
+  sequence-enum-known-token-2 c = search needs
 
-  sequence-sequence-requires : sequence-lts.Need-sequence-requires (sequence-uses t) (sequence-at t) sequence.Post
-  sequence-sequence-requires c κs =
-      let c-start = c .before .before .before .before .before .before .before in
-      let c-token-at = c .before .before .before .before .before .token-at in
-      let c-token = c .before .before .before .token in
-      let x = c-start .args in let i = returned.seq-set-inside (x .s .now) (x .a .now) (x .at) (x .depth) (x .options) (x .n) (c-start .pre .1 .0) (c-token-at .result) _ (sym (c-token-at .ensures)) (c-token .given .1) in omega (arith, c-start .pre)
+  sequence-enum-told : sequence-lts.Need-enum-told (sequence-uses t) (sequence-at t) sequence.Post
+  sequence-enum-told c = search needs
+
+  sequence-refuse-requires : sequence-lts.Need-refuse-requires (sequence-uses t) (sequence-at t) sequence.Post
+  sequence-refuse-requires c κs = search needs
 
   sequence-item-requires : sequence-lts.Need-item-requires (sequence-uses t) (sequence-at t) sequence.Post
   sequence-item-requires c κs =
       let c-start = c .before .before .before .before in
       let c-token-at = c .before .before .token-at in
       let c-match = c .before .match in
-      (omega (arith, c-start .pre), (omega (arith, c-start .pre), (omega (arith, c-start .pre), record { is = c-token-at .ensures; begins = beginning (c-token-at .result .token) (c-match .keys3) })))
+      (omega (arith, c-start .pre), (omega (arith, c-start .pre), (omega (arith, c-start .pre), record { is = c-token-at .ensures; begins = beginning (c-token-at .result .token) (c-match .keys5) })))
 
   sequence-returns : sequence-lts.Need-returns (sequence-uses t) (sequence-at t) sequence.Post
   sequence-returns c =
@@ -338,30 +335,44 @@ module _ (t : ℕ) where
       let c-if1 = c .if1 in
       let x = c-start .args in returned.seq-item-no (x .s .now) (x .a .now) (x .at) (x .depth) (x .options) (x .n) (c-start .pre .1 .0) (c-item .last .1 .1 .1 .1 .1 .0) (c-item .result) (c-item .ensures) (c-if1 .taken)
 
-  sequence-sequence-requires-2 : sequence-lts.Need-sequence-requires-2 (sequence-uses t) (sequence-at t) sequence.Post
-  sequence-sequence-requires-2 c κs =
-      let c-start = c .before .before .before .before .before .before .before .before in
-      let c-item = c .before .before .before .item in
-      let c-if1 = c .before .if1 in
+  sequence-sequence-requires : sequence-lts.Need-sequence-requires (sequence-uses t) (sequence-at t) sequence.Post
+  sequence-sequence-requires c κs =
+      let c-start = c .before .before .before .before .before .before .before .before .before in
+      let c-item = c .before .before .before .before .item in
+      let c-if1 = c .before .before .if1 in
       let x = c-start .args in let r = returned.seq-room (x .s .now) (x .a .now) (x .at) (x .depth) (x .options) (x .n) (c-start .pre .1 .0) (c-item .last .1 .1 .1 .1 .1 .0) (c-item .result) (c-item .ensures) (c-if1 .left) in (omega (arith, c-start .pre, r .1, r .0 .inside), (r .0, omega (arith, c-start .pre)))
 
   sequence-returns-2 : sequence-lts.Need-returns-2 (sequence-uses t) (sequence-at t) sequence.Post
   sequence-returns-2 c =
-      let c-start = c .before .before .before .before .before .before .before .before .before .before .before in
-      let c-item = c .before .before .before .before .before .before .item in
-      let c-sequence2 = c .before .before .sequence2 in
-      let c-if1 = c .before .before .before .before .if1 in
+      let c-start = c .before .before .before .before .before .before .before .before .before .before .before .before in
+      let c-item = c .before .before .before .before .before .before .before .item in
+      let c-sequence = c .before .before .sequence in
+      let c-if1 = c .before .before .before .before .before .if1 in
       let c-if2 = c .if2 in
-      let x = c-start .args in returned.seq-rest-no (x .s .now) (x .a .now) (x .at) (x .depth) (x .options) (x .n) (c-start .pre .1 .0) (c-item .last .1 .1 .1 .1 .1 .0) (c-sequence2 .last .1 .1 .1 .1 .0) (c-item .result) (c-sequence2 .result) (c-item .ensures) (c-if1 .left) (c-sequence2 .ensures) (c-if2 .taken)
+      let x = c-start .args in returned.seq-rest-no (x .s .now) (x .a .now) (x .at) (x .depth) (x .options) (x .n) (c-start .pre .1 .0) (c-item .last .1 .1 .1 .1 .1 .0) (c-sequence .last .1 .1 .1 .1 .0) (c-item .result) (c-sequence .result) (c-item .ensures) (c-if1 .left) (c-sequence .ensures) (c-if2 .taken)
 
   sequence-join-requires : sequence-lts.Need-join-requires (sequence-uses t) (sequence-at t) sequence.Post
   sequence-join-requires c κs =
-      let c-start = c .before .before .before .before .before .before .before .before .before .before .before .before in
-      let c-item = c .before .before .before .before .before .before .before .item in
-      let c-sequence2 = c .before .before .before .sequence2 in
-      let c-if1 = c .before .before .before .before .before .if1 in
+      let c-start = c .before .before .before .before .before .before .before .before .before .before .before .before .before in
+      let c-item = c .before .before .before .before .before .before .before .before .item in
+      let c-sequence = c .before .before .before .sequence in
+      let c-if1 = c .before .before .before .before .before .before .if1 in
       let c-if2 = c .before .if2 in
-      let x = c-start .args in returned.seq-joins (x .s .now) (x .a .now) (x .at) (x .depth) (x .options) (x .n) (c-start .pre .1 .0) (c-item .last .1 .1 .1 .1 .1 .0) (c-sequence2 .last .1 .1 .1 .1 .0) (c-item .result) (c-sequence2 .result) (c-item .ensures) (c-if1 .left) (c-sequence2 .ensures) (c-if2 .left)
+      let x = c-start .args in returned.seq-joins (x .s .now) (x .a .now) (x .at) (x .depth) (x .options) (x .n) (c-start .pre .1 .0) (c-item .last .1 .1 .1 .1 .1 .0) (c-sequence .last .1 .1 .1 .1 .0) (c-item .result) (c-sequence .result) (c-item .ensures) (c-if1 .left) (c-sequence .ensures) (c-if2 .left)
+
+  sequence-add-sequence : sequence-lts.Need-add-sequence (sequence-uses t) (sequence-at t) sequence.Post
+  sequence-add-sequence c =
+      let c-start = c .before .before .before .before in
+      let c-token-at = c .before .before .token-at in
+      let c-match = c .before .match in
+      let x = c-start .args in let i = returned.seq-pass-inside (x .s .now) (x .a .now) (x .at) (x .depth) (x .options) (x .n) (c-start .pre .1 .0) (c-token-at .result) (c-match .after) (sym (c-token-at .ensures)) (⊎-elim (λ y. inl (y .1 .given .1 ∙ ap Set (sym (y .3)))) (λ y. inr (y .1 .given .1 ∙ ap Note (sym (y .3)))) (c-match .came)) in omega arith
+
+  sequence-sequence-requires-2 : sequence-lts.Need-sequence-requires-2 (sequence-uses t) (sequence-at t) sequence.Post
+  sequence-sequence-requires-2 c κs =
+      let c-start = c .before .before .before .before .before in
+      let c-token-at = c .before .before .before .token-at in
+      let c-match = c .before .before .match in
+      let x = c-start .args in let i = returned.seq-pass-inside (x .s .now) (x .a .now) (x .at) (x .depth) (x .options) (x .n) (c-start .pre .1 .0) (c-token-at .result) (c-match .after) (sym (c-token-at .ensures)) (⊎-elim (λ y. inl (y .1 .given .1 ∙ ap Set (sym (y .3)))) (λ y. inr (y .1 .given .1 ∙ ap Note (sym (y .3)))) (c-match .came)) in omega (arith, c-start .pre)
 
   sequence-returns-3 : sequence-lts.Need-returns-3 (sequence-uses t) (sequence-at t) sequence.Post
   sequence-returns-3 c =
@@ -373,25 +384,33 @@ module _ (t : ℕ) where
 
   sequence-returns-4 : sequence-lts.Need-returns-4 (sequence-uses t) (sequence-at t) sequence.Post
   sequence-returns-4 c =
-      let c-start = c .before .before .before .before .before .before .before .before in
-      let c-sequence = c .sequence in
-      let c-token-at = c .before .before .before .before .before .before .token-at in
-      let c-token = c .before .before .before .before .token in
-      let x = c-start .args in returned.seq-set (x .s .now) (x .a .now) (x .at) (x .depth) (x .options) (x .n) (c-start .pre .1 .0) (c-sequence .last .1 .1 .1 .1 .0) (c-sequence .result) (c-token-at .result) _ (sym (c-token-at .ensures)) (c-token .given .1) (c-sequence .ensures)
+      let c-start = c .before .before .before .before .before in
+      let c-refuse = c .refuse in
+      let c-token-at = c .before .before .before .token-at in
+      let c-enum-told = c .before .enum-told in
+      let x = c-start .args in returned.seq-unclosed (x .s .now) (x .a .now) (x .at) (x .depth) (x .options) (x .n) (c-start .pre .1 .0) (c-refuse .result) (c-token-at .result) (sym (c-token-at .ensures)) (c-enum-told .given .1) (c-refuse .ensures)
 
   sequence-returns-5 : sequence-lts.Need-returns-5 (sequence-uses t) (sequence-at t) sequence.Post
   sequence-returns-5 c =
-      let c-start = c .before .before .before .before .before .before .before .before .before .before .before .before .before in
-      let c-item = c .before .before .before .before .before .before .before .before .item in
-      let c-sequence2 = c .before .before .before .before .sequence2 in
-      let c-if1 = c .before .before .before .before .before .before .if1 in
+      let c-start = c .before .before .before .before .before .before .before .before .before .before .before .before .before .before in
+      let c-item = c .before .before .before .before .before .before .before .before .before .item in
+      let c-sequence = c .before .before .before .before .sequence in
+      let c-if1 = c .before .before .before .before .before .before .before .if1 in
       let c-if2 = c .before .before .if2 in
       let c-join = c .join in
-      let x = c-start .args in returned.seq-both (x .s .now) (x .a .now) (x .at) (x .depth) (x .options) (x .n) (c-start .pre .1 .0) (c-item .last .1 .1 .1 .1 .1 .0) (c-sequence2 .last .1 .1 .1 .1 .0) (c-item .result) (c-sequence2 .result) (c-item .ensures) (c-if1 .left) (c-sequence2 .ensures) (c-if2 .left) (c-join .last .0) (c-join .result) (c-join .ensures .0) (c-join .ensures .1)
+      let x = c-start .args in returned.seq-both (x .s .now) (x .a .now) (x .at) (x .depth) (x .options) (x .n) (c-start .pre .1 .0) (c-item .last .1 .1 .1 .1 .1 .0) (c-sequence .last .1 .1 .1 .1 .0) (c-item .result) (c-sequence .result) (c-item .ensures) (c-if1 .left) (c-sequence .ensures) (c-if2 .left) (c-join .last .0) (c-join .result) (c-join .ensures .0) (c-join .ensures .1)
+
+  sequence-returns-6 : sequence-lts.Need-returns-6 (sequence-uses t) (sequence-at t) sequence.Post
+  sequence-returns-6 c =
+      let c-start = c .before .before .before .before .before .before in
+      let c-token-at = c .before .before .before .before .token-at in
+      let c-match = c .before .before .before .match in
+      let c-sequence2 = c .sequence2 in
+      let x = c-start .args in returned.seq-pass (x .s .now) (x .a .now) (x .at) (x .depth) (x .options) (x .n) (c-start .pre .1 .0) (c-token-at .result) (c-match .after) (sym (c-token-at .ensures)) (c-sequence2 .last .1 .1 .1 .1 .0) (c-sequence2 .result) (⊎-elim (λ y. inl (y .1 .given .1 ∙ ap Set (sym (y .3)))) (λ y. inr (y .1 .given .1 ∙ ap Note (sym (y .3)))) (c-match .came)) (c-sequence2 .ensures)
 
 pub +branches+item+sequence-spec : {M : Type 1} → statement M
 +branches+item+sequence-spec =
     close μ-branches μ-item μ-sequence
     (λ t. branches-lts.spec (branches-uses t) (branches-at t) branches.Post (branches-sequence-requires t) (branches-returns t) (branches-returns-2 t) (branches-shared-slice-read-if3 t) (branches-returns-3 t) (branches-add-branches t) (branches-branches-requires t) (branches-returns-4 t) (branches-join-requires t) (branches-returns-5 t))
     (λ t. item-lts.spec (item-uses t) (item-at t) item.Post (item-fault-of-requires t) (item-refuse-requires t) (item-returns t) (item-enum-known-token t) (item-add-single t) (item-single-requires t) (item-enum-known-token-2 t) (item-refuse-requires-2 t) (item-returns-2 t) (item-add-branches t) (item-add-branches-2 t) (item-branches-requires t) (item-returns-3 t) (item-refuse-requires-3 t) (item-returns-4 t) (item-add-quantified t) (item-quantified-requires t) (item-add-class t) (item-class-requires t) (item-returns-5 t) (item-returns-6 t) (item-returns-7 t))
-    (λ t. sequence-lts.spec (sequence-uses t) (sequence-at t) sequence.Post (sequence-token-at-requires t) (sequence-leaf-requires t) (sequence-enum-known-token t) (sequence-add-sequence t) (sequence-sequence-requires t) (sequence-item-requires t) (sequence-returns t) (sequence-sequence-requires-2 t) (sequence-returns-2 t) (sequence-join-requires t) (sequence-returns-3 t) (sequence-returns-4 t) (sequence-returns-5 t))
+    (λ t. sequence-lts.spec (sequence-uses t) (sequence-at t) sequence.Post (sequence-token-at-requires t) (sequence-leaf-requires t) (sequence-enum-known-token t) (sequence-enum-known-token-2 t) (sequence-enum-told t) (sequence-refuse-requires t) (sequence-item-requires t) (sequence-returns t) (sequence-sequence-requires t) (sequence-returns-2 t) (sequence-join-requires t) (sequence-add-sequence t) (sequence-sequence-requires-2 t) (sequence-returns-3 t) (sequence-returns-4 t) (sequence-returns-5 t) (sequence-returns-6 t))

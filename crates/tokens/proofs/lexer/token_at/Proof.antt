@@ -1,9 +1,7 @@
--- `tokens::lexer::token_at` meets its contract: the pattern ends, or its next byte is one of eight with a token of their own, or another.
+-- `tokens::lexer::token_at` meets its contract: the pattern ends, or a mark of a quote stands there, or a quoted byte, or what its byte starts.
 use mathlib.Core.Path.{sym, _∙_}
 use native.Mathlib.Omega.{arith}
-use Rattle.tokens.specs.Token.{lexemeOf}
-use Rattle.atoms.proofs.Suffixes.{front}
-use Rattle.tokens.proofs.Lexemes.{lexeme-end, lexeme-other}
+use Rattle.tokens.proofs.Lexemes.{lexeme-end, lexeme-is, lexeme-unquoted}
 use Rattle.tokens.proofs.lexer.token_at.Statement.{statement}
 use Rattle.tokens.proofs.lexer.token_at.Tie as tie
 
@@ -20,129 +18,61 @@ returns c =
 shared-slice-read-c : tie.Need-shared-slice-read-c
 shared-slice-read-c c = omega arith
 
-add-escape-at : tie.Need-add-escape-at
-add-escape-at c = omega arith
+add-peek : tie.Need-add-peek
+add-peek c = omega arith
 
-escape-at-requires : tie.Need-escape-at-requires
-escape-at-requires c κs = tt
+peek-requires : tie.Need-peek-requires
+peek-requires c κs = tt
 
-escaped-requires : tie.Need-escaped-requires
-escaped-requires c κs = tt
+is-mark-requires : tie.Need-is-mark-requires
+is-mark-requires c κs = tt
 
 plain-requires-2 : tie.Need-plain-requires-2
 plain-requires-2 c κs = tt
 
-add-opening-at : tie.Need-add-opening-at
-add-opening-at c = omega arith
-
-opening-at-requires : tie.Need-opening-at-requires
-opening-at-requires c κs = tt
+returns-2 : tie.Need-returns-2
+returns-2 c =
+    let args = c .before .before .before .before .before .before .before .args in
+    let s = args .s .now in
+    let at = args .at in
+    let peek = c .before .before .before .peek in
+    rw (
+      lexeme-is s at (args .options) (peek .result) (c .before .before .before .before .before .if1 .left) (peek .ensures),
+      ← c .before .before .is-mark .ensures,
+      c .before .if2 .taken,
+    ) (c .plain2 .ensures)
 
 plain-requires-3 : tie.Need-plain-requires-3
 plain-requires-3 c κs = tt
 
-plain-requires-4 : tie.Need-plain-requires-4
-plain-requires-4 c κs = tt
-
-plain-requires-5 : tie.Need-plain-requires-5
-plain-requires-5 c κs = tt
-
-plain-requires-6 : tie.Need-plain-requires-6
-plain-requires-6 c κs = tt
-
-plain-requires-7 : tie.Need-plain-requires-7
-plain-requires-7 c κs = tt
-
-quantifier-or-byte-requires : tie.Need-quantifier-or-byte-requires
-quantifier-or-byte-requires c κs = c .before .before .if1 .left
-
-returns-2 : tie.Need-returns-2
-unfolding lexemeOf
-returns-2 c =
-    let args = c .before .before .before .before .before .before .args in
-    let s = args .s .now in
-    let at = args .at in
-    let if1 = c .before .before .before .before .if1 in
-    rw (front s at (if1 .left), c .before .before .match .keys1, ← c .before .escape-at .ensures) (c .escaped .ensures)
-
 returns-3 : tie.Need-returns-3
-unfolding lexemeOf
 returns-3 c =
-    let args = c .before .before .before .before .before .args in
+    let args = c .before .before .before .before .before .before .before .before .args in
     let s = args .s .now in
     let at = args .at in
-    let if1 = c .before .before .before .if1 in
-    rw (front s at (if1 .left), c .before .match .keys2) (c .plain2 .ensures)
+    let peek = c .before .before .before .before .peek in
+    rw (
+      lexeme-is s at (args .options) (peek .result) (c .before .before .before .before .before .before .if1 .left) (peek .ensures),
+      ← c .before .before .before .is-mark .ensures,
+      c .before .before .if2 .left,
+      c .before .if3 .taken,
+    ) (c .plain3 .ensures)
+
+unquoted-requires : tie.Need-unquoted-requires
+unquoted-requires c κs = c .before .before .before .before .before .if1 .left
 
 returns-4 : tie.Need-returns-4
-unfolding lexemeOf
 returns-4 c =
-    let args = c .before .before .before .before .before .args in
+    let args = c .before .before .before .before .before .before .before .before .args in
     let s = args .s .now in
     let at = args .at in
-    let if1 = c .before .before .before .if1 in
-    rw (front s at (if1 .left), c .before .match .keys3) (c .opening-at .ensures)
-
-returns-5 : tie.Need-returns-5
-unfolding lexemeOf
-returns-5 c =
-    let args = c .before .before .before .before .before .args in
-    let s = args .s .now in
-    let at = args .at in
-    let if1 = c .before .before .before .if1 in
-    rw (front s at (if1 .left), c .before .match .keys4) (c .plain3 .ensures)
-
-returns-6 : tie.Need-returns-6
-unfolding lexemeOf
-returns-6 c =
-    let args = c .before .before .before .before .before .args in
-    let s = args .s .now in
-    let at = args .at in
-    let if1 = c .before .before .before .if1 in
-    rw (front s at (if1 .left), c .before .match .keys5) (c .plain4 .ensures)
-
-returns-7 : tie.Need-returns-7
-unfolding lexemeOf
-returns-7 c =
-    let args = c .before .before .before .before .before .args in
-    let s = args .s .now in
-    let at = args .at in
-    let if1 = c .before .before .before .if1 in
-    rw (front s at (if1 .left), c .before .match .keys6) (c .plain5 .ensures)
-
-returns-8 : tie.Need-returns-8
-unfolding lexemeOf
-returns-8 c =
-    let args = c .before .before .before .before .before .args in
-    let s = args .s .now in
-    let at = args .at in
-    let if1 = c .before .before .before .if1 in
-    rw (front s at (if1 .left), c .before .match .keys7) (c .plain6 .ensures)
-
-returns-9 : tie.Need-returns-9
-unfolding lexemeOf
-returns-9 c =
-    let args = c .before .before .before .before .before .args in
-    let s = args .s .now in
-    let at = args .at in
-    let if1 = c .before .before .before .if1 in
-    rw (front s at (if1 .left), c .before .match .keys8) (c .plain7 .ensures)
-
-returns-10 : tie.Need-returns-10
-returns-10 c =
-    let args = c .before .before .before .before .before .args in
-    let s = args .s .now in
-    let at = args .at in
-    let if1 = c .before .before .before .if1 in
-    let other = c .before .match .rest in
-    c .quantifier-or-byte .ensures
-    ∙ sym
-    (lexeme-other s at (args .options) (if1 .left) (other .0 .0 .0 .0 .0 .0 .0 .1) (other .0 .0 .0 .0 .0 .0 .1) (other .0 .0 .0 .0 .0 .1)
-    (other .0 .0 .0 .0 .1) (other .0 .0 .0 .1) (other .0 .0 .1) (other .0 .1) (other .1))
+    let peek = c .before .before .before .before .peek in
+    c .unquoted .ensures
+    ∙ sym (lexeme-unquoted s at (args .options) (peek .result) (c .before .before .before .before .before .before .if1 .left) (peek .ensures)
+    (sym (c .before .before .before .is-mark .ensures) ∙ c .before .before .if2 .left) (c .before .if3 .left))
 
 pub token-at-spec : {M : Type 1} → statement M
 token-at-spec =
     tie.close
-    (tie.spec plain-requires returns shared-slice-read-c add-escape-at escape-at-requires escaped-requires plain-requires-2 add-opening-at
-    opening-at-requires plain-requires-3 plain-requires-4 plain-requires-5 plain-requires-6 plain-requires-7 quantifier-or-byte-requires returns-2
-    returns-3 returns-4 returns-5 returns-6 returns-7 returns-8 returns-9 returns-10)
+    (tie.spec plain-requires returns shared-slice-read-c add-peek peek-requires is-mark-requires plain-requires-2 returns-2 plain-requires-3 returns-3
+    unquoted-requires returns-4)

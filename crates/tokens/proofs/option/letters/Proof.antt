@@ -13,13 +13,13 @@ use Rattle.tokens.proofs.option.letters.Statement.{statement}
 use Rattle.tokens.proofs.option.letters.Tie as tie
 
 abbrev Inv-loop : tie.InvT-loop
-Inv-loop s at caseless₀ dotall₀ on₀ any₀ i₀ size₀ caseless dotall on any i size =
+Inv-loop s at caseless₀ dotall₀ quoted on₀ any₀ i₀ size₀ caseless dotall on any i size =
     (i ≤ length s) × (size ≤ i + 2)
-    × (lettersOf on any (record { caseless = caseless; dotall = dotall }) size (drop i s)
-    ≡ lettersOf true false (record { caseless = caseless₀; dotall = dotall₀ }) 2 (drop at s))
+    × (lettersOf on any (record { caseless = caseless; dotall = dotall; quoted = quoted }) size (drop i s)
+    ≡ lettersOf true false (record { caseless = caseless₀; dotall = dotall₀; quoted = quoted }) 2 (drop at s))
 
 abbrev μ-loop : tie.MeasureT-loop
-μ-loop s at caseless₀ dotall₀ on₀ any₀ i₀ size₀ caseless dotall on any i size = length s - i
+μ-loop s at caseless₀ dotall₀ quoted on₀ any₀ i₀ size₀ caseless dotall on any i size = length s - i
 
 loop-holds : tie.Need-loop-holds Inv-loop μ-loop
 loop-holds c = (c .before .pre, omega arith, refl)

@@ -1,0 +1,82 @@
+//! The random patterns hold enough of what is easily missed: named classes, quotes and comments in
+//! all their corners, accepted and refused.
+
+use std::collections::BTreeMap;
+
+use harness::patterns::pattern;
+use harness::rng::Rng;
+use reference::rule::check;
+
+fn has(pattern: &[u8], part: &str) -> bool {
+    pattern.windows(part.len()).any(|window| window == part.as_bytes())
+}
+
+/// Does a comment end right before this index? A `(?#` after which the first `)` is the last byte.
+fn after_comment(before: &[u8]) -> bool {
+    let inner = before.strip_suffix(b")").unwrap_or_default();
+    let text = inner.rsplit(|&byte| byte == b')').next().unwrap_or_default();
+    has(text, "(?#")
+}
+
+/// What this pattern, accepted or refused with a number at a place, is an example of.
+fn kinds(pattern: &[u8], number: u32, place: usize) -> Vec<&'static str> {
+    let (before, from) = pattern.split_at(place);
+    let after_nothing = before.ends_with(b"\\E") || after_comment(before);
+    let kind = |name, is| if is { Some(name) } else { None };
+    let found = match number {
+        0 => vec![
+            kind("name", has(pattern, "[:") && has(pattern, "t:]")),
+            kind("negated name", has(pattern, "[:^")),
+            kind("name of one case", has(pattern, "upper:]") || has(pattern, "lower:]")),
+            kind("quote", has(pattern, "\\Q")),
+            kind("quoted special byte", has(pattern, "\\Q*") || has(pattern, "\\Q(")),
+            kind("quote then hyphen", has(pattern, "\\E-")),
+            kind("hyphen then quote", has(pattern, "-\\Q")),
+            kind("hyphen then lone end", has(pattern, "-\\E")),
+            kind("class that starts with nothing", has(pattern, "[\\E") || has(pattern, "[\\Q\\E")),
+            kind("negation after nothing", has(pattern, "[\\E^") || has(pattern, "[\\Q\\E^")),
+            kind("quote then quantifier", has(pattern, "\\E*") || has(pattern, "\\E{2}")),
+            kind("comment", has(pattern, "(?#")),
+            kind(
+                "comment then quantifier",
+                (1..pattern.len())
+                    .any(|at| after_comment(&pattern[..at]) && b"*+?".contains(&pattern[at])),
+            ),
+        ],
+        8 => vec![kind("open quote in a class", has(pattern, "[\\Q"))],
+        9 => vec![
+            kind("name at the start of a range", from.starts_with(b"[:")),
+            kind("name at the end of a range", from[1..].starts_with(b"-[:")),
+            kind("quoted end of a falling range", before.ends_with(b"\\Q")),
+        ],
+        10 => vec![
+            kind("quantifier after nothing", after_nothing),
+            kind("lone mark after nothing", after_nothing && b"?+".contains(&from[0])),
+            kind("group that starts with nothing", before.ends_with(b"(\\E")),
+        ],
+        12 => vec![kind("open comment", place == pattern.len() && has(pattern, "(?#"))],
+        14 => vec![
+            kind("no name of the list", from.starts_with(b"[:")),
+            kind("other bracket", from.starts_with(b"[.") || from.starts_with(b"[=")),
+        ],
+        _ => vec![],
+    };
+    found.into_iter().flatten().collect()
+}
+
+#[test]
+fn every_corner_comes_often() {
+    let mut count: BTreeMap<&str, usize> = BTreeMap::new();
+    for index in 0..100_000 {
+        let pattern = pattern(&mut Rng::for_case(1, index));
+        let (number, place) = match check(&[], 1, 0, &pattern) {
+            Ok(_) => (0, 0),
+            Err(refusal) => (refusal.number, refusal.place),
+        };
+        for kind in kinds(&pattern, number, place) {
+            *count.entry(kind).or_default() += 1;
+        }
+    }
+    assert_eq!(count.len(), 23, "{count:?}");
+    assert!(count.values().all(|&n| n >= 100), "{count:?}");
+}
