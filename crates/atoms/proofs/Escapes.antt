@@ -10,11 +10,10 @@ use borrow.Author.Tests.{ne-eqb}
 use lib.Dec.{eqb, leb}
 use lib.ListN.{length, getD, drop, drop-of-length-le}
 use lib.Seq.{getD-drop, drop-drop}
-use Rattle.kinds.specs.Kind.{within, isLower, isUpper, isDigit, kindsOf}
-use Rattle.kinds.proofs.Bits.{meets, meets-kinds}
+use Rattle.kinds.specs.Kind.{within, isLower, isUpper, isDigit, isAlpha, isAlnum}
 use Rattle.atoms.specs.Number.{digitOf, digits, valueFrom, numeralOf}
 use Rattle.atoms.specs.Escape.{good, bad, bracedOf, shortOf, flipped64, raised, controlOf, typeOf, namedOf}
-use Rattle.atoms.specs.Escape.{placedOf, hexOf, octalOf, isAlnum, escapeOf}
+use Rattle.atoms.specs.Escape.{placedOf, hexOf, octalOf, escapeOf}
 use Rattle.atoms.specs.declared.Atom.the-variants.{Byte}
 use Rattle.atoms.specs.declared.Numeral.{Numeral}
 use Rattle.atoms.proofs.Suffixes.{front, first}
@@ -65,11 +64,6 @@ pub control-is : (s : List ℕ) (at c : ℕ) → c ≡ getD s at 0
     → controlOf (drop at s) ≡ cond (within 32 126 c) (good 3 (Byte (flipped64 (raised c)))) (bad 6 0)
 control-is s at c e = control-front (drop at s) ∙ rw (first s at, ← e)
 
--- the three kinds of byte that are letters and digits, asked of the table's entry k
-pub alnum-is : (c k : ℕ) → k ≡ kindsOf c → (meets k 32 || meets k 64 || meets k 1) ≡ isAlnum c
-unfolding isAlnum
-alnum-is c k e = rw e (ap₂ _||_ (ap₂ _||_ (meets-kinds c 5) (meets-kinds c 6)) (meets-kinds c 0))
-
 -- after the backslash
 module _ (s : List ℕ) (at : ℕ) (inside : Bool) where
   pub escape-end : length s ≤ at → escapeOf inside (drop at s) ≡ bad 6 0
@@ -82,19 +76,19 @@ module _ (s : List ℕ) (at : ℕ) (inside : Bool) where
     escape-literal e = rw (front s at here, e)
 
     pub escape-x : getD s at 0 ≡ 120 → escapeOf inside (drop at s) ≡ hexOf (drop (at + 1) s)
-    unfolding escapeOf isAlnum isLower isUpper isDigit
+    unfolding escapeOf isAlnum isAlpha isLower isUpper isDigit
     escape-x e = rw (front s at here, e)
 
     pub escape-o : getD s at 0 ≡ 111 → escapeOf inside (drop at s) ≡ octalOf (drop (at + 1) s)
-    unfolding escapeOf isAlnum isLower isUpper isDigit
+    unfolding escapeOf isAlnum isAlpha isLower isUpper isDigit
     escape-o e = rw (front s at here, e)
 
     pub escape-0 : getD s at 0 ≡ 48 → escapeOf inside (drop at s) ≡ shortOf 8 (drop (at + 1) s)
-    unfolding escapeOf isAlnum isLower isUpper isDigit
+    unfolding escapeOf isAlnum isAlpha isLower isUpper isDigit
     escape-0 e = rw (front s at here, e)
 
     pub escape-c : getD s at 0 ≡ 99 → escapeOf inside (drop at s) ≡ controlOf (drop (at + 1) s)
-    unfolding escapeOf isAlnum isLower isUpper isDigit
+    unfolding escapeOf isAlnum isAlpha isLower isUpper isDigit
     escape-c e = rw (front s at here, e)
 
     pub escape-other : isAlnum (getD s at 0) ≡ true

@@ -15,10 +15,9 @@ use Rattle.kinds.specs.Case.{otherCase, caseClosed, uncased}
 use Rattle.kinds.specs.declared.Kind.{Kind}
 use Rattle.kinds.specs.declared.Kind.the-variants.{Xdigit}
 use Rattle.atoms.specs.Escape.{good}
-use Rattle.atoms.specs.Name.{Name, name, names, bytes, begins, named, nameAmong, nameOf}
+use Rattle.atoms.specs.Name.{Name, name, names, bytes, begins, named, nameAmong, nameOf, nameAt, classText, namedByte}
 use Rattle.atoms.specs.Quote.{isMark, gapOf}
 use Rattle.atoms.specs.Class.{bracketOf, memberOf, jointOf, memberAt, joined, closedClass, settled, membersOf, classOf}
-use Rattle.atoms.specs.Invariants.{nameAt}
 use Rattle.atoms.specs.declared.Class.{Class}
 use Rattle.atoms.proofs.Spellings.{every, every-row, rows, row-rule, name-letter}
 
@@ -66,7 +65,7 @@ module _ (caseless negated : Bool) (lead : ℕ) (rest : List ℕ) where
       → nameAmong names caseless negated lead (nameAt i .text ++ rest)
       ≡ good (lead + length (nameAt i .text)) (named caseless negated (nameAt i .kind))
   unfolding nameAt names distinct every apart bytes
-  row-read i l = among-read names (name "xdigit:]" Xdigit) i refl (rows l)
+  row-read i l = among-read names (name "xdigit" Xdigit) i refl (rows l)
 
 -- a letter is no `^`
 no-hat : (text rest : List ℕ) → 94 < getD text 0 0 → eqb (getD (text ++ rest) 0 0) 94 ≡ false
@@ -85,17 +84,6 @@ module _ (caseless : Bool) (rest : List ℕ) (i : ℕ) (l : i < 14) where
   negated-read = row-read caseless true 3 rest i l
 
 -- ---- and stands for the bytes of its kind
-
--- a class of this name alone, after its `[`
-abbrev pub classText : (negated : Bool) → Name → List ℕ
-classText true n = 91 ∷ 58 ∷ 94 ∷ (n .text ++ (93 ∷ []))
-classText false n = 91 ∷ 58 ∷ (n .text ++ (93 ∷ []))
-
--- the bytes that a name stands for: those of its kind, or all others
-abbrev pub isNamed : (caseless negated : Bool) → Kind → ℕ → Bool
-isNamed caseless negated k b =
-    let is : Bool = isKind (cond caseless (uncased k) k) b in
-    cond negated (not is) is
 
 -- two lists of words are the same
 unfoldable same : List ℕ → List ℕ → Bool
@@ -118,7 +106,7 @@ same-true (x ∷ xs) (y ∷ ys) e =
 unfoldable classed : (caseless negated : Bool) → Name → Bool
 classed caseless negated n =
     let c : Class = classOf caseless (classText negated n) 0 in
-    eqb (c .number) 0 && (eqb (c .place) (length (classText negated n)) && same (c .set) (setOf (isNamed caseless negated (n .kind))))
+    eqb (c .number) 0 && (eqb (c .place) (length (classText negated n)) && same (c .set) (setOf (namedByte caseless negated (n .kind))))
 
 -- so does each name's class
 table : (caseless negated : Bool) → every (classed caseless negated) names ≡ true
@@ -132,7 +120,7 @@ table false false = refl
 
 module _ (caseless negated : Bool) (i : ℕ) (l : i < 14) where
   pub class-named : classOf caseless (classText negated (nameAt i)) 0
-      ≡ closedClass (length (classText negated (nameAt i))) (setOf (isNamed caseless negated (nameAt i .kind)))
+      ≡ closedClass (length (classText negated (nameAt i))) (setOf (namedByte caseless negated (nameAt i .kind)))
   unfolding classed
   class-named =
       let n = nameAt i in
@@ -142,5 +130,5 @@ module _ (caseless negated : Bool) (i : ℕ) (l : i < 14) where
       let more = and-eq-true-iff (eqb (c .place) (length (classText negated n))) _ .0 (parts .1) in
       let number : c .number ≡ 0 = eqb-true (c .number) 0 (parts .0) in
       let place : c .place ≡ length (classText negated n) = eqb-true (c .place) (length (classText negated n)) (more .0) in
-      let set : c .set ≡ setOf (isNamed caseless negated (n .kind)) = same-true (c .set) (setOf (isNamed caseless negated (n .kind))) (more .1) in
+      let set : c .set ≡ setOf (namedByte caseless negated (n .kind)) = same-true (c .set) (setOf (namedByte caseless negated (n .kind))) (more .1) in
       λ k. record { number = number k; place = place k; set = set k }

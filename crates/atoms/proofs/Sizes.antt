@@ -8,9 +8,9 @@ use native.Mathlib.Omega.{arith}
 use borrow.Author.Tests.{eqb-true, ltb-true}
 use lib.Dec.{eqb, leb, ltb}
 use lib.ListN.{length, getD, take, drop, length-take, length-drop}
-use Rattle.kinds.specs.Kind.{within}
+use Rattle.kinds.specs.Kind.{within, isAlnum}
 use Rattle.atoms.specs.Number.{digits, numeralOf}
-use Rattle.atoms.specs.Escape.{good, bad, bracedOf, shortOf, controlOf, typeOf, namedOf, placedOf, hexOf, octalOf, isAlnum, escapeOf}
+use Rattle.atoms.specs.Escape.{good, bad, bracedOf, shortOf, controlOf, typeOf, namedOf, placedOf, hexOf, octalOf, escapeOf}
 use Rattle.atoms.specs.Quote.{isMark, gapOf}
 use Rattle.atoms.specs.Name.{Name, names, begins, nameAmong, nameOf}
 use Rattle.atoms.specs.Class.{bracketOf, memberOf, jointOf, asMember, memberAt}

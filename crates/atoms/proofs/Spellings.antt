@@ -12,8 +12,8 @@ use lib.ListN.{length, getD, drop, drop-of-length-le, List·getD-eq-default}
 use lib.Seq.{drop-cons, drop-drop}
 use Rattle.kinds.specs.declared.Kind.the-variants.{Xdigit}
 use Rattle.atoms.specs.Escape.{good, bad}
-use Rattle.atoms.specs.Name.{Name, name, names, bytes, begins, named, nameAmong, nameOf}
-use Rattle.atoms.specs.Invariants.{unpadded, nameAt}
+use Rattle.atoms.specs.Name.{Name, name, names, bytes, begins, named, nameAmong, nameOf, nameAt}
+use Rattle.atoms.specs.Invariants.{unpadded}
 use Rattle.atoms.proofs.Suffixes.{front, first, inside}
 use Rattle.atoms.proofs.Sizes.{either, begins-fits}
 
@@ -83,13 +83,13 @@ pub beyond : (k : ℕ) {i : ℕ} → k ≤ i → (i ≡ k → ⊥) → suc k ≤
 beyond k h f = omega (arith, f)
 
 -- from the last name on
-pub name-last : (i : ℕ) → 13 ≤ i → nameAt i ≡ name "xdigit:]" Xdigit
+pub name-last : (i : ℕ) → 13 ≤ i → nameAt i ≡ name "xdigit" Xdigit
 unfolding nameAt names
 name-last i h = go (decLt i 14)
   where
-    go : Dec (i < 14) → getD names i (name "xdigit:]" Xdigit) ≡ name "xdigit:]" Xdigit
+    go : Dec (i < 14) → getD names i (name "xdigit" Xdigit) ≡ name "xdigit" Xdigit
     go (yes l) = let e : i ≡ 13 = omega arith in rw e
-    go (no l) = List·getD-eq-default names (name "xdigit:]" Xdigit) {n = i} (omega arith)
+    go (no l) = List·getD-eq-default names (name "xdigit" Xdigit) {n = i} (omega arith)
 
 -- a test of each name of a list
 unfoldable pub every : (Name → Bool) → List Name → Bool
@@ -109,7 +109,7 @@ rows h = h
 -- what is computed of each name holds of the name number i
 pub row-rule : (f : Name → Bool) → every f names ≡ true → (i : ℕ) → i < 14 → f (nameAt i) ≡ true
 unfolding nameAt
-row-rule f t i l = every-row f names (name "xdigit:]" Xdigit) i t (rows l)
+row-rule f t i l = every-row f names (name "xdigit" Xdigit) i t (rows l)
 
 -- a text begins with a letter, which `^` is not
 abbrev lettered : Name → Bool
@@ -130,7 +130,7 @@ module _ (caseless negated : Bool) (lead : ℕ) (v : List ℕ) where
         ≡ cond (begins (nameAt i .text) v) (good (lead + length (nameAt i .text)) (named caseless negated (nameAt i .kind)))
         (nameAmong (drop (i + 1) names) caseless negated lead v)
     unfolding nameAmong nameAt
-    row-is = rw (add-one, drop-cons names i (name "xdigit:]" Xdigit) (rows l))
+    row-is = rw (add-one, drop-cons names i (name "xdigit" Xdigit) (rows l))
 
     pub among-found : (size ≡ 0 → ⊥)
         → nameAmong (drop i names) caseless negated lead v ≡ good (lead + size) (named caseless negated (nameAt i .kind))

@@ -139,7 +139,7 @@ membersOf caseless negated first quoted set zero (c ∷ v) at =
     (cond (eqb c 93 && not (first || quoted)) (closedClass (at + 1) (settled caseless negated set))
     (cond (eqb (m .fault) 0) rest (refusedClass (m .fault) at)))
 
--- "Classes `[..]`, `[^..]`": v the bytes from place `at` on, after the `[`
+-- "Classes `[..]`, `[^..]`": v the bytes from place `at` on, after the `[`. Marks before the `^` are "as not there".
 unfoldable pub classOf : Bool → List ℕ → ℕ → Class
 classOf caseless v at =
     let g : Gap = gapOf false v in

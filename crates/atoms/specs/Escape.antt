@@ -1,10 +1,10 @@
 -- Escapes. Assumes nothing: these are definitions. v is the pattern from the place that the comment names.
-use mathlib.Core.Bool.{Bool, true, false, cond, _&&_, _||_}
+use mathlib.Core.Bool.{Bool, true, false, cond, _&&_}
 use mathlib.Core.List.{List, [], _∷_}
 use Prim.Native.Nat.{ℕ, _+_, _-_}
 use lib.Dec.{eqb, leb}
 use lib.ListN.{length, getD, take, drop}
-use Rattle.kinds.specs.Kind.{within, isLower, isUpper, isDigit}
+use Rattle.kinds.specs.Kind.{within, isLower, isAlnum}
 use Rattle.kinds.specs.Case.{otherCase}
 use Rattle.kinds.specs.declared.Kind.the-variants.{Digit, Word, Space, Horizontal, Vertical}
 use Rattle.atoms.specs.declared.Atom.{Atom}
@@ -77,7 +77,7 @@ namedOf c rest =
     rest)))))
 
 -- What differs in a class: "Inside, `\b` is 8", and `\N`, `\A`, `\z` are 14 there. "`\N` is any byte but 10 always." Else 14: "any other letter
--- or digit escape".
+-- or digit escape". (`\Q` and `\E` are read as marks of quotes before, and never come here.)
 unfoldable pub placedOf : Bool → ℕ → Part
 placedOf true c = cond (eqb c 98) (good 2 (Byte 8)) (bad 14 2)
 placedOf false c =
@@ -93,10 +93,6 @@ hexOf v = cond (eqb (getD v 0 0) 123) (bracedOf 16 v) (shortOf 16 v)
 -- after `\o`: "`\x{` or `\o` without digits and brace" is 6
 unfoldable pub octalOf : List ℕ → Part
 octalOf v = cond (eqb (getD v 0 0) 123) (bracedOf 8 v) (bad 6 0)
-
--- an ASCII letter or digit
-unfoldable pub isAlnum : ℕ → Bool
-isAlnum c = isLower c || isUpper c || isDigit c
 
 -- The escape whose backslash stands before v. "`\` before a byte that is no ASCII letter or digit makes it literal"; "`\` at the end" is 6.
 unfoldable pub escapeOf : Bool → List ℕ → Part

@@ -21,7 +21,8 @@ noGap quoted = record { size = 0; quoted = quoted }
 abbrev pub wider : Gap → Gap
 wider g = record { size = 2 + g .size; quoted = g .quoted }
 
--- The marks at the front of v, which are "in a class as not there": how many bytes they take, and whether a quote is open after them.
+-- The marks at the front of v: how many bytes they take, and whether a quote is open after them. An empty quote and a lone `\E` are "in a class as not there";
+-- so are the marks around quoted members, since the bytes between them alone are literal.
 unfoldable pub gapOf : Bool → List ℕ → Gap
 gapOf quoted [] = noGap quoted
 gapOf quoted (c ∷ []) = noGap quoted

@@ -10,8 +10,9 @@ use kinds::Kind;
 ghost use mathlib.Core.Path.{_≡_};
 ghost use Prim.Native.Nat.{_≤_, _<_};
 ghost use lib.ListN.{length, drop};
+ghost use Rattle.kinds.specs.Kind.{isAlnum};
 ghost use Rattle.atoms.specs.Escape.{good, bad, bracedOf, shortOf, flipped64, raised, controlOf};
-ghost use Rattle.atoms.specs.Escape.{typeOf, namedOf, placedOf, hexOf, octalOf, isAlnum, escapeOf};
+ghost use Rattle.atoms.specs.Escape.{typeOf, namedOf, placedOf, hexOf, octalOf, escapeOf};
 
 // A part of so many bytes that stands for an atom.
 pub(super) fn sound(size: usize, atom: Atom) -> Part
@@ -173,8 +174,7 @@ fn octal(s: &[u8], at: usize) -> Part
 fn is_alnum(c: u8) -> bool
     ensures { λ r. ⌜ r ≡ isAlnum c ⌝ }
 {
-    let k = kinds::kinds_of(c);
-    (k & kinds::LOWER != 0) | (k & kinds::UPPER != 0) | (k & kinds::DIGIT != 0)
+    kinds::kinds_of(c) & kinds::ALNUM != 0
 }
 
 // After a backslash.

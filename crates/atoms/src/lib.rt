@@ -1,4 +1,4 @@
-// What stands for bytes, at a place of the pattern: numbers, escapes, class members and ranges, whole classes. A place past the pattern's end reads as
+// What stands for bytes, at a place of the pattern: numbers, escapes, quotes, classes by name, class members and ranges, whole classes. A place past the pattern's end reads as
 // its end, so nothing is required of a caller. specs/ says what each function gives, for the bytes from the place on.
 mod classes;
 mod escape;

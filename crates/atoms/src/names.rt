@@ -10,8 +10,8 @@ ghost use mathlib.Core.Path.{_≡_};
 ghost use mathlib.Core.Bool.{cond};
 ghost use Prim.Native.Nat.{_≤_, _<_};
 ghost use lib.ListN.{length, drop};
-ghost use Rattle.atoms.specs.Name.{names, named, begins, nameAmong, nameOf};
-ghost use Rattle.atoms.specs.Invariants.{unpadded, nameAt};
+ghost use Rattle.atoms.specs.Name.{names, named, begins, nameAmong, nameOf, nameAt};
+ghost use Rattle.atoms.specs.Invariants.{unpadded};
 
 // How many names there are.
 const NAMES: usize = 14;

@@ -11,7 +11,7 @@ use Rattle.kinds.specs.declared.Kind.the-variants.{Digit, Word, Space, H
 unfoldable pub Ruled : List ℕ → Type 0
 Ruled t = (b : ℕ) → b < 256 → getD t b 0 ≡ kindsOf b
 
--- the bit of a type: its place in the list of kinds
+-- the bit of a kind: its place in the list of kinds
 abbrev pub bitOf : Kind → ℕ
 bitOf Digit = 1
 bitOf Word = 2

@@ -9,7 +9,7 @@ use borrow.Author.Tests.{eqb-true, leb-true, leb-false, ltb-true, ltb-false, ne-
 use lib.Dec.{eqb, leb, ltb, leb·suc-suc, leb·suc-zero}
 use lib.ListN.{length, getD, drop, length-drop}
 use lib.Seq.{getD-drop, drop-drop}
-use Rattle.kinds.specs.Kind.{within, isLower, isUpper, isDigit}
+use Rattle.kinds.specs.Kind.{within, isLower, isUpper, isDigit, isAlpha, isAlnum}
 use Rattle.kinds.specs.declared.Kind.the-variants.{Digit, Word, Space, Horizontal, Vertical}
 use Rattle.atoms.specs.declared.Atom.{Atom}
 use Rattle.atoms.specs.declared.Atom.the-variants.{Byte, OfKind, NotOfKind, NotNewline, Start, End}
@@ -21,7 +21,7 @@ use Rattle.tokens.specs.declared.Form.{Form}
 use Rattle.tokens.specs.declared.Token.the-variants.{One, Note}
 use Rattle.tokens.specs.declared.Lexeme.{Lexeme}
 use Rattle.atoms.specs.Number.{cap, some, digits, valueFrom, numeralOf}
-use Rattle.atoms.specs.Escape.{good, bracedOf, shortOf, controlOf, typeOf, namedOf, placedOf, hexOf, octalOf, isAlnum, escapeOf}
+use Rattle.atoms.specs.Escape.{good, bracedOf, shortOf, controlOf, typeOf, namedOf, placedOf, hexOf, octalOf, escapeOf}
 use Rattle.atoms.specs.Fault.{lower}
 use Rattle.atoms.specs.Quote.{isMark, opensQuote, wider, gapOf}
 use Rattle.atoms.specs.Name.{Name, names, begins, nameAmong, nameOf}
@@ -130,22 +130,22 @@ control-part [] = refl
 control-part (c ∷ v) = split (within 32 126 c) (λ e. rw e) (λ e. rw e)
 
 hex-fault : (i : Bool) (v : List ℕ) → EscapeFault i (120 ∷ v)
-unfolding escapeOf isAlnum isLower isUpper isDigit cutShort tooLarge unknown
+unfolding escapeOf isAlnum isAlpha isLower isUpper isDigit cutShort tooLarge unknown
 hex-fault true v = hex-part v ∙ hex-bool (eqb (getD v 0 0) 123) (braced 16 (drop 1 v)) (ltb 255 (valueFrom 16 0 (digits 16 (drop 1 v))))
 hex-fault false v = hex-part v ∙ hex-bool (eqb (getD v 0 0) 123) (braced 16 (drop 1 v)) (ltb 255 (valueFrom 16 0 (digits 16 (drop 1 v))))
 
 octal-fault : (i : Bool) (v : List ℕ) → EscapeFault i (111 ∷ v)
-unfolding escapeOf isAlnum isLower isUpper isDigit cutShort tooLarge unknown
+unfolding escapeOf isAlnum isAlpha isLower isUpper isDigit cutShort tooLarge unknown
 octal-fault true v = octal-part v ∙ octal-bool (eqb (getD v 0 0) 123) (braced 8 (drop 1 v)) (ltb 255 (valueFrom 8 0 (digits 8 (drop 1 v))))
 octal-fault false v = octal-part v ∙ octal-bool (eqb (getD v 0 0) 123) (braced 8 (drop 1 v)) (ltb 255 (valueFrom 8 0 (digits 8 (drop 1 v))))
 
 zero-fault : (i : Bool) (v : List ℕ) → EscapeFault i (48 ∷ v)
-unfolding escapeOf shortOf isAlnum isLower isUpper isDigit cutShort tooLarge unknown
+unfolding escapeOf shortOf isAlnum isAlpha isLower isUpper isDigit cutShort tooLarge unknown
 zero-fault true v = sym (rw (and-false (eqb (getD v 0 0) 123)))
 zero-fault false v = sym (rw (and-false (eqb (getD v 0 0) 123)))
 
 control-fault : (i : Bool) (v : List ℕ) → EscapeFault i (99 ∷ v)
-unfolding escapeOf isAlnum isLower isUpper isDigit cutShort tooLarge unknown
+unfolding escapeOf isAlnum isAlpha isLower isUpper isDigit cutShort tooLarge unknown
 control-fault true v = control-part v ∙ control-bool (eqb (getD v 0 0) 123) (within 32 126 (getD v 0 0))
 control-fault false v = control-part v ∙ control-bool (eqb (getD v 0 0) 123) (within 32 126 (getD v 0 0))
 
@@ -164,15 +164,15 @@ other-fault false c v e x o z k m n =
 
 -- any other byte
 alnum-99 : isAlnum 99 ≡ true
-unfolding isAlnum isLower isUpper isDigit
+unfolding isAlnum isAlpha isLower isUpper isDigit
 alnum-99 = refl
 
 alnum-120 : isAlnum 120 ≡ true
-unfolding isAlnum isLower isUpper isDigit
+unfolding isAlnum isAlpha isLower isUpper isDigit
 alnum-120 = refl
 
 alnum-111 : isAlnum 111 ≡ true
-unfolding isAlnum isLower isUpper isDigit
+unfolding isAlnum isAlpha isLower isUpper isDigit
 alnum-111 = refl
 
 not-byte : (c k : ℕ) → isAlnum k ≡ true → isAlnum c ≡ false → eqb c k ≡ false
@@ -442,11 +442,11 @@ module _ (o : Options) (v : List ℕ) where
 
 -- a quote's mark has no row
 letter-e : (w : List ℕ) → ownFault false (92 ∷ 69 ∷ w) ≡ 0
-unfolding row6 row7 row11 row14 cutShort tooLarge unknown isAlnum isLower isUpper isDigit formOf
+unfolding row6 row7 row11 row14 cutShort tooLarge unknown isAlnum isAlpha isLower isUpper isDigit formOf
 letter-e w = rw (and-false (eqb (getD w 0 0) 123))
 
 letter-q : (w : List ℕ) → ownFault false (92 ∷ 81 ∷ w) ≡ 0
-unfolding row6 row7 row11 row14 cutShort tooLarge unknown isAlnum isLower isUpper isDigit formOf
+unfolding row6 row7 row11 row14 cutShort tooLarge unknown isAlnum isAlpha isLower isUpper isDigit formOf
 letter-q w = rw (and-false (eqb (getD w 0 0) 123))
 
 mark-rows : (c : ℕ) (v : List ℕ) → isMark false c (getD v 0 0) ≡ true → ownFault false (c ∷ v) ≡ 0

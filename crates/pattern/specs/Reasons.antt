@@ -9,7 +9,7 @@ use mathlib.Core.List.{List, [], _∷_}
 use Prim.Native.Nat.{ℕ, suc, _+_, _≤_, _<_}
 use lib.Dec.{T, eqb, leb, ltb}
 use lib.ListN.{length, getD, drop}
-use Rattle.kinds.specs.Kind.{within}
+use Rattle.kinds.specs.Kind.{within, isAlnum}
 use Rattle.tokens.specs.declared.Options.{Options}
 use Rattle.atoms.specs.declared.Part.{Part}
 use Rattle.atoms.specs.declared.Gap.{Gap}
@@ -17,7 +17,6 @@ use Rattle.atoms.specs.declared.Joint.{Joint}
 use Rattle.tokens.specs.declared.Token.{Token}
 use Rattle.tokens.specs.declared.Token.the-variants.{Finish, Bar, Close, Class, One, Open, Set, Note, Unclosed, Repeat, Bad}
 use Rattle.atoms.specs.Number.{some, digits, valueFrom}
-use Rattle.atoms.specs.Escape.{isAlnum}
 use Rattle.atoms.specs.Quote.{isMark, opensQuote, gapOf}
 use Rattle.atoms.specs.Name.{Name, names, begins as beginsWith}
 use Rattle.atoms.specs.Class.{memberOf, isType, byteOf, jointOf, memberAt}

@@ -1,4 +1,4 @@
--- How many bytes a token takes: never more than there are, and at least one unless it is faulty. Callers cite `lexeme-takes` and `lexeme-fits`. By cases on
+-- How many bytes a token takes: never more than there are, and where the pattern has not ended at least one unless it is faulty. Callers cite `lexeme-takes` and `lexeme-fits`. By cases on
 -- what the definitions ask, and by going down the bytes.
 use mathlib.Core.Path.{_≡_, sym}
 use mathlib.Core.Bool.{Bool, true, false, cond, not, _&&_, _||_, and-eq-true-iff, true≢false}

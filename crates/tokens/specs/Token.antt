@@ -42,7 +42,7 @@ unquotedOf o c v =
     (plain 1 (One (Byte c)))))))))))
 
 -- The token at the front of v, where o are the options there. The marks of quotes are notes, as comments are: "An empty quote and a lone `\E` count as
--- comments". In a quote each byte stands for itself.
+-- comments". In a quote each byte stands for itself; "the literal interpretation continues to the end of the pattern" where no `\E` ends it (source document 000).
 unfoldable pub lexemeOf : Options → List ℕ → Lexeme
 lexemeOf o [] = plain 0 Finish
 lexemeOf o (c ∷ v) =

@@ -1,5 +1,5 @@
 // One token at a place of the pattern outside a class: what stands there, how many bytes it takes, and its lowest fault. Quantifiers with their mark, option
-// settings, openings, and what atoms has: bytes and escapes. A place past the pattern's end reads as its end, so nothing is required of a caller. specs/
+// settings, openings, comments, marks of quotes, and what atoms has: bytes and escapes. A place past the pattern's end reads as its end, so nothing is required of a caller. specs/
 // says what each function gives, for the bytes from the place on.
 mod lexer;
 mod option;

@@ -1,4 +1,4 @@
--- `tokens::classes::cased` meets its contract: it asks what the definition asks.
+-- `atoms::classes::cased` meets its contract: it asks what the definition asks.
 use Rattle.atoms.proofs.classes.cased.Statement.{statement}
 use Rattle.atoms.proofs.classes.cased.Tie as tie
 

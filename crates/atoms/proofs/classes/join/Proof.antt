@@ -1,4 +1,4 @@
--- `tokens::classes::join` meets its contract, by cases on what the member starts with.
+-- `atoms::classes::join` meets its contract, by cases on what the member starts with.
 use borrow.Author.Needs.{needs}
 use Rattle.atoms.specs.Class.{joined}
 use Rattle.atoms.proofs.classes.join.Statement.{statement}

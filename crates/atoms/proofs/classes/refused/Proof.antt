@@ -1,4 +1,4 @@
--- `tokens::classes::refused` meets its contract: its set is empty.
+-- `atoms::classes::refused` meets its contract: its set is empty.
 use Rattle.atoms.proofs.classes.refused.Statement.{statement}
 use Rattle.atoms.proofs.classes.refused.Tie as tie
 

@@ -1,4 +1,4 @@
--- `tokens::classes::settle` meets its contract: the other case is added first, and then the set is turned or not.
+-- `atoms::classes::settle` meets its contract: the other case is added first, and then the set is turned or not.
 use Rattle.atoms.specs.Class.{settled}
 use Rattle.atoms.proofs.classes.settle.Statement.{statement}
 use Rattle.atoms.proofs.classes.settle.Tie as tie

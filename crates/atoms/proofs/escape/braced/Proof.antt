@@ -1,4 +1,4 @@
--- `tokens::escape::braced` meets its contract: the definition, read at the number and at the byte after it, goes by the tests of the code. The digits
+-- `atoms::escape::braced` meets its contract: the definition, read at the number and at the byte after it, goes by the tests of the code. The digits
 -- stand within the pattern, so no sum wraps.
 use Prim.Native.Nat.{_+_, _≤_}
 use native.Mathlib.Omega.{arith}

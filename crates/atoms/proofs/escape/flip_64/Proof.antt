@@ -1,4 +1,4 @@
--- `tokens::escape::flip_64` meets its contract: it asks what the definition asks.
+-- `atoms::escape::flip_64` meets its contract: it asks what the definition asks.
 use native.Mathlib.Omega.{arith}
 use borrow.Author.Tests.{le-leb, lt-leb}
 use Rattle.atoms.specs.Escape.{flipped64}

@@ -1,4 +1,4 @@
--- `tokens::escape::hex` meets its contract: the byte at the place is an opening brace or not.
+-- `atoms::escape::hex` meets its contract: the byte at the place is an opening brace or not.
 use native.Mathlib.Omega.{arith}
 use borrow.Author.Tests.{eq-eqb, ne-eqb}
 use Rattle.atoms.specs.Escape.{hexOf}

@@ -1,5 +1,8 @@
--- `tokens::escape::is_alnum` meets its contract: bits 5, 6 and 0 of a byte's kinds say whether it is a letter of either case or a digit.
-use Rattle.atoms.proofs.Escapes.{alnum-is}
+-- `atoms::escape::is_alnum` meets its contract: a byte's kinds have the bit of letters and digits exactly if it is one.
+use mathlib.Core.Path.{ap, _∙_}
+use Prim.Native.Nat.{ℕ}
+use Rattle.kinds.specs.declared.Kind.the-variants.{Alnum}
+use Rattle.kinds.proofs.Bits.{meets, meets-kind}
 use Rattle.atoms.proofs.escape.is_alnum.Statement.{statement}
 use Rattle.atoms.proofs.escape.is_alnum.Tie as tie
 
@@ -7,7 +10,7 @@ kinds-of-requires : tie.Need-kinds-of-requires
 kinds-of-requires c κs = tt
 
 returns : tie.Need-returns
-returns c = alnum-is (c .before .args .c) (c .kinds-of .result) (c .kinds-of .ensures)
+returns c = ap (λ (k : ℕ). meets k 256) (c .kinds-of .ensures) ∙ meets-kind Alnum (c .before .args .c)
 
 pub is-alnum-spec : {M : Type 1} → statement M
 is-alnum-spec = tie.close (tie.spec kinds-of-requires returns)

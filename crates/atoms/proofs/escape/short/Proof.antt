@@ -1,4 +1,4 @@
--- `tokens::escape::short` meets its contract: neither, one or both of two bytes are digits.
+-- `atoms::escape::short` meets its contract: neither, one or both of two bytes are digits.
 use mathlib.Core.Path.{sym, _∙_}
 use Prim.Native.Nat.{_+_, _*_, _<_}
 use native.Mathlib.Omega.{arith}

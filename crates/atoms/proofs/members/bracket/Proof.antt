@@ -1,4 +1,4 @@
--- `tokens::members::bracket` meets its contract: the byte at the place opens a name, or is one of two that are refused, or another.
+-- `atoms::members::bracket` meets its contract: the byte at the place opens a name, or is one of two that are refused, or another.
 use native.Mathlib.Omega.{arith}
 use borrow.Author.Tests.{ne-eqb}
 use Rattle.atoms.proofs.Suffixes.{inside}

@@ -1,4 +1,4 @@
--- `tokens::members::joint_at` meets its contract: the marks before and after the hyphen, and the bytes that follow them, decide. They stand in the
+-- `atoms::members::joint_at` meets its contract: the marks before and after the hyphen, and the bytes that follow them, decide. They stand in the
 -- pattern, so no sum wraps.
 use mathlib.Core.Path.{sym}
 use mathlib.Core.Bool.{false}

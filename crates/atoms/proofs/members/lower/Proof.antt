@@ -1,4 +1,4 @@
--- `tokens::members::lower` meets its contract: it asks what the definition asks, and of two faults gives the smaller.
+-- `atoms::members::lower` meets its contract: it asks what the definition asks, and of two faults gives the smaller.
 use native.Mathlib.Omega.{arith}
 use borrow.Author.Tests.{eq-eqb, ne-eqb}
 use Rattle.atoms.specs.Fault.{lower}

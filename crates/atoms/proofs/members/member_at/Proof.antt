@@ -1,4 +1,4 @@
--- `tokens::members::member_at` meets its contract: the member has no end, or it is joined to another, or it stands alone. What it takes stands in the
+-- `atoms::members::member_at` meets its contract: the member has no end, or it is joined to another, or it stands alone. What it takes stands in the
 -- pattern, so no sum wraps.
 use mathlib.Core.Path.{refl}
 use Prim.Native.Nat.{_+_, _<_, _^_}

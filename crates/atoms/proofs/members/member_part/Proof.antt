@@ -1,4 +1,4 @@
--- `tokens::members::member_part` meets its contract: the pattern ends, or its next byte is quoted, starts an escape or a class by name, or stands for
+-- `atoms::members::member_part` meets its contract: the pattern ends, or its next byte is quoted, starts an escape or a class by name, or stands for
 -- itself.
 use mathlib.Core.Path.{sym, _∙_}
 use native.Mathlib.Omega.{arith}

@@ -1,4 +1,4 @@
--- `tokens::members::range` meets its contract, by those of the functions that it calls.
+-- `atoms::members::range` meets its contract, by those of the functions that it calls.
 use native.Mathlib.Omega.{arith}
 use Rattle.atoms.proofs.members.range.Statement.{statement}
 use Rattle.atoms.proofs.members.range.Tie as tie

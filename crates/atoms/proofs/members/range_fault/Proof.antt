@@ -1,4 +1,4 @@
--- `tokens::members::range_fault` meets its contract: the definition, read at the two ends, goes by the tests of the code.
+-- `atoms::members::range_fault` meets its contract: the definition, read at the two ends, goes by the tests of the code.
 use mathlib.Core.Path.{refl}
 use Rattle.atoms.specs.Class.{byteOf}
 use Rattle.atoms.proofs.Ranges.{range-fault-is}

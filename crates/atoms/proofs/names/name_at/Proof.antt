@@ -1,4 +1,4 @@
--- `tokens::names::name_at` meets its contract: the byte at the place is `^` or not.
+-- `atoms::names::name_at` meets its contract: the byte at the place is `^` or not.
 use native.Mathlib.Omega.{arith}
 use borrow.Author.Tests.{eq-eqb, ne-eqb}
 use Rattle.atoms.proofs.Suffixes.{inside}

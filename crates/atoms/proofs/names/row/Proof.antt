@@ -1,8 +1,8 @@
--- `tokens::names::row` meets its contract: each text is computed.
+-- `atoms::names::row` meets its contract: each text is computed.
 use mathlib.Core.Path.{refl}
 use native.Mathlib.Omega.{arith}
-use Rattle.atoms.specs.Name.{names, bytes}
-use Rattle.atoms.specs.Invariants.{unpadded, nameAt}
+use Rattle.atoms.specs.Name.{names, bytes, nameAt}
+use Rattle.atoms.specs.Invariants.{unpadded}
 use Rattle.atoms.proofs.Spellings.{beyond, name-last}
 use Rattle.atoms.proofs.names.row.Statement.{statement}
 use Rattle.atoms.proofs.names.row.Tie as tie

@@ -1,4 +1,4 @@
--- `tokens::number::digit_at` meets its contract, by those of the two functions that it calls.
+-- `atoms::number::digit_at` meets its contract, by those of the two functions that it calls.
 use mathlib.Core.Path.{ap, _∙_}
 use Rattle.atoms.specs.Number.{digitOf}
 use Rattle.atoms.proofs.number.digit_at.Statement.{statement}

@@ -1,4 +1,4 @@
--- `tokens::number::numeral_at` meets its contract. The invariant: the digits before i are read, and make the value, cut to the cap. The measure is
+-- `atoms::number::numeral_at` meets its contract. The invariant: the digits before i are read, and make the value, cut to the cap. The measure is
 -- what is left of the bytes, since a digit's place is inside.
 use Prim.Native.Nat.{_*_, _-_, _≤_}
 use native.Mathlib.Nat.{mul-le-mul}

@@ -1,4 +1,4 @@
--- `tokens::number::peek` meets its contract: past the end of a list `getD` gives its default.
+-- `atoms::number::peek` meets its contract: past the end of a list `getD` gives its default.
 use mathlib.Core.Path.{refl, sym}
 use native.Mathlib.Omega.{arith}
 use lib.ListN.{List·getD-eq-default}

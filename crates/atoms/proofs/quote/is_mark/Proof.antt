@@ -1,4 +1,4 @@
--- `tokens::quote::is_mark` meets its contract: it asks what the definition asks.
+-- `atoms::quote::is_mark` meets its contract: it asks what the definition asks.
 use mathlib.Core.Path.{refl}
 use Rattle.atoms.specs.Quote.{isMark}
 use Rattle.atoms.proofs.quote.is_mark.Statement.{statement}

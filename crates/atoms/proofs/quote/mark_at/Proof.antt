@@ -1,4 +1,4 @@
--- `tokens::quote::mark_at` meets its contract: past the end no byte is a backslash.
+-- `atoms::quote::mark_at` meets its contract: past the end no byte is a backslash.
 use native.Mathlib.Omega.{arith}
 use lib.ListN.{List·getD-eq-default}
 use Rattle.atoms.specs.Quote.{isMark}
