@@ -10,9 +10,11 @@ use native.Mathlib.Omega.{arith}
 use borrow.Author.Tests.{lt-ltb, le-ltb}
 use lib.Dec.{ltb}
 use lib.ListN.{length, getD, drop, length-drop, drop-of-length-le}
-use Rattle.atoms.specs.Number.{digitOf, digits, valueFrom, cap, some, numeralOf}
+use lib.Seq.{drop-drop}
+use Rattle.atoms.specs.Number.{digitOf, digits, valueFrom, cap, some, blanks, numeralOf}
 use Rattle.atoms.specs.declared.Numeral.{Numeral}
 use Rattle.atoms.proofs.Suffixes.{front, inside}
+use Rattle.atoms.proofs.Blanks.{blanks-fit}
 
 module _ (s : List ℕ) (at : ℕ) where
   -- past the end there is no digit
@@ -83,17 +85,21 @@ module _ (base : ℕ) (s : List ℕ) (at : ℕ) where
           valued = rw ev (cut base (digits base (drop (i + 1) s)) (value * base + d) b ∙ rw here at (read .valued));
         }
 
-    -- at a byte that is no digit
-    pub read-done : (d : ℕ) → d ≡ digitOf (getD s i 0) → base ≤ d
-        → record { value = value; some = ltb at i; size = i - at } ≡ numeralOf base (drop at s)
+    -- at a byte that is no digit, after which the blanks end at `end`; those before the digits begin at `start`
+    pub read-done : (d start end : ℕ) → d ≡ digitOf (getD s i 0) → base ≤ d → at ≡ start + blanks (drop start s) → end ≡ i + blanks (drop i s)
+        → record { value = value; some = ltb at i; size = end - start } ≡ numeralOf base (drop start s)
     unfolding numeralOf valueFrom
-    read-done d e h =
+    read-done d start end e h before after =
         let none : digits base (drop i s) ≡ [] = no-digit s i base small (omega arith) in
-        let size : i - at ≡ length (digits base (drop at s)) = omega (arith, rw none at (read .sized)) in
+        let n : ℕ = length (digits base (drop at s)) in
+        let size : i - at ≡ n = omega (arith, rw none at (read .sized)) in
         let whole : min cap value ≡ min cap (valueFrom base 0 (digits base (drop at s))) = rw none at (read .valued) in
         let v : value ≡ min cap (valueFrom base 0 (digits base (drop at s))) = omega (arith, read .small) in
         let t : ltb at i ≡ some (digits base (drop at s)) = has-digit (digits base (drop at s)) at i (read .from) size in
-        λ k. record { value = v k; some = t k; size = size k }
+        let place : at + n ≡ i = omega (arith, read .from) in
+        let all : end - start ≡ blanks (drop start s) + (n + blanks (drop i s)) = omega arith in
+        rw (drop-drop (blanks (drop start s)) start s, ← before, drop-drop n at s, place)
+        (λ k. record { value = v k; some = t k; size = all k })
 
 -- the digits stand in the pattern
 pub digits-fit : (base : ℕ) (v : List ℕ) → length (digits base v) ≤ length v
@@ -107,4 +113,17 @@ digits-fit base (b ∷ v) = go (ltb (digitOf b) base) (digits-fit base v)
 
 pub numeral-fits : (base : ℕ) (s : List ℕ) (at : ℕ) (n : Numeral) → n ≡ numeralOf base (drop at s) → n .size ≤ length s - at
 unfolding numeralOf
-numeral-fits base s at n e = omega (arith, ap (λ (x : Numeral). x .size) e, digits-fit base (drop at s), length-drop at s)
+numeral-fits base s at n e =
+    let v = drop at s in
+    let w = drop (blanks v) v in
+    let k = length (digits base w) in
+    omega (
+      arith,
+      ap (λ (x : Numeral). x .size) e,
+      length-drop at s,
+      blanks-fit v,
+      length-drop (blanks v) v,
+      digits-fit base w,
+      length-drop k w,
+      blanks-fit (drop k w),
+    )

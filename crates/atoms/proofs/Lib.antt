@@ -1,5 +1,6 @@
 -- What the proofs of the functions share, and what callers cite of sizes and members.
 pub mod Suffixes
+pub mod Blanks
 pub mod Digits
 pub mod Escapes
 pub mod Sizes

@@ -1,10 +1,10 @@
 -- Numbers written in digits. Assumes nothing: these are definitions.
 use mathlib.Core.Bool.{Bool, true, false, cond}
 use mathlib.Core.List.{List, [], _∷_}
-use Prim.Native.Nat.{ℕ, _+_, _-_, _*_, min}
+use Prim.Native.Nat.{ℕ, suc, _+_, _-_, _*_, min}
 use lib.Dec.{ltb}
-use lib.ListN.{length}
-use Rattle.kinds.specs.Kind.{within}
+use lib.ListN.{length, drop}
+use Rattle.kinds.specs.Kind.{within, isBlank}
 use Rattle.atoms.specs.declared.Numeral.{Numeral}
 
 -- what a byte is worth as a digit, in either case; 16 where it is no digit in any base
@@ -30,6 +30,15 @@ abbrev pub some : List ℕ → Bool
 some [] = false
 some (d ∷ ds) = true
 
--- The number at the front, as it stands between braces: its value, whether it has a digit, its size in bytes.
+-- "spaces and tabs after `{`, before `}` and around the comma": how many stand at the front
+unfoldable pub blanks : List ℕ → ℕ
+blanks [] = 0
+blanks (b ∷ v) = cond (isBlank b) (suc (blanks v)) 0
+
+-- The number at the front, as it stands between braces, with the blanks around it: its value, whether it has a digit, its size in bytes. "Spaces alone make
+-- no number".
 unfoldable pub numeralOf : ℕ → List ℕ → Numeral
-numeralOf base v = record { value = min cap (valueFrom base 0 (digits base v)); some = some (digits base v); size = length (digits base v) }
+numeralOf base v =
+    let w : List ℕ = drop (blanks v) v in
+    let ds : List ℕ = digits base w in
+    record { value = min cap (valueFrom base 0 ds); some = some ds; size = blanks v + (length ds + blanks (drop (length ds) w)) }

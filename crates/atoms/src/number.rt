@@ -2,10 +2,10 @@
 // come here. However many digits there are, the number stops at the cap.
 use crate::Numeral;
 ghost use mathlib.Core.Path.{_≡_};
-ghost use Prim.Native.Nat.{_≤_, _<_, min};
+ghost use Prim.Native.Nat.{_+_, _≤_, _<_, min};
 ghost use lib.ListN.{getD, drop};
 ghost use Rattle.kinds.specs.Kind.{within};
-ghost use Rattle.atoms.specs.Number.{digitOf, cap, numeralOf};
+ghost use Rattle.atoms.specs.Number.{digitOf, cap, blanks, numeralOf};
 
 // Numbers are kept exactly below this; every larger one counts as this.
 pub const CAP: u32 = 65536;
@@ -54,12 +54,24 @@ fn capped(x: u32) -> u32
     if x < CAP { x } else { CAP }
 }
 
-// The number at a place, as it stands between braces.
+// The place after the spaces and tabs at a place.
+fn past_blanks(s: &[u8], at: usize) -> usize
+    ensures { λ r. ⌜ r ≡ at + blanks (drop at (now (s .entry))) ⌝ }
+{
+    let mut i = at;
+    while kinds::kinds_of(peek(s, i)) & kinds::BLANK != 0 {
+        i += 1;
+    }
+    i
+}
+
+// The number at a place, as it stands between braces, with the blanks around it.
 pub(super) fn numeral_at(s: &[u8], at: usize, base: u32) -> Numeral
     requires { ⌜ (0 < base) × (base ≤ 16) ⌝ }
     ensures { λ r. ⌜ r ≡ numeralOf base (drop at (now (s .entry))) ⌝ }
 {
-    let mut i = at;
+    let from = past_blanks(s, at);
+    let mut i = from;
     let mut value: u32 = 0;
     while digit_at(s, i) < base {
         value = capped(value * base + digit_at(s, i));
@@ -67,8 +79,8 @@ pub(super) fn numeral_at(s: &[u8], at: usize, base: u32) -> Numeral
     }
     Numeral {
         value,
-        some: at < i,
-        size: i - at,
+        some: from < i,
+        size: past_blanks(s, i) - at,
     }
 }
 

@@ -4,7 +4,7 @@ use mathlib.Core.List.{[]}
 use Rattle.sets.specs.Set.{on, has, wordOf, setOf, emptySet, fullSet, inserted, insertedRange, unionOf, complementOf}
 use Rattle.kinds.specs.Kind.{isDigit, isLower, isUpper, isWord, isSpace, isHorizontal, isVertical, isAlpha, isAlnum, isAscii, isBlank, isCntrl, isGraph, isPrint, isPunct, isXdigit}
 use Rattle.kinds.specs.Case.{otherCase, caseClosed}
-use Rattle.atoms.specs.Number.{digitOf, digits, valueFrom, numeralOf}
+use Rattle.atoms.specs.Number.{digitOf, digits, valueFrom, blanks, numeralOf}
 use Rattle.atoms.specs.Escape.{bracedOf, shortOf, flipped64, raised, controlOf, typeOf, namedOf, placedOf, hexOf, octalOf, escapeOf}
 use Rattle.atoms.specs.Fault.{lower}
 use Rattle.atoms.specs.Quote.{isMark, gapOf}
@@ -19,9 +19,9 @@ use Rattle.pattern.specs.Read.{judged, readOf, optionsOf}
 use Rattle.pattern.specs.Cases.{gives, right, wrong, cases, itemsOf, agrees, strange, takings}
 
 pub none-wrong : wrong cases ≡ []
-unfolding isDigit isLower isUpper otherCase digitOf digits valueFrom numeralOf bracedOf shortOf flipped64 raised controlOf typeOf namedOf placedOf hexOf octalOf isAlpha isAlnum escapeOf lower isMark gapOf names begins named nameAmong nameOf bracketOf memberOf rangeFault jointOf memberAt membersOf classOf lettersOf beforeClose commentOf openingOf bounded open-ended bracesOf formOf marked quantifierOf escaped unquotedOf lexemeOf copied capped saturating nullable chained chosen one repeating closing opening act next finish walk judged readOf optionsOf bytes gives right wrong cases
+unfolding isDigit isLower isUpper isBlank otherCase digitOf digits valueFrom blanks numeralOf bracedOf shortOf flipped64 raised controlOf typeOf namedOf placedOf hexOf octalOf isAlpha isAlnum escapeOf lower isMark gapOf names begins named nameAmong nameOf bracketOf memberOf rangeFault jointOf memberAt membersOf classOf lettersOf beforeClose commentOf openingOf bounded open-ended bracesOf formOf marked quantifierOf escaped unquotedOf lexemeOf copied capped saturating nullable chained chosen one repeating closing opening act next finish walk judged readOf optionsOf bytes gives right wrong cases
 none-wrong = refl
 
 pub none-strange : strange takings ≡ []
-unfolding on has wordOf setOf emptySet fullSet inserted insertedRange unionOf complementOf isDigit isLower isUpper isWord isSpace isHorizontal isVertical isAlpha isAscii isBlank isCntrl isGraph isPrint isPunct isXdigit otherCase caseClosed digitOf digits valueFrom numeralOf bracedOf shortOf flipped64 raised controlOf typeOf namedOf placedOf hexOf octalOf isAlnum escapeOf lower isMark gapOf names begins named nameAmong nameOf bracketOf memberOf rangeFault jointOf memberAt joined settled membersOf classOf lettersOf beforeClose commentOf openingOf bounded open-ended bracesOf formOf marked quantifierOf escaped unquotedOf lexemeOf itemSet copied capped saturating nullable chained chosen one repeating closing opening act next finish walk judged readOf optionsOf bytes itemsOf agrees strange takings
+unfolding on has wordOf setOf emptySet fullSet inserted insertedRange unionOf complementOf isDigit isLower isUpper isWord isSpace isHorizontal isVertical isAlpha isAscii isBlank isCntrl isGraph isPrint isPunct isXdigit otherCase caseClosed digitOf digits valueFrom blanks numeralOf bracedOf shortOf flipped64 raised controlOf typeOf namedOf placedOf hexOf octalOf isAlnum escapeOf lower isMark gapOf names begins named nameAmong nameOf bracketOf memberOf rangeFault jointOf memberAt joined settled membersOf classOf lettersOf beforeClose commentOf openingOf bounded open-ended bracesOf formOf marked quantifierOf escaped unquotedOf lexemeOf itemSet copied capped saturating nullable chained chosen one repeating closing opening act next finish walk judged readOf optionsOf bytes itemsOf agrees strange takings
 none-strange = refl

@@ -20,7 +20,7 @@ use Rattle.tokens.specs.declared.Options.{Options}
 use Rattle.tokens.specs.declared.Form.{Form}
 use Rattle.tokens.specs.declared.Token.the-variants.{One, Note}
 use Rattle.tokens.specs.declared.Lexeme.{Lexeme}
-use Rattle.atoms.specs.Number.{cap, some, digits, valueFrom, numeralOf}
+use Rattle.atoms.specs.Number.{cap, some, blanks, digits, valueFrom, numeralOf}
 use Rattle.atoms.specs.Escape.{good, bracedOf, shortOf, controlOf, typeOf, namedOf, placedOf, hexOf, octalOf, escapeOf}
 use Rattle.atoms.specs.Fault.{lower}
 use Rattle.atoms.specs.Quote.{isMark, opensQuote, wider, gapOf}
@@ -29,8 +29,9 @@ use Rattle.atoms.specs.Class.{bracketOf, memberOf, rangeFault, isType, byteOf, 
 use Rattle.tokens.specs.Option.{plain, withCaseless, withDotAll, lettersOf, beforeClose, commentOf, openingOf}
 use Rattle.tokens.specs.Quantifier.{bounded, open-ended, bracesOf, formOf, marked, quantifierOf}
 use Rattle.tokens.specs.Token.{escaped, withQuoted, unquotedOf, lexemeOf}
+use Rattle.atoms.proofs.Suffixes.{first}
 use Rattle.atoms.proofs.Sizes.{joint-within}
-use Rattle.pattern.specs.Reasons.{among, braced, cutShort, tooLarge, unknown, optionBytes, hyphens, setting, badOpening, decimalOf, badBounds, row6, row7, row9, row11, row14, plainly, jointAt, farEnd, isNamed, unknownName, memberRow14, faultyEnd, ofEnd}
+use Rattle.pattern.specs.Reasons.{among, number, beyond, braced, cutShort, tooLarge, unknown, optionBytes, hyphens, setting, badOpening, decimalOf, second, badBounds, row6, row7, row9, row11, row14, plainly, jointAt, farEnd, isNamed, unknownName, memberRow14, faultyEnd, ofEnd}
 use Rattle.pattern.proofs.Base.{either, split, true-not-false, byte-not}
 use Rattle.pattern.proofs.Lowest.{lowest, both}
 
@@ -48,6 +49,23 @@ and-left : (a : Bool) → (a && true) ≡ false → a ≡ false
 and-left true e = e
 and-left false e = refl
 
+-- ---- numbers between braces
+
+beyond-is : (base : ℕ) (v : List ℕ) → beyond base v ≡ drop (numeralOf base v .size) v
+unfolding beyond numeralOf
+beyond-is base v =
+    let w : List ℕ = drop (blanks v) v in
+    let k : ℕ = length (digits base w) in
+    drop-drop (blanks (drop k w)) k w ∙ drop-drop (k + blanks (drop k w)) (blanks v) v
+
+-- the byte after a number, and what follows that byte
+after-is : (base : ℕ) (v : List ℕ) → getD (beyond base v) 0 0 ≡ getD v (numeralOf base v .size) 0
+after-is base v = ap (λ (w : List ℕ). getD w 0 0) (beyond-is base v) ∙ first v (numeralOf base v .size)
+
+second-is : (v : List ℕ) → second v ≡ drop (numeralOf 10 v .size + 1) v
+unfolding second
+second-is v = ap (drop 1) (beyond-is 10 v) ∙ drop-drop 1 (numeralOf 10 v .size) v
+
 -- ---- escapes
 
 abbrev fault : Part → ℕ
@@ -55,15 +73,16 @@ fault p = p .fault
 
 -- the fault of a braced number, by whether it has its digits and brace, and whether it is large
 abbrev bracedFault : ℕ → List ℕ → ℕ
-bracedFault base v = cond (braced base (drop 1 v)) (cond (ltb 255 (valueFrom base 0 (digits base (drop 1 v)))) 7 0) 6
+bracedFault base v = cond (braced base (drop 1 v)) (cond (ltb 255 (valueFrom base 0 (number base (drop 1 v)))) 7 0) 6
 
 braced-fault : (base : ℕ) (v : List ℕ) → fault (bracedOf base v) ≡ bracedFault base v
 unfolding bracedOf numeralOf
 braced-fault base v =
-    let ds : List ℕ = digits base (drop 1 v) in
+    let ds : List ℕ = number base (drop 1 v) in
+    let k : ℕ = numeralOf base (drop 1 v) .size in
     let x : ℕ = valueFrom base 0 ds in
-    rw (getD-drop 1 v (length ds) 0)
-    (split (some ds && eqb (getD v (1 + length ds) 0) 125)
+    rw (after-is base (drop 1 v), getD-drop 1 v k 0)
+    (split (some ds && eqb (getD v (1 + k) 0) 125)
     (λ e. rw e (split (leb (min cap x) 255)
     (λ f. rw (f, le-ltb 255 x (omega (arith, leb-true (min cap x) 255 f))))
     (λ f. rw (f, lt-ltb 255 x (omega (arith, leb-false (min cap x) 255 f))))))
@@ -131,13 +150,13 @@ control-part (c ∷ v) = split (within 32 126 c) (λ e. rw e) (λ e. rw e)
 
 hex-fault : (i : Bool) (v : List ℕ) → EscapeFault i (120 ∷ v)
 unfolding escapeOf isAlnum isAlpha isLower isUpper isDigit cutShort tooLarge unknown
-hex-fault true v = hex-part v ∙ hex-bool (eqb (getD v 0 0) 123) (braced 16 (drop 1 v)) (ltb 255 (valueFrom 16 0 (digits 16 (drop 1 v))))
-hex-fault false v = hex-part v ∙ hex-bool (eqb (getD v 0 0) 123) (braced 16 (drop 1 v)) (ltb 255 (valueFrom 16 0 (digits 16 (drop 1 v))))
+hex-fault true v = hex-part v ∙ hex-bool (eqb (getD v 0 0) 123) (braced 16 (drop 1 v)) (ltb 255 (valueFrom 16 0 (number 16 (drop 1 v))))
+hex-fault false v = hex-part v ∙ hex-bool (eqb (getD v 0 0) 123) (braced 16 (drop 1 v)) (ltb 255 (valueFrom 16 0 (number 16 (drop 1 v))))
 
 octal-fault : (i : Bool) (v : List ℕ) → EscapeFault i (111 ∷ v)
 unfolding escapeOf isAlnum isAlpha isLower isUpper isDigit cutShort tooLarge unknown
-octal-fault true v = octal-part v ∙ octal-bool (eqb (getD v 0 0) 123) (braced 8 (drop 1 v)) (ltb 255 (valueFrom 8 0 (digits 8 (drop 1 v))))
-octal-fault false v = octal-part v ∙ octal-bool (eqb (getD v 0 0) 123) (braced 8 (drop 1 v)) (ltb 255 (valueFrom 8 0 (digits 8 (drop 1 v))))
+octal-fault true v = octal-part v ∙ octal-bool (eqb (getD v 0 0) 123) (braced 8 (drop 1 v)) (ltb 255 (valueFrom 8 0 (number 8 (drop 1 v))))
+octal-fault false v = octal-part v ∙ octal-bool (eqb (getD v 0 0) 123) (braced 8 (drop 1 v)) (ltb 255 (valueFrom 8 0 (number 8 (drop 1 v))))
 
 zero-fault : (i : Bool) (v : List ℕ) → EscapeFault i (48 ∷ v)
 unfolding escapeOf shortOf isAlnum isAlpha isLower isUpper isDigit cutShort tooLarge unknown
@@ -336,16 +355,17 @@ same-fault size n = bounded-fault size n n ∙ rw (le-ltb n n (omega arith)) (on
 braces-fault : (v : List ℕ) → bracesOf v .is ≡ true → bracesOf v .fault ≡ cond (badBounds v) 11 0
 unfolding bracesOf numeralOf badBounds
 braces-fault v =
-    let k : ℕ = length (digits 10 v) in
+    let k : ℕ = numeralOf 10 v .size in
     let w : List ℕ = drop (k + 1) v in
-    let j : ℕ = length (digits 10 w) in
-    split (eqb (getD v k 0) 125)
-    (λ e. rw e (split (some (digits 10 v)) (λ f. rw f (λ z. same-fault (2 + k) (decimalOf v))) (λ f. rw f (λ z. true-not-false false z refl))))
+    let j : ℕ = numeralOf 10 w .size in
+    rw (after-is 10 v, second-is v)
+    (split (eqb (getD v k 0) 125)
+    (λ e. rw e (split (some (number 10 v)) (λ f. rw f (λ z. same-fault (2 + k) (decimalOf v))) (λ f. rw f (λ z. true-not-false false z refl))))
     (λ e. rw e (split (eqb (getD v k 0) 44 && eqb (getD v (k + (1 + j)) 0) 125)
-    (λ f. rw f (split (some (digits 10 w))
+    (λ f. rw f (split (some (number 10 w))
     (λ g. rw g (λ z. bounded-fault (3 + (k + j)) (decimalOf v) (decimalOf w)))
-    (λ g. rw g (split (some (digits 10 v)) (λ h. rw h (λ z. open-fault (3 + (k + j)) (decimalOf v))) (λ h. rw h (λ z. true-not-false false z refl))))))
-    (λ f. rw f (λ z. true-not-false false z refl))))
+    (λ g. rw g (split (some (number 10 v)) (λ h. rw h (λ z. open-fault (3 + (k + j)) (decimalOf v))) (λ h. rw h (λ z. true-not-false false z refl))))))
+    (λ f. rw f (λ z. true-not-false false z refl)))))
 
 -- a form that is one, by its first byte
 form-fault : (c : ℕ) (v : List ℕ) → formOf (c ∷ v) .is ≡ true → formOf (c ∷ v) .fault ≡ cond (eqb c 123 && badBounds v) 11 0

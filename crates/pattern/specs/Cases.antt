@@ -424,6 +424,55 @@ cases =
     ∷ row 0 "a|\\E*" 10 4
     ∷ row 0 "$(?#){2}" 10 5
     ∷ row 0 "a(?i)(?#)*" 10 9
+    -- "spaces and tabs after `{`, before `}` and around the comma", in quantifiers
+    ∷ row 0 "a{ 2}" 0 0
+    ∷ row 0 "a{2 }" 0 0
+    ∷ row 0 "a{2, 3}" 0 0
+    ∷ row 0 "a{2, }" 0 0
+    ∷ row 0 "a{ 257 }" 16 8
+    ∷ row 0 "a{ 257 , }" 16 10
+    ∷ row 0 "a{ , 2 }" 15 8
+    ∷ row 0 "a{3 ,2}" 11 1
+    ∷ row 0 "a{\t3\t,\t2\t}" 11 1
+    ∷ row 0 "a{ 65536 }" 11 1
+    ∷ row 0 "a{ 2 }+" 14 1
+    ∷ row 0 "a{ 2 }?" 0 0
+    ∷ row 0 "a{ 2 }*" 10 6
+    ∷ row 0 "{ 2 }" 10 0
+    ∷ row 0 "{2, }" 10 0
+    ∷ row 0 "{ ,2}" 10 0
+    ∷ row 0 "{\t2}" 10 0
+    -- "Spaces alone make no number: `{ , }` stays literal", and so do blanks within one
+    ∷ row 0 "{ , }" 0 0
+    ∷ row 0 "{ }" 0 0
+    ∷ row 0 "{\t,}" 0 0
+    ∷ row 0 "{2 3}" 0 0
+    ∷ row 0 "a{2 3}" 0 0
+    ∷ row 0 "{2 ,3 4}" 0 0
+    ∷ row 0 "{ 2" 0 0
+    ∷ row 0 "{ 2 , 3" 0 0
+    -- no other white space is skipped, nor a comment
+    ∷ row 0 "{\n2}" 0 0
+    ∷ row 0 "{\u{b}2}" 0 0
+    ∷ row 0 "{2\r}" 0 0
+    ∷ row 0 "{2,\u{a0}3}" 0 0
+    ∷ row 0 "{(?#)2}" 0 0
+    ∷ row 0 "{\\E2}" 0 0
+    ∷ row 0 "{2\\Q\\E}" 0 0
+    -- "`\x{..}` and `\o{..}` all change with it"
+    ∷ row 0 "\\x{ 41 }" 0 0
+    ∷ row 0 "\\o{\t101 }" 0 0
+    ∷ row 0 "\\x{ 100 }" 7 0
+    ∷ row 0 "\\o{ 400\t}" 7 0
+    ∷ row 0 "[a\\x{ 100 }]" 7 2
+    ∷ row 0 "[\\x{ 62 }-\\x{61 }]" 9 1
+    ∷ row 0 "\\x{4 1}" 6 0
+    ∷ row 0 "\\x{ }" 6 0
+    ∷ row 0 "\\o{\t}" 6 0
+    ∷ row 0 "\\o{ 8 }" 6 0
+    ∷ row 0 "\\x{ 41 " 6 0
+    ∷ row 0 "\\x{ \\E41}" 6 0
+    ∷ row 0 "[\\x{ }]" 6 1
     -- longer ones, each with several of these in it
     ∷ row 1 "(A)||a$" 15 7
     ∷ row 1 "(aAc{1,}?)*\\z|a$" 15 16
@@ -518,7 +567,7 @@ cases =
     ∷ row 1 "B*(a[]-a]b){03}c[b]{,3}|.$" 0 0
     ∷ row 0 "\\N[\\b\\/]|b{,}\\Nb+" 0 0
     ∷ row 0 "[^-]ca.{2}?|b\\z" 0 0
-    ∷ row 0 "B{2 }%{2}|{1, 2}(){,3}\\z" 0 0
+    ∷ row 0 "B{2 }%{2}|{1, 2}(){,3}\\z" 10 10
     ∷ row 0 ".+b\\z" 0 0
     ∷ row 3 "a|a$" 0 0
     ∷ row 0 "(?:\\N{1,}A|a){1}?\\ÿ($b{2,2}\\c@{1}|B)\\v*" 0 0
@@ -613,7 +662,7 @@ cases =
     ∷ row 2 "(?ii)[][\\\\+--](?-is)B{0,2}|AAa{0}?;|[-]\\c^?$a{,3}" 0 0
     ∷ row 2 "|(?i:\\x7g{[\\q]0,}\\A)cb{1,3}[a-[:digit:]]\\z" 14 11
     ∷ row 0 ".\0*|.$" 0 0
-    ∷ row 0 "{2 }a{1}?\\o{12}\\z" 0 0
+    ∷ row 0 "{2 }a{1}?\\o{12}\\z" 10 0
     ∷ row 0 "{0,65536}b\\o{8}(?)$" 10 0
     ∷ row 3 "[\\d-\\x{100}]\\z" 7 1
     ∷ row 2 "b.|a$" 0 0
@@ -634,7 +683,7 @@ cases =
     ∷ row 1 "\\o{0}{2}?|b\\z" 0 0
     ∷ row 0 "\\za{,0}A{,0}\\s{2,2}?|c?c{1,02}A{1,}b|.$" 0 0
     ∷ row 3 ".AAb{03}|a$" 0 0
-    ∷ row 1 "{1, 2}(cAa[a^b]){2}|A|\\z.*`A*\\z" 0 0
+    ∷ row 1 "{1, 2}(cAa[a^b]){2}|A|\\z.*`A*\\z" 10 0
     ∷ row 1 "a" 0 0
     ∷ row 0 "c.." 0 0
     ∷ row 1 "(|A\\hB){2,}(0[\\x00-\\x1f]|\\o{0}{2,2}(?:A{1,}À*{2,1,})b)A$" 0 0
@@ -648,7 +697,7 @@ cases =
     ∷ row 0 ".+A[-Z-bA\\.][[-aa-\\x63]{1,3}|a$" 0 0
     ∷ row 0 "\\.bb*|a$" 0 0
     ∷ row 1 "b{3}[\\b-\\r\\01]" 0 0
-    ∷ row 3 "a(|(?:c\\-{1,3}(?ii:aBa|Ba+{2 })|a)\\$À){1,3}\\z" 0 0
+    ∷ row 3 "a(|(?:c\\-{1,3}(?ii:aBa|Ba+{2 })|a)\\$À){1,3}\\z" 10 26
     ∷ row 0 "(|.{,3}.)BA|c|(?-i)A{2,}?A{,0}b" 0 0
     ∷ row 2 "c{2}cc|([\\b$]{1}a+){2,2}c{1,02}|b\\z" 0 0
     ∷ row 0 "cb$" 0 0
@@ -891,4 +940,16 @@ takings =
     ∷ leaves 0 "[\\Q[:digit:]\\E]" 0 48
     ∷ takes 1 "[\\Qa\\E]" 0 65
     ∷ takes 0 "[\\d-\\E]" 0 45
+    -- "spaces and tabs after `{`, before `}` and around the comma" are no items of a complete form
+    ∷ takes 0 "\\x{ 41 }" 0 65
+    ∷ leaves 0 "\\x{ 41 }" 0 32
+    ∷ takes 0 "\\o{\t101 }" 0 65
+    ∷ takes 0 "[\\x{ 41 }]" 0 65
+    ∷ leaves 0 "[\\x{ 41 }]" 0 32
+    ∷ takes 0 "a{ 2 }b" 1 98
+    ∷ takes 0 "a{2, 3}b" 1 98
+    ∷ takes 0 "a{2\t, }b" 1 98
+    ∷ takes 0 "{ , }" 1 32
+    ∷ takes 0 "a{2 3}b" 1 123
+    ∷ takes 0 "a{2 3}b" 6 98
     ∷ []

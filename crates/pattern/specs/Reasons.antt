@@ -16,7 +16,7 @@ use Rattle.atoms.specs.declared.Gap.{Gap}
 use Rattle.atoms.specs.declared.Joint.{Joint}
 use Rattle.tokens.specs.declared.Token.{Token}
 use Rattle.tokens.specs.declared.Token.the-variants.{Finish, Bar, Close, Class, One, Open, Set, Note, Unclosed, Repeat, Bad}
-use Rattle.atoms.specs.Number.{some, digits, valueFrom}
+use Rattle.atoms.specs.Number.{some, blanks, digits, valueFrom}
 use Rattle.atoms.specs.Quote.{isMark, opensQuote, gapOf}
 use Rattle.atoms.specs.Name.{Name, names, begins as beginsWith}
 use Rattle.atoms.specs.Class.{memberOf, isType, byteOf, jointOf, memberAt}
@@ -27,11 +27,24 @@ use Rattle.regex.specs.Count.{limit, MatchesEmpty}
 use Rattle.pattern.specs.Nodes.{Syntax}
 use Rattle.pattern.specs.Walk.{Target, nothing, single, repeated, State, go, groupOf, deepest, next, begin}
 
+-- ---- numbers between braces: v is the pattern after the opening brace or after the comma
+
+-- "spaces and tabs after `{`, before `}` and around the comma" are skipped
+abbrev pub bare : List ℕ → List ℕ
+bare v = drop (blanks v) v
+
+-- the digits of the number at the front, and what follows them
+abbrev pub number : ℕ → List ℕ → List ℕ
+number base v = digits base (bare v)
+
+unfoldable pub beyond : ℕ → List ℕ → List ℕ
+beyond base v = bare (drop (length (number base v)) (bare v))
+
 -- ---- escapes: v is the pattern after the `\`
 
--- "digits and brace": v is the pattern after the opening brace
+-- "digits and brace": v is the pattern after the opening brace. "Spaces alone make no number."
 abbrev pub braced : ℕ → List ℕ → Bool
-braced base v = some (digits base v) && eqb (getD v (length (digits base v)) 0) 125
+braced base v = some (number base v) && eqb (getD (beyond base v) 0 0) 125
 
 -- 6: "`\` at the end; `\c` not followed by a byte 32 to 126; `\x{` or `\o` without digits and brace"
 unfoldable pub cutShort : List ℕ → Bool
@@ -43,7 +56,7 @@ cutShort v =
 
 -- 7: "a number escape over 255"
 abbrev pub over255 : ℕ → List ℕ → Bool
-over255 base v = braced base v && ltb 255 (valueFrom base 0 (digits base v))
+over255 base v = braced base v && ltb 255 (valueFrom base 0 (number base v))
 
 unfoldable pub tooLarge : List ℕ → Bool
 tooLarge v =
@@ -92,17 +105,17 @@ openComment v = eqb (getD v 0 0) 63 && (eqb (getD v 1 0) 35 && not (among 41 (dr
 
 -- the number in decimal digits at the front, 0 where there are none; and what follows it and one byte more
 abbrev pub decimalOf : List ℕ → ℕ
-decimalOf v = valueFrom 10 0 (digits 10 v)
+decimalOf v = valueFrom 10 0 (number 10 v)
 
-abbrev pub second : List ℕ → List ℕ
-second v = drop (length (digits 10 v) + 1) v
+unfoldable pub second : List ℕ → List ℕ
+second v = drop 1 (beyond 10 v)
 
 -- 11: "lower repeat above upper, or a number above 65,535": v is the pattern after the brace of `{n}`, `{n,}`, `{n,m}` or `{,m}`. `{n}` has no second
 -- number and `{n,}` no upper one; the lower one of `{,m}` is 0.
 unfoldable pub badBounds : List ℕ → Bool
 badBounds v =
     ltb 65535 (decimalOf v)
-    || (not (eqb (getD v (length (digits 10 v)) 0) 125) && (some (digits 10 (second v)) && (ltb 65535 (decimalOf (second v)) || ltb (decimalOf (second v)) (decimalOf v))))
+    || (not (eqb (getD (beyond 10 v) 0 0) 125) && (some (number 10 (second v)) && (ltb 65535 (decimalOf (second v)) || ltb (decimalOf (second v)) (decimalOf v))))
 
 -- ---- one token outside a class: v is the pattern from its first byte on
 
