@@ -1,6 +1,6 @@
 //! The exhaustive mode: all patterns of up to k tokens over a small alphabet of tokens, with all
 //! logs up to a length over a small alphabet of bytes, and for each log all cuts into blocks. There
-//! are two alphabets, one for the meaning of patterns and one for their spelling.
+//! are three alphabets: for the meaning of patterns, for their spelling, and for numbers in braces.
 //!
 //! An accepted pattern stands twice in the table, plain and as a single-match rule, and all its
 //! streams are opened on that table one after another. Each cut is scanned with the least report
@@ -53,6 +53,11 @@ pub const SPELLING: Alphabet = Alphabet {
     ],
     bytes: b"aA-^]*",
 };
+
+/// Pieces of quantifiers and escapes with braces, and the blanks that may stand between them. The
+/// logs are of what they may stand for: a letter, a digit, a blank, and the byte of value 2.
+pub const BRACES: Alphabet =
+    Alphabet { tokens: &["a", "{", "}", ",", " ", "2", "\\x{", "?"], bytes: b"a2 \x02" };
 
 #[derive(Clone, Copy, Debug)]
 pub struct Bounds {

@@ -5,7 +5,7 @@ use std::path::Path;
 use std::process::ExitCode;
 
 use harness::corpus_run::{run_cases, run_definition, run_folder, run_program, Tally};
-use harness::exhaustive::{self, Alphabet, Bounds, MEANING, SPELLING};
+use harness::exhaustive::{self, Alphabet, Bounds, BRACES, MEANING, SPELLING};
 #[cfg(feature = "library")]
 use harness::library::Library;
 use harness::model::Model;
@@ -21,6 +21,7 @@ const USAGE: &str = "usage:
   harness [WATCHER] play FILE
   harness [WATCHER] exhaustive TOKENS BYTES [PART OF]
   harness [WATCHER] spelling TOKENS BYTES [PART OF]
+  harness [WATCHER] braces TOKENS BYTES [PART OF]
   harness [WATCHER] readings LENGTH
   harness [WATCHER] random SEED COUNT [FIRST]
   harness library damaged SEED COUNT [FIRST]
@@ -76,6 +77,7 @@ fn command<W: Watcher + PatternReader>(watcher: &W, words: &[&str]) -> Result<()
         ("corpus", []) => corpus(watcher),
         ("exhaustive", bounds) => all_small(watcher, MEANING, bounds),
         ("spelling", bounds) => all_small(watcher, SPELLING, bounds),
+        ("braces", bounds) => all_small(watcher, BRACES, bounds),
         ("readings", &[length]) => all_readings(watcher, length),
         ("random", &[seed, count]) => many_random(watcher, seed, 0, count),
         ("random", &[seed, count, first]) => many_random(watcher, seed, first, count),

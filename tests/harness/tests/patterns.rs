@@ -1,5 +1,5 @@
-//! The random patterns hold enough of what is easily missed: named classes, quotes and comments in
-//! all their corners, accepted and refused.
+//! The random patterns hold enough of what is easily missed: named classes, quotes and comments, and
+//! blanks in braces, in all their corners, accepted and refused.
 
 use std::collections::BTreeMap;
 
@@ -42,7 +42,18 @@ fn kinds(pattern: &[u8], number: u32, place: usize) -> Vec<&'static str> {
                 (1..pattern.len())
                     .any(|at| after_comment(&pattern[..at]) && b"*+?".contains(&pattern[at])),
             ),
+            kind("blank in a quantifier", has(pattern, "{ 2}") || has(pattern, "{2 }")),
+            kind("blank before a comma", has(pattern, "1 ,2}") || has(pattern, "0 ,2 }")),
+            kind("blank after a comma", has(pattern, "{1, 2}") || has(pattern, "{2, }")),
+            kind("blank without a lower number", has(pattern, "{ ,2}") || has(pattern, "{, 3 }")),
+            kind("blank in an escape", has(pattern, "\\x{ 61}") || has(pattern, "\\o{ 7 }")),
+            kind("blanks alone", has(pattern, "{ }") || has(pattern, "{ , }")),
+            kind("blank between digits", has(pattern, "{2 3}")),
         ],
+        6 => vec![kind(
+            "blank and no number",
+            from.starts_with(b"\\x{ }") || from.starts_with(b"\\x{4 1"),
+        )],
         8 => vec![kind("open quote in a class", has(pattern, "[\\Q"))],
         9 => vec![
             kind("name at the start of a range", from.starts_with(b"[:")),
@@ -53,7 +64,9 @@ fn kinds(pattern: &[u8], number: u32, place: usize) -> Vec<&'static str> {
             kind("quantifier after nothing", after_nothing),
             kind("lone mark after nothing", after_nothing && b"?+".contains(&from[0])),
             kind("group that starts with nothing", before.ends_with(b"(\\E")),
+            kind("quantifier with a blank", from.starts_with(b"{ ")),
         ],
+        11 => vec![kind("number with a blank", from.starts_with(b"{ "))],
         12 => vec![kind("open comment", place == pattern.len() && has(pattern, "(?#"))],
         14 => vec![
             kind("no name of the list", from.starts_with(b"[:")),
@@ -77,6 +90,6 @@ fn every_corner_comes_often() {
             *count.entry(kind).or_default() += 1;
         }
     }
-    assert_eq!(count.len(), 23, "{count:?}");
+    assert_eq!(count.len(), 33, "{count:?}");
     assert!(count.values().all(|&n| n >= 100), "{count:?}");
 }

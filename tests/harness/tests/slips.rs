@@ -2,7 +2,7 @@
 //! the random mode must find every one of them, and what the shrinker prints must be a small case
 //! that the corpus's reader reads and that still fails.
 
-use harness::exhaustive::{self, Bounds, MEANING, SPELLING};
+use harness::exhaustive::{self, Bounds, BRACES, MEANING, SPELLING};
 use harness::model::Model;
 use harness::play::play;
 use harness::random;
@@ -26,11 +26,13 @@ enum Slip {
     IgnoresTheShorterList,
     CutsCommentsOut,
     NegatesBeforeCase,
+    BlanksAreBytes,
+    BlanksAreNotThere,
 }
 
 use Slip::*;
 
-const SLIPS: [Slip; 15] = [
+const SLIPS: [Slip; 17] = [
     PlaceOfTheMark,
     EndFaultAtTheStart,
     HalfOfAByte,
@@ -46,6 +48,8 @@ const SLIPS: [Slip; 15] = [
     IgnoresTheShorterList,
     CutsCommentsOut,
     NegatesBeforeCase,
+    BlanksAreBytes,
+    BlanksAreNotThere,
 ];
 
 impl Slip {
@@ -103,6 +107,27 @@ fn any_for_negated_upper(pattern: &[u8]) -> Vec<u8> {
     }
 }
 
+/// A brace before a blank as if it were no quantifier's: `a{ 2}` is five bytes.
+fn literal_before_blanks(pattern: &[u8]) -> Vec<u8> {
+    let mut written = Vec::new();
+    for (index, &byte) in pattern.iter().enumerate() {
+        if byte == b'{' && pattern.get(index + 1) == Some(&b' ') {
+            written.push(b'\\');
+        }
+        written.push(byte);
+    }
+    written
+}
+
+/// Digits as if the blanks between them had never been written: then `a{2 3}` has a quantifier.
+fn without_blanks(pattern: &[u8]) -> Vec<u8> {
+    let is_digit = |index: usize| pattern.get(index).is_some_and(u8::is_ascii_digit);
+    let keeps = |&(index, &byte): &(usize, &u8)| {
+        byte != b' ' || index == 0 || !is_digit(index - 1) || !is_digit(index + 1)
+    };
+    pattern.iter().enumerate().filter(keeps).map(|(_, &byte)| byte).collect()
+}
+
 impl Watcher for Slip {
     type Table = Table;
     type Stream = Stream;
@@ -124,6 +149,8 @@ impl Watcher for Slip {
         let pattern = &match self {
             CutsCommentsOut => without_comments(pattern),
             NegatesBeforeCase if flags & 1 != 0 => any_for_negated_upper(pattern),
+            BlanksAreBytes => literal_before_blanks(pattern),
+            BlanksAreNotThere => without_blanks(pattern),
             _ => pattern.to_vec(),
         };
         let (number, place) = Model.add(table, id, flags, pattern);
@@ -260,6 +287,10 @@ fn the_model_agrees_with_the_definition() {
     let count = exhaustive::run(&Model, &Model, bounds).unwrap();
     assert_eq!(count.patterns, 1 + 15 + 15 * 15 + 15 * 15 * 15);
     assert!(count.accepted > 400 && count.pairs == count.accepted * (1 + 6));
+    let bounds = Bounds { alphabet: BRACES, tokens: 4, bytes: 1, part: (0, 1) };
+    let count = exhaustive::run(&Model, &Model, bounds).unwrap();
+    assert_eq!(count.patterns, 1 + 8 + 8 * 8 + 8 * 8 * 8 + 8 * 8 * 8 * 8);
+    assert!(count.accepted > 1_000 && count.pairs == count.accepted * (1 + 4));
     random::run(&Model, 2, 0, 500).unwrap();
 }
 

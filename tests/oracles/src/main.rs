@@ -1,10 +1,11 @@
 //! Compares the reference with two outside matchers on random patterns and logs, where the meanings
 //! coincide: PCRE2 start by start, Hyperscan by end offsets. A disagreement ends it with status 1.
 //!
-//! Left out because the meanings differ: `{,m}` (PCRE2 10.42 reads bytes), a brace after `\N`, `$`
-//! for Hyperscan (it holds before a last newline), and what an outside matcher refuses. What one
-//! side accepts and the other refuses is counted and shown, not judged: for PCRE2 a `?` or `+` behind
-//! a comment is the mark of the quantifier before it, `[\d-\E]` has a range and `[\d\E-a]` has none.
+//! Left out because the meanings differ: `{,m}` and blanks in braces (PCRE2 10.42 reads bytes, or for
+//! escapes a fault), a brace after `\N`, `$` for Hyperscan (it holds before a last newline), and what an
+//! outside matcher refuses. What one side accepts and the other refuses is counted and shown, not
+//! judged: for PCRE2 a `?` or `+` behind a comment is the mark of the quantifier before it, `[\d-\E]`
+//! has a range and `[\d\E-a]` has none.
 
 mod pcre2;
 
@@ -166,11 +167,15 @@ fn show(count: &mut Count, line: String) {
     }
 }
 
-/// Does it hold `{,` and a digit, which PCRE2 10.42 reads as bytes, or a brace after `\N`, which
-/// PCRE2 reads as a name?
+/// Does it hold `{,` and a digit or a blank in braces, which PCRE2 10.42 reads as bytes, or a brace
+/// after `\N`, which PCRE2 reads as a name?
 fn reads_otherwise(pattern: &[u8]) -> bool {
     let upper_only = pattern.windows(3).any(|w| w.starts_with(b"{,") && w[2].is_ascii_digit());
-    upper_only || pattern.windows(3).any(|w| w == b"\\N{")
+    let has_blank = pattern.split(|&byte| byte == b'{').skip(1).any(|after| {
+        let inside = after.split(|&byte| byte == b'}').next().unwrap_or_default();
+        inside.iter().any(|byte| b" \t".contains(byte))
+    });
+    upper_only || has_blank || pattern.windows(3).any(|w| w == b"\\N{")
 }
 
 fn with_pcre2(

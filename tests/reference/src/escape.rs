@@ -2,6 +2,7 @@
 //! where it ends, or the number of its fault. Whether it stands in a class matters for `\b`, `\N`,
 //! `\A` and `\z` only. `\Q` and `\E` are passed over before a token is read, and never come here.
 
+use crate::braces;
 use crate::bytes::{type_named, ByteSet};
 use crate::tree::Assertion;
 
@@ -72,23 +73,17 @@ fn few_digits(pattern: &[u8], at: usize, base: u32) -> Escape {
     Escape { meaning: Ok(Escaped::Byte(value as u8)), end }
 }
 
-/// `{`, one or more digits, `}` from `at` on, or fault 6; a value over 255 is fault 7. The value is
-/// held at 256 once it is too big, so that any number of digits can be read.
+/// `{`, one or more digits, `}` from `at` on, or fault 6; a value over 255 is fault 7.
 fn in_braces(pattern: &[u8], at: usize, base: u32) -> Escape {
     if pattern.get(at) != Some(&b'{') {
         return unfinished(pattern);
     }
-    let mut value = 0;
-    let mut end = at + 1;
-    while let Some(d) = pattern.get(end).and_then(|&b| digit(b, base)) {
-        value = (value * base + d).min(256);
-        end += 1;
+    match braces::number(pattern, at + 1, base, 256) {
+        (Some(value), end) if pattern.get(end) == Some(&b'}') => {
+            Escape { meaning: u8::try_from(value).map(Escaped::Byte).map_err(|_| 7), end: end + 1 }
+        }
+        _ => unfinished(pattern),
     }
-    if end == at + 1 || pattern.get(end) != Some(&b'}') {
-        return unfinished(pattern);
-    }
-    let meaning = if value > 255 { Err(7) } else { Ok(Escaped::Byte(value as u8)) };
-    Escape { meaning, end: end + 1 }
 }
 
 /// `\c` and a byte from 32 to 126, raised to upper case, its 64 bit flipped.

@@ -10,7 +10,8 @@
 //! mark, a range with both its ends) and the lowest number is given at the token's first byte.
 //! Faults known only at the end are looked at after the last token, in the order 8, 12, 15, 16, and
 //! 17 in `rule`, where the other rules are known. `rule::check` has the checks 2 to 5 before.
-//! `escape`, `class`, `names` and `quantifier` are each one page that can be laid beside the rules.
+//! `escape`, `class`, `names`, `quantifier` and `braces`, the numbers between braces of escapes and
+//! quantifiers, are each one page that can be laid beside the rules.
 //! `quote` knows at each place whether a quote is open: `\Q` and `\E` are passed over wherever a token,
 //! a class member or an end of a range may start, and a quoted byte is read as nothing but itself.
 //! They are no part of a token's spelling: `(`, `\E`, `?` is an opening and a quantifier.
@@ -52,6 +53,7 @@
 //! All else is paid: the list by definition matches again from each start at each moment.
 
 pub mod backward;
+pub mod braces;
 pub mod bytes;
 pub mod calls;
 pub mod class;

@@ -1,7 +1,8 @@
 //! Quantifiers. Comes in: a pattern and an index outside a class. Goes out: the quantifier that
 //! starts there with its mark, if one does. A brace that is not one of the complete forms
-//! `{n} {n,} {n,m} {,m}` starts none and is a literal byte.
+//! `{n} {n,} {n,m} {,m}`, spaces and tabs aside, starts none and is a literal byte.
 
+use crate::braces;
 use crate::refusal::MAX_REPEAT;
 
 #[derive(Clone, Copy, Debug, PartialEq, Eq)]
@@ -41,7 +42,8 @@ pub fn read(pattern: &[u8], at: usize) -> Option<Quantifier> {
 
 /// A complete brace form: its bounds and the index after the `}`.
 fn braces(pattern: &[u8], at: usize) -> Option<(u32, Option<u32>, usize)> {
-    let (low, i) = number(pattern, at + 1);
+    let number = |from| braces::number(pattern, from, 10, MAX_REPEAT + 1);
+    let (low, i) = number(at + 1);
     if pattern.get(i) == Some(&b'}') {
         let low = low?;
         return Some((low, Some(low), i + 1));
@@ -49,21 +51,9 @@ fn braces(pattern: &[u8], at: usize) -> Option<(u32, Option<u32>, usize)> {
     if pattern.get(i) != Some(&b',') {
         return None;
     }
-    let (high, j) = number(pattern, i + 1);
+    let (high, j) = number(i + 1);
     if pattern.get(j) != Some(&b'}') || (low.is_none() && high.is_none()) {
         return None;
     }
     Some((low.unwrap_or(0), high, j + 1))
-}
-
-/// The decimal digits from `at` on as a number, none if there are none. The value is held just
-/// above the limit, so that any number of digits can be read.
-fn number(pattern: &[u8], at: usize) -> (Option<u32>, usize) {
-    let mut value = 0;
-    let mut end = at;
-    while let Some(d) = pattern.get(end).filter(|b| b.is_ascii_digit()) {
-        value = (value * 10 + u32::from(d - b'0')).min(MAX_REPEAT + 1);
-        end += 1;
-    }
-    (if end > at { Some(value) } else { None }, end)
 }
