@@ -153,6 +153,18 @@ cases =
     ∷ row 0 "a*??" 10 3
     ∷ row 0 "a??+" 10 3
     ∷ row 0 "a{2}{3}" 10 4
+    ∷ row 0 "a{2}\\E?" 10 6
+    ∷ row 0 "a{257}(?#" 12 9
+    ∷ row 0 "[[:digit:]-\\x{100}]" 7 1
+    ∷ row 0 "[[\\E:digit:]]" 0 0
+    ∷ row 0 "[[:di\\Egit:]]" 14 1
+    ∷ row 0 "[[:x:]-\\d]" 14 1
+    ∷ row 0 "[\\Q\\E^a]" 0 0
+    ∷ row 0 "[^\\Q\\E]a]" 0 0
+    ∷ row 0 "[a\\Q\\E-z]" 0 0
+    ∷ row 0 "[a-\\Q\\E]" 0 0
+    ∷ row 0 "[\\d-\\Q" 8 6
+    ∷ row 0 "[a-\\Q]" 9 1
     ∷ row 0 "a{2}*" 10 4
     ∷ row 0 "a+*" 10 2
     ∷ row 0 "^*+" 10 1
@@ -922,6 +934,9 @@ takings =
     ∷ leaves 0 "[\\E^a]" 0 97
     ∷ takes 0 "[\\E^a]" 0 98
     ∷ takes 0 "[\\Q\\E]a]" 0 93
+    ∷ leaves 0 "[\\Q\\E^a]" 0 97
+    ∷ takes 0 "[a-\\Q\\E]" 0 45
+    ∷ takes 0 "[a-\\Q\\Ez]" 0 98
     ∷ leaves 0 "[^\\E]a]" 0 93
     ∷ takes 0 "[a-\\E]" 0 45
     ∷ takes 0 "[a\\E-z]" 0 98

@@ -1,8 +1,9 @@
 -- Why a pattern is refused: the rows of the table "When the watcher says no" from 6 to 16, each as a predicate of its own: on the bytes of one token and
 -- what stands before it, on the finished tree, or on the pattern's end. Taken over from the reading: where the tokens and members stand, each after one that
--- is not refused (`Stands`, `InClass`), whether a quote is open there, what stands before a token (the open groups, and what a quantifier would repeat), which
--- token it is, what a member stands for, which braces are a quantifier, and the finished tree. Said anew: everything that makes one of them faulty. The theorems are `decided` and
--- `accepted` of proofs/Accepted.antt. Assumes nothing: these are definitions.
+-- is not refused (`Stands`, `InClass`), whether a quote is open there and what its marks are, what stands before a token (the open groups, and what a
+-- quantifier would repeat), which token it is, what a member stands for, which hyphen joins two members, which braces are a quantifier, the table of names,
+-- digits and their value, and the finished tree. Said anew: everything that makes one of them faulty. The theorems are `decided` and `accepted` of
+-- proofs/Accepted.antt. Assumes nothing: these are definitions.
 use mathlib.Core.Path.{_≡_}
 use mathlib.Core.Bool.{Bool, true, false, cond, not, _&&_, _||_}
 use mathlib.Core.List.{List, [], _∷_}
@@ -144,7 +145,7 @@ row14 v =
 
 -- 10: "quantifier at the start of a pattern, group or branch, or after an assertion, an option setting or another quantifier". What stands before is the
 -- walk's: `nothing` at a start, after an assertion and after a setting, `repeated` after a quantifier, `single` after an item or a group. "A quantifier after a
--- comment applies to the item before, and is 10 if that has one already."
+-- comment applies to the item before, and is 10 if that has one already, a `?` or `+` too."
 abbrev pub row10 : Target → Token → Bool
 row10 t Finish = false
 row10 t Bar = false
