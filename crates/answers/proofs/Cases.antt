@@ -14,9 +14,9 @@ use Rattle.tokens.specs.Option.{lettersOf, beforeClose, commentOf, openingOf}
 use Rattle.tokens.specs.Quantifier.{bounded, open-ended, bracesOf, formOf, marked, quantifierOf}
 use Rattle.tokens.specs.Token.{escaped, unquotedOf, lexemeOf, itemSet}
 use Rattle.regex.specs.Count.{copied, capped, saturating, nullable}
 use Rattle.pattern.specs.Walk.{chained, chosen, one, repeating, closing, opening, act, next, finish, walk}
 use Rattle.pattern.specs.Read.{judged, readOf, optionsOf}
-use Rattle.pattern.specs.Cases.{gives, right, wrong, cases, itemsOf, agrees, strange, takings}
+use Rattle.answers.specs.Cases.{gives, right, wrong, cases, itemsOf, agrees, strange, takings}
 
 pub none-wrong : wrong cases ≡ []
 unfolding isDigit isLower isUpper isBlank otherCase digitOf digits valueFrom blanks numeralOf bracedOf shortOf flipped64 raised controlOf typeOf namedOf placedOf hexOf octalOf isAlpha isAlnum escapeOf lower isMark gapOf names begins named nameAmong nameOf bracketOf memberOf rangeFault jointOf memberAt membersOf classOf lettersOf beforeClose commentOf openingOf bounded open-ended bracesOf formOf marked quantifierOf escaped unquotedOf lexemeOf copied capped saturating nullable chained chosen one repeating closing opening act next finish walk judged readOf optionsOf bytes gives right wrong cases

@@ -1,0 +1,2 @@
+-- The worked cases come out as they must.
+pub mod Cases

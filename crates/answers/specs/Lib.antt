@@ -1,0 +1,2 @@
+-- The worked cases of the reader.
+pub mod Cases
