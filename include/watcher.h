@@ -72,6 +72,7 @@ typedef uint32_t watcher_error_t;
 #define WATCHER_CLOSED 19u          /* the stream is closed */
 #define WATCHER_SMALL_SPACE 20u     /* fewer report slots than the table has rules */
 #define WATCHER_LONG_STREAM 21u     /* the bytes taken and this block are over WATCHER_MAX_STREAM */
+#define WATCHER_RAW_BYTE 23u        /* a raw byte below 32, or 127, in the pattern */
 /* Numbers from 100 on are this interface's own. */
 #define WATCHER_SHORT_STATE 100u    /* fewer than 9 words for the state */
 

@@ -50,6 +50,9 @@ pub enum Error {
     Closed,
     SmallSpace,
     LongStream,
+    RawByte {
+        place: usize,
+    },
     ShortState,
     /// A number that this wrapper does not know.
     Other {
@@ -84,6 +87,7 @@ impl Error {
             19 => Error::Closed,
             20 => Error::SmallSpace,
             21 => Error::LongStream,
+            23 => Error::RawByte { place },
             100 => Error::ShortState,
             _ => Error::Other { number, place },
         })
@@ -112,6 +116,7 @@ impl Error {
             Error::Closed => 19,
             Error::SmallSpace => 20,
             Error::LongStream => 21,
+            Error::RawByte { .. } => 23,
             Error::ShortState => 100,
             Error::Other { number, .. } => *number,
         }
@@ -133,6 +138,7 @@ impl Error {
             | Error::EmptyMatch { place }
             | Error::LargeRule { place }
             | Error::LargeTable { place }
+            | Error::RawByte { place }
             | Error::Other { place, .. } => *place,
             _ => 0,
         }
@@ -161,6 +167,7 @@ impl Error {
             Error::Closed => "the stream is closed",
             Error::SmallSpace => "fewer report slots than rules",
             Error::LongStream => "over the stream limit",
+            Error::RawByte { .. } => "raw control byte",
             Error::ShortState => "too few words for a state",
             Error::Other { .. } => "refused",
         }

@@ -7,10 +7,10 @@ use Prim.Native.String.{String}
 use lib.Dec.{eqb, ltb}
 use lib.ListN.{length, getD, replicate}
 use Rattle.sets.specs.Set.{has}
-use Rattle.atoms.specs.Name.{bytes}
+use Rattle.classes.specs.Name.{bytes}
 use Rattle.regex.specs.Tree.{empty, item, assertion, then, or, repeat}
 use Rattle.regex.specs.Rule.{ByteSet}
-use Rattle.pattern.specs.Nodes.{Syntax}
+use Rattle.nodes.specs.Nodes.{Syntax}
 use Rattle.pattern.specs.Walk.{Read, tree, refused}
 use Rattle.pattern.specs.Read.{optionsOf, readOf}
 
@@ -269,8 +269,8 @@ cases =
     ∷ row 0 "\\v" 0 0
     ∷ row 0 "\\w" 0 0
     ∷ row 1 "é" 0 0
-    ∷ row 0 "\\\n" 0 0
-    ∷ row 0 "\0a" 0 0
+    ∷ row 0 "\\\n" 23 0
+    ∷ row 0 "\0a" 23 0
     ∷ row 0 "a(?i)b(?-i)c" 0 0
     ∷ row 1 "(?is-i)a." 0 0
     ∷ row 0 "(?i-)a" 0 0
@@ -300,7 +300,7 @@ cases =
     ∷ row 0 "[^\\x00-\\xff]|a" 0 0
     ∷ row 0 "\\x5d" 0 0
     ∷ row 0 "a#b c" 0 0
-    ∷ row 0 "\r\n" 0 0
+    ∷ row 0 "\r\n" 23 0
     ∷ row 0 "ÿ+" 0 0
     ∷ row 0 "ab$" 0 0
     ∷ row 0 "b|c" 0 0
@@ -457,23 +457,23 @@ cases =
     -- "Spaces alone make no number: `{ , }` stays literal", and so do blanks within one
     ∷ row 0 "{ , }" 0 0
     ∷ row 0 "{ }" 0 0
-    ∷ row 0 "{\t,}" 0 0
+    ∷ row 0 "{\t,}" 23 1
     ∷ row 0 "{2 3}" 0 0
     ∷ row 0 "a{2 3}" 0 0
     ∷ row 0 "{2 ,3 4}" 0 0
     ∷ row 0 "{ 2" 0 0
     ∷ row 0 "{ 2 , 3" 0 0
     -- no other white space is skipped, nor a comment
-    ∷ row 0 "{\n2}" 0 0
-    ∷ row 0 "{\u{b}2}" 0 0
-    ∷ row 0 "{2\r}" 0 0
+    ∷ row 0 "{\n2}" 23 1
+    ∷ row 0 "{\u{b}2}" 23 1
+    ∷ row 0 "{2\r}" 23 2
     ∷ row 0 "{2,\u{a0}3}" 0 0
     ∷ row 0 "{(?#)2}" 0 0
     ∷ row 0 "{\\E2}" 0 0
     ∷ row 0 "{2\\Q\\E}" 0 0
     -- "`\x{..}` and `\o{..}` all change with it"
     ∷ row 0 "\\x{ 41 }" 0 0
-    ∷ row 0 "\\o{\t101 }" 0 0
+    ∷ row 0 "\\o{\t101 }" 23 0
     ∷ row 0 "\\x{ 100 }" 7 0
     ∷ row 0 "\\o{ 400\t}" 7 0
     ∷ row 0 "[a\\x{ 100 }]" 7 2
@@ -485,6 +485,98 @@ cases =
     ∷ row 0 "\\x{ 41 " 6 0
     ∷ row 0 "\\x{ \\E41}" 6 0
     ∷ row 0 "[\\x{ }]" 6 1
+    -- "A raw byte below 32, or 127, anywhere in a pattern, .. is refused with 23"; written as an escape, or above these, it is not
+    ∷ row 0 "a\tb" 23 1
+    ∷ row 0 "a\r" 23 1
+    ∷ row 0 "\u{1f}" 23 0
+    ∷ row 0 "a\u{7f}" 23 1
+    ∷ row 0 " " 0 0
+    ∷ row 0 "~" 0 0
+    ∷ row 0 "\u{80}" 0 0
+    ∷ row 0 "\\t" 0 0
+    ∷ row 0 "\\x09" 0 0
+    ∷ row 0 "\\x7f" 0 0
+    ∷ row 0 "\\cI" 0 0
+    ∷ row 0 "[\\t\\x0d]" 0 0
+    -- "as a fault of the token it lies in and at that token's first byte": escapes, members and ranges of a class, openings
+    ∷ row 0 "a\\\t" 23 1
+    ∷ row 0 "\\x\t" 23 2
+    ∷ row 0 "\\x4\t" 23 3
+    ∷ row 0 "[\t]" 23 1
+    ∷ row 0 "[^\t]" 23 2
+    ∷ row 0 "[]\t]" 23 2
+    ∷ row 0 "[a\\\t]" 23 2
+    ∷ row 0 "[\t-a]" 23 1
+    ∷ row 0 "[\\\t-a]" 23 1
+    ∷ row 0 "[a-\u{7f}]" 23 1
+    ∷ row 0 "[a-z\u{7f}]" 23 4
+    ∷ row 0 "[[:alpha:]\t]" 23 10
+    ∷ row 0 "(\t)" 23 1
+    ∷ row 0 "(?:\t)" 23 3
+    ∷ row 0 "(?i:\t)" 23 4
+    ∷ row 0 "\\E\t" 23 2
+    -- so of a complete form between braces, "Raw tabs are skipped too and are then 23"; of what is none, the tab is a token itself
+    ∷ row 0 "a{\t2}" 23 1
+    ∷ row 0 "a{2\t}?" 23 1
+    ∷ row 0 "a{2,\t3}" 23 1
+    ∷ row 0 "a{\t,2}" 23 1
+    ∷ row 0 "\\N{2\t}" 23 2
+    ∷ row 0 "\\x{4\t}" 23 0
+    ∷ row 0 "[\\x{\t41}]" 23 1
+    ∷ row 0 "[\\x{41\t}-z]" 23 1
+    ∷ row 0 "[A-\\x{\t7a}]" 23 1
+    ∷ row 0 "a{2\t" 23 3
+    ∷ row 0 "a{2\t3}" 23 3
+    ∷ row 0 "\\N{x\t}" 23 4
+    -- "A comment is one token; in a quote each byte is one."
+    ∷ row 0 "a(?#x\ty)b" 23 1
+    ∷ row 0 "a(?#\t)*" 23 1
+    ∷ row 0 "(?#\t)*" 23 0
+    ∷ row 0 "a*(?#\t)?" 23 2
+    ∷ row 0 "a(?#x)\t" 23 6
+    ∷ row 0 "(?#\u{7f})a" 23 0
+    ∷ row 0 "\\Qa\tb\\E" 23 3
+    ∷ row 0 "\\Q\r" 23 2
+    ∷ row 0 "\\Q\\\t\\E" 23 3
+    ∷ row 0 "[\\Qa\t\\E]" 23 4
+    ∷ row 0 "[\\Q\t\\E-a]" 23 3
+    ∷ row 0 "[\\Q\t-\\Ea]" 23 3
+    ∷ row 0 "\\Qa\\E\t" 23 5
+    -- "Within that token 23 comes after the lower numbers", and the first faulty token decides
+    ∷ row 0 "\\c\t" 6 0
+    ∷ row 0 "\\o\t" 6 0
+    ∷ row 0 "\\x{\t" 6 0
+    ∷ row 0 "\\x{4\t1}" 6 0
+    ∷ row 0 "\\x{\t100}" 7 0
+    ∷ row 0 "^{2\t}" 10 1
+    ∷ row 0 "a*{\t2}" 10 2
+    ∷ row 0 "a{2,\t1}+" 11 1
+    ∷ row 0 "a{\t2}+" 14 1
+    ∷ row 0 "[a-\t]" 9 1
+    ∷ row 0 "[\\d-\t]" 9 1
+    ∷ row 0 "[a-\\Q\t\\E]" 9 1
+    ∷ row 0 "[\t-\\d]" 9 1
+    ∷ row 0 "[\t-\\q]" 14 1
+    ∷ row 0 "[\t-\\x{100}]" 7 1
+    ∷ row 0 "[z-\\x{41\t}]" 9 1
+    ∷ row 0 "[[:al\tpha:]]" 14 1
+    ∷ row 0 "(?i\t)" 14 0
+    ∷ row 0 "(?\t)" 14 0
+    ∷ row 0 "(*\t" 14 0
+    ∷ row 0 "*\t" 10 0
+    ∷ row 0 "a{2,1}\t" 11 1
+    ∷ row 0 "a)\t" 12 1
+    ∷ row 0 "\\q\t" 14 0
+    ∷ row 0 "\t\\q" 23 0
+    ∷ row 0 "\t**" 23 0
+    -- so it comes before the faults known only at the end
+    ∷ row 0 "[a\t" 23 2
+    ∷ row 0 "[\\\t" 23 1
+    ∷ row 0 "[a-\t" 9 1
+    ∷ row 0 "(\t" 23 1
+    ∷ row 0 "a(?#\t" 23 1
+    ∷ row 0 "\t?" 23 0
+    ∷ row 0 "\t{257}" 23 0
     -- longer ones, each with several of these in it
     ∷ row 1 "(A)||a$" 15 7
     ∷ row 1 "(aAc{1,}?)*\\z|a$" 15 16
@@ -499,7 +591,7 @@ cases =
     ∷ row 2 "À*Aa*(A(?:c{3}|&{,2}a./{,3}))|b\\z" 0 0
     ∷ row 3 "[-\u{a0}]?" 15 5
     ∷ row 0 "[\\o{141}^-b]|zA{2,}" 0 0
-    ∷ row 3 "A\0" 0 0
+    ∷ row 3 "A\0" 23 1
     ∷ row 3 ".|(?s:(?i-))B|A*?\u{a0}$" 0 0
     ∷ row 1 "c[^\\W]{2,}A|a|b\\z" 0 0
     ∷ row 2 "[[:[a-z--9](*$" 14 1
@@ -509,10 +601,10 @@ cases =
     ∷ row 1 "a.|b\\z" 0 0
     ∷ row 1 ";+[.]A" 0 0
     ∷ row 1 "(*F)\\A(?i|b\\z" 14 0
-    ∷ row 1 "\0aB{2,}|b\\z" 0 0
+    ∷ row 1 "\0aB{2,}|b\\z" 23 0
     ∷ row 0 "A{0,2}[^^-S]{0,}?|cbbc" 9 8
     ∷ row 0 "a++\\o{7}.$" 14 1
-    ∷ row 0 "[0c].a{2,2\t" 0 0
+    ∷ row 0 "[0c].a{2,2\t" 23 10
     ∷ row 2 "(?i:[z-a]*[[:" 9 5
     ∷ row 0 "\\[\\N-\\d]{,3}|a$" 0 0
     ∷ row 0 "?AaA\\x{4}$" 10 0
@@ -543,11 +635,11 @@ cases =
     ∷ row 1 "{,2}{2}\\B[|b\\z" 10 0
     ∷ row 1 "_[]-\n\\.\n].\t.{1}" 9 2
     ∷ row 1 "\\?|a$" 0 0
-    ∷ row 0 "[)\\\n-]b$" 0 0
+    ∷ row 0 "[)\\\n-]b$" 23 2
     ∷ row 1 "Bab+?|a$" 0 0
-    ∷ row 3 "\\.(?i-)|\\Da|(?:b\\o{12}b{,0}b+|A*)ÿ(?-s:1\t{0}?\\o{377})?" 0 0
+    ∷ row 3 "\\.(?i-)|\\Da|(?:b\\o{12}b{,0}b+|A*)ÿ(?-s:1\t{0}?\\o{377})?" 23 40
     ∷ row 0 "\\aAA\\z" 0 0
-    ∷ row 0 "\0|b|A[-]cc|a$" 0 0
+    ∷ row 0 "\0|b|A[-]cc|a$" 23 0
     ∷ row 0 "b{^0,2}" 0 0
     ∷ row 2 "|$B\\^+||a$" 15 10
     ∷ row 0 ".{0}?A$" 0 0
@@ -556,25 +648,25 @@ cases =
     ∷ row 0 "Aa+{1,3}$" 10 3
     ∷ row 3 "ÿ?bB" 0 0
     ∷ row 0 "a9{2,}(?-is)" 0 0
-    ∷ row 2 "\\c\\{,2}a{0,0}?\0|(?ii:c|(b[^]-]|b)a[B\\n-aa-b])*A[^\\b\\t]|\\^" 0 0
+    ∷ row 2 "\\c\\{,2}a{0,0}?\0|(?ii:c|(b[^]-]|b)a[B\\n-aa-b])*A[^\\b\\t]|\\^" 23 14
     ∷ row 3 "c{3}()a|BAA{1}|1Z{0,}([^\u{a0}Bÿ]^.+.)b??" 0 0
     ∷ row 0 "\\\\{,0}A(?:.(A{3}A){0,2}.??.|B)\\z" 0 0
-    ∷ row 3 "|\na[c]{2,}|.?A[^-]*B$" 15 21
+    ∷ row 3 "|\na[c]{2,}|.?A[^-]*B$" 23 1
     ∷ row 0 "bA" 0 0
     ∷ row 1 "[\\x{100}-\\q]a)[\\A]\n" 7 1
     ∷ row 0 "(Bc+A{1,3}|BA)" 0 0
     ∷ row 3 "<n>A+c{0,0}.|[a-b]b$" 0 0
-    ∷ row 1 "[]^]*|(?is-i:A{0,0})+(?:\\w\u{7f}{3}ca{03})'{1,02}" 15 44
+    ∷ row 1 "[]^]*|(?is-i:A{0,0})+(?:\\w\u{7f}{3}ca{03})'{1,02}" 23 26
     ∷ row 1 "[^-\u{80}$.].A\\w*|(?-s){2A|.$" 0 0
     ∷ row 0 "c |.c|.$" 0 0
     ∷ row 0 "B$" 0 0
-    ∷ row 0 ".\u{7f}|A{1,02}bc" 0 0
+    ∷ row 0 ".\u{7f}|A{1,02}bc" 23 1
     ∷ row 0 "$[^\u{80}a\\w]a|cB" 0 0
     ∷ row 1 "(?i-:\\08A??}+)$|b[-\\s.$-]\\o{000101}a{0}|b\\z" 0 0
     ∷ row 2 "c{03}?.(?ii)a??|b|[^]\u{a0}\\b-\\r-](?ii:A+|a|){,3}A\\^" 0 0
     ∷ row 0 "$c{1}$" 0 0
     ∷ row 0 ".b|^\\V+" 0 0
-    ∷ row 0 "\r" 0 0
+    ∷ row 0 "\r" 23 0
     ∷ row 2 "B?b{2,}ba{,2}|[^]$^\u{80}][^\\taA-C]*" 0 0
     ∷ row 1 "B*(a[]-a]b){03}c[b]{,3}|.$" 0 0
     ∷ row 0 "\\N[\\b\\/]|b{,}\\Nb+" 0 0
@@ -597,14 +689,14 @@ cases =
     ∷ row 3 "B|.$" 0 0
     ∷ row 2 "B|\\.{2,{2|a$" 0 0
     ∷ row 0 "[\\b]\\c$" 0 0
-    ∷ row 2 "a{1,}\\.{b|(?is-i:(?:$a(a>|\t))AB)\\\\?.$" 0 0
+    ∷ row 2 "a{1,}\\.{b|(?is-i:(?:$a(a>|\t))AB)\\\\?.$" 23 26
     ∷ row 0 "[-\\s]|B[.\\-^]?{a}\\z" 0 0
     ∷ row 1 "[0.\\x00-\\x1f]$" 0 0
     ∷ row 1 "ZZB\\z" 0 0
     ∷ row 3 "[^]B]{1,3}" 0 0
     ∷ row 2 "[^-]{,3}?[ÿ-c]{3}?.*|(?:B).C?|b\\z" 9 10
     ∷ row 2 "\\\\|.$" 0 0
-    ∷ row 0 "(?:Bb|[^\\a\n-]*_.(?-i:b{0,0}\\z\\N{2,2}))\u{85}|[^]-ÿa-c-.-]B|[-].{1}Bc*" 0 0
+    ∷ row 0 "(?:Bb|[^\\a\n-]*_.(?-i:b{0,0}\\z\\N{2,2}))\u{85}|[^]-ÿa-c-.-]B|[-].{1}Bc*" 23 10
     ∷ row 0 "(b|)[[ÿ-]{2,2}[Z-b--a]|[^0-9]\\x4|B" 0 0
     ∷ row 3 "\\\\z" 0 0
     ∷ row 0 "\\\\*\\z.{3}[^a-c-0-9]|[\\n-aÿA-C]\\z9[^\u{80}]" 0 0
@@ -620,7 +712,7 @@ cases =
     ∷ row 0 "(\\o{141}.{3}\\0141c*|}\\cMC){,[3}?B|.$" 8 36
     ∷ row 0 ".|A" 0 0
     ∷ row 0 "A*[-[-a](?:.|a|\\N)|a$" 0 0
-    ∷ row 0 "A{03}|\\x{00000000000061}(\n?-is:a+|Aa+|[^0-9\u{80}-ÿ^]\\Aa){0,2}" 0 0
+    ∷ row 0 "A{03}|\\x{00000000000061}(\n?-is:a+|Aa+|[^0-9\u{80}-ÿ^]\\Aa){0,2}" 23 25
     ∷ row 1 "ca(?:[0ÿ\\.]|c\\rb)" 0 0
     ∷ row 1 "AB\\z" 0 0
     ∷ row 0 "c[a-a0\\b]|.(?:b)" 0 0
@@ -636,11 +728,11 @@ cases =
     ∷ row 0 "(?:\\\\{2,}A\\z){2}\\v{3}?ac|[^a-a\u{80}](?s-i:\\zB).(?-is)" 0 0
     ∷ row 0 "(c,(>Ac{3}?b{2}|B{0}))" 0 0
     ∷ row 0 "\u{a0}\\-{1}\\z|$(a){2,2}?|a$" 0 0
-    ∷ row 2 "\\^\n{0,}z$" 0 0
+    ∷ row 2 "\\^\n{0,}z$" 23 2
     ∷ row 2 "A[!-~]cA|[B-]\\0141\\H.\\z" 0 0
     ∷ row 2 "az|.|c*?b." 0 0
     ∷ row 0 "\\o{141}{1,}A{03}?(?:[^cb\\_]?a|\\^a{2}\\A})\u{85}\\z" 0 0
-    ∷ row 0 "\0" 0 0
+    ∷ row 0 "\0" 23 0
     ∷ row 0 "a{2,2}|a$" 0 0
     ∷ row 2 "\\t*?|((a{0,[\\x{100}-\\q]}){,2}b|B[^|a)|a$" 7 12
     ∷ row 1 ".b{,3}" 0 0
@@ -650,7 +742,7 @@ cases =
     ∷ row 1 "a(?i-:À)" 0 0
     ∷ row 0 "B|((B*b{2}(){,2}\\d||\\Ac{,0}){,3}.{,0}(?i-:c)){03}[+---]BB|.$" 0 0
     ∷ row 0 "(?is:.{2,}.\\z|B(cZ[][])?_{2,}B){,3}(?s-i:cc.){2,2}b{0}B|a$" 0 0
-    ∷ row 1 "(.a|\\^(c$|\\o{0})+)[^[]a{1,3}\0\\z" 0 0
+    ∷ row 1 "(.a|\\^(c$|\\o{0})+)[^[]a{1,3}\0\\z" 23 28
     ∷ row 1 "B|(b)^bA{03}?|a{,}|.$" 0 0
     ∷ row 3 "B(?:0??)((?s-i)a|\\|b)|[][]B{2}?." 0 0
     ∷ row 0 "ABA+|bA[-[]+?|.$" 0 0
@@ -664,7 +756,7 @@ cases =
     ∷ row 1 "(?is-i:(Acb|(a@{03}?b|A09)[[$])??(?is-i)=)\\x61[-a-a]*|a$" 0 0
     ∷ row 0 "\\x{100\\K{65535}$" 6 0
     ∷ row 0 "B{(\\D<B|c*)" 0 0
-    ∷ row 3 "\0(?is)Aa|ab[0!-~\\W]" 0 0
+    ∷ row 3 "\0(?is)Aa|ab[0!-~\\W]" 23 0
     ∷ row 2 "\\x{85}(?-s:([$\\$-](?ii))|\\cM(B=AA){2,2}?B|)|bbaB|c\\z" 0 0
     ∷ row 0 "($)?A|b\\z" 0 0
     ∷ row 0 "c|.$" 0 0
@@ -673,7 +765,7 @@ cases =
     ∷ row 1 "[\\cM+--]c+(?i:(?is-i:A{2,}){,2}b??a?[^\u{a0}--a\\V]aB{2,2}?){1}?\\z" 9 38
     ∷ row 2 "(?ii)[][\\\\+--](?-is)B{0,2}|AAa{0}?;|[-]\\c^?$a{,3}" 0 0
     ∷ row 2 "|(?i:\\x7g{[\\q]0,}\\A)cb{1,3}[a-[:digit:]]\\z" 14 11
-    ∷ row 0 ".\0*|.$" 0 0
+    ∷ row 0 ".\0*|.$" 23 1
     ∷ row 0 "{2 }a{1}?\\o{12}\\z" 10 0
     ∷ row 0 "{0,65536}b\\o{8}(?)$" 10 0
     ∷ row 3 "[\\d-\\x{100}]\\z" 7 1
@@ -702,7 +794,7 @@ cases =
     ∷ row 3 "A\\w|cb.$" 0 0
     ∷ row 3 "\\za{0}?(?:B(?:b(?-i)(?:B;|Ba)^){1,}c*?)\\z" 0 0
     ∷ row 0 "%|C[\\H+--{1,3}?\\o{0}.|c?*\\]{1,}&." 8 33
-    ∷ row 3 ".{0,2}?a|À{1,}?a{0,0}?|(?:|B[]\\h]\0{03}){1,}(?s).a\\z" 0 0
+    ∷ row 3 ".{0,2}?a|À{1,}?a{0,0}?|(?:|B[]\\h]\0{03}){1,}(?s).a\\z" 23 33
     ∷ row 0 ".{2" 0 0
     ∷ row 0 "ac[^\\W]{,3}b{10}|^c{03}$" 0 0
     ∷ row 0 "Ab|Ac+([\\S]?(^)ac)|A+$(?s)|a$" 0 0
@@ -958,12 +1050,12 @@ takings =
     -- "spaces and tabs after `{`, before `}` and around the comma" are no items of a complete form
     ∷ takes 0 "\\x{ 41 }" 0 65
     ∷ leaves 0 "\\x{ 41 }" 0 32
-    ∷ takes 0 "\\o{\t101 }" 0 65
+    ∷ takes 0 "\\o{ 101 }" 0 65
     ∷ takes 0 "[\\x{ 41 }]" 0 65
     ∷ leaves 0 "[\\x{ 41 }]" 0 32
     ∷ takes 0 "a{ 2 }b" 1 98
     ∷ takes 0 "a{2, 3}b" 1 98
-    ∷ takes 0 "a{2\t, }b" 1 98
+    ∷ takes 0 "a{2 , }b" 1 98
     ∷ takes 0 "{ , }" 1 32
     ∷ takes 0 "a{2 3}b" 1 123
     ∷ takes 0 "a{2 3}b" 6 98

@@ -1,1 +1,2 @@
-// Patterns with the answers that the reader must give: no code lives here. specs/ holds the cases, proofs/ the theorems that compute them.
+// What the reader must give, computed by the checker: no code lives here. specs/ holds patterns with their answers, proofs/ the theorems that compute them, and the rule of
+// the whole table of class names.

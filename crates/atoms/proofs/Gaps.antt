@@ -10,7 +10,13 @@ use lib.Seq.{getD-drop, drop-drop}
 use Rattle.atoms.specs.Quote.{isMark, opensQuote, noGap, wider, gapOf}
 use Rattle.atoms.specs.declared.Gap.{Gap}
 use Rattle.atoms.proofs.Suffixes.{first}
-use Rattle.atoms.proofs.Sizes.{pick}
+use Rattle.atoms.proofs.Sizes.{pick, mark-within}
+
+-- a mark stands in the pattern, both its bytes
+pub mark-inside : (s : List ℕ) (at : ℕ) (quoted : Bool) → isMark quoted (getD s at 0) (getD s (at + 1) 0) ≡ true → at + 2 ≤ length s
+mark-inside s at quoted k =
+    let second : isMark quoted (getD s at 0) (getD (drop (at + 1) s) 0 0) ≡ true = rw (first s (at + 1)) k in
+    omega (arith, mark-within quoted (getD s at 0) (drop (at + 1) s) second, length-drop (at + 1) s)
 
 gap-front : (quoted : Bool) (v : List ℕ)
     → gapOf quoted v ≡ cond (isMark quoted (getD v 0 0) (getD v 1 0)) (wider (gapOf (opensQuote (getD v 1 0)) (drop 2 v))) (noGap quoted)

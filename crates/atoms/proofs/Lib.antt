@@ -1,10 +1,8 @@
--- What the proofs of the functions share, and what callers cite of sizes and members.
+-- What the proofs of the functions share, and what callers cite of bytes from a place on, of numbers and of sizes.
 pub mod Suffixes
 pub mod Blanks
 pub mod Digits
+pub mod Raws
 pub mod Escapes
 pub mod Sizes
-pub mod Ranges
 pub mod Gaps
-pub mod Spellings
-pub mod NameTable

@@ -1,8 +1,6 @@
--- What stands for bytes, from the bytes at its place on, in the order of the rules: faults, numbers, escapes, quotes, names, classes.
+-- What stands for one byte or for a kind of bytes, from the bytes at its place on, in the order of the rules: faults, raw control bytes, numbers, escapes, quotes.
 pub mod Fault
+pub mod Raw
 pub mod Number
 pub mod Escape
 pub mod Quote
-pub mod Name
-pub mod Class
-pub mod Invariants

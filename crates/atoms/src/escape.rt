@@ -15,7 +15,7 @@ ghost use Rattle.atoms.specs.Escape.{good, bad, bracedOf, shortOf, flipp
 ghost use Rattle.atoms.specs.Escape.{typeOf, namedOf, placedOf, hexOf, octalOf, escapeOf};
 
 // A part of so many bytes that stands for an atom.
-pub(super) fn sound(size: usize, atom: Atom) -> Part
+pub fn sound(size: usize, atom: Atom) -> Part
     ensures { λ r. ⌜ r ≡ good size atom ⌝ }
 {
     Part {
@@ -26,7 +26,7 @@ pub(super) fn sound(size: usize, atom: Atom) -> Part
 }
 
 // A faulty part.
-pub(super) fn faulty(fault: u32, size: usize) -> Part
+pub fn faulty(fault: u32, size: usize) -> Part
     ensures { λ r. ⌜ r ≡ bad fault size ⌝ }
 {
     Part {

@@ -1,21 +1,26 @@
-// What stands for bytes, at a place of the pattern: numbers, escapes, quotes, classes by name, class members and ranges, whole classes. A place past the pattern's end reads as
-// its end, so nothing is required of a caller. specs/ says what each function gives, for the bytes from the place on.
-mod classes;
+// What stands for one byte or for a kind of bytes, at a place of the pattern: numbers, escapes, the marks of quotes; and the faults that tokens share, the lower of two
+// and that of a raw control byte. A place past the pattern's end reads as its end, so nothing is required of a caller. specs/ says what each function gives, for the
+// bytes from the place on.
 mod escape;
-mod members;
-mod names;
+mod fault;
 mod number;
 mod quote;
+mod raw;
 
-pub use classes::cased;
-pub use classes::class_at;
 pub use escape::escape_at;
+pub use escape::faulty;
+pub use escape::sound;
+pub use fault::lower;
 use kinds::Kind;
-pub use members::lower;
 pub use number::CAP;
 pub use number::decimal_at;
 pub use number::peek;
+pub use quote::gap_at;
 pub use quote::is_mark;
+pub use raw::with_raw;
+ghost use mathlib.Core.Path.{_≡_};
+ghost use mathlib.Core.Bool.{cond};
+ghost use Rattle.kinds.specs.Case.{caseClosed};
 
 // A number: its value, at most 65,536; whether it has a digit at all; how many bytes it takes.
 pub struct Numeral {
@@ -55,30 +60,12 @@ pub struct Gap {
     pub quoted: bool,
 }
 
-// A class by name: its text with the `:]` that closes it, and zeros up to eight bytes; and the kind of its bytes.
-pub struct Row(pub [u8; 8], pub Kind);
-
-// What may join two members to a range, the hyphen and the marks around it: whether it does, the bytes up to the second end, and whether that
-// stands in a quote.
-pub struct Joint {
-    pub is: bool,
-    pub size: usize,
-    pub quoted: bool,
-}
-
-// A class member, or a range with both its ends: its lowest fault or 0, the bytes it takes, what it adds, the bytes from low to high or a type, and
-// whether a quote is open after it.
-pub struct Member {
-    pub fault: u32,
-    pub size: usize,
-    pub low: Atom,
-    pub high: Atom,
-    pub quoted: bool,
-}
-
-// A class: number 0 and its set, and the place after its `]`; or the refusal's number and place.
-pub struct Class {
-    pub number: u32,
-    pub place: usize,
-    pub set: [u64; 4],
+// A set, with the other case of each member if caseless.
+pub fn cased(caseless: bool, set: [u64; 4]) -> [u64; 4]
+    ensures { λ r. ⌜ r ≡ cond caseless (caseClosed set) set ⌝ }
+{
+    if caseless {
+        return kinds::close_case(set);
+    }
+    set
 }

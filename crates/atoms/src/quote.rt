@@ -24,7 +24,7 @@ fn mark_at(s: &[u8], at: usize, quoted: bool) -> bool
 }
 
 // The marks at a place.
-pub(super) fn gap_at(s: &[u8], at: usize, quoted: bool) -> Gap
+pub fn gap_at(s: &[u8], at: usize, quoted: bool) -> Gap
     ensures { λ r. ⌜ r ≡ gapOf quoted (drop at (now (s .entry))) ⌝ }
 {
     let mut after = quoted;

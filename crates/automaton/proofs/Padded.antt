@@ -20,7 +20,7 @@ use Rattle.regex.specs.Automaton.{follow, items}
 use Rattle.regex.proofs.Logic.{false-T}
 use Rattle.regex.proofs.Computed.{follow-T, items-length}
 use Rattle.regex.proofs.Range.{follow-inside}
-use Rattle.pattern.specs.Nodes.{Syntax}
+use Rattle.nodes.specs.Nodes.{Syntax}
 use Rattle.automaton.specs.Parts.{fourWords, flat, rowsOf, padded, inside, formParts, noParts, partsOf}
 use Rattle.automaton.specs.declared.Parts.{Parts}
 use Rattle.automaton.specs.declared.fragments.Fragment.{Fragment}

@@ -19,7 +19,7 @@ use Rattle.regex.proofs.Logic.{false-T}
 use Rattle.regex.proofs.Computed.{first-T, last-T, follow-T, items-length}
 use Rattle.regex.proofs.Range.{first-inside, last-inside, follow-inside}
 use Rattle.regex.proofs.Counted.{counted, repeated-null, repeated-none}
-use Rattle.pattern.specs.Nodes.{Syntax, assertionOf}
+use Rattle.nodes.specs.Nodes.{Syntax, assertionOf}
 use Rattle.automaton.specs.Parts.{inside, atStart, atEnd}
 use Rattle.automaton.specs.declared.fragments.Fragment.{Fragment}
 use Rattle.automaton.specs.Invariants.{Written, bareOf, oneOf, also, inTurn, choiceOf, optionalOf, fragmentOf}

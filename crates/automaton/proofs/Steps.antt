@@ -16,11 +16,11 @@ use Rattle.regex.specs.Form.{eps, take, check, seq, alt, plus, opt, write, posi
 use Rattle.regex.specs.Rule.{ByteSet}
 use Rattle.regex.specs.Automaton.{first, last, follow, items}
 use Rattle.regex.proofs.Computed.{items-length}
-use Rattle.pattern.specs.Nodes.{Syntax, opOf, xOf, yOf, zOf, extraOf, assertionOf}
+use Rattle.nodes.specs.Nodes.{Syntax, opOf, xOf, yOf, zOf, extraOf, assertionOf}
 use Rattle.automaton.specs.Parts.{fourWords, flat, inside}
 use Rattle.automaton.specs.declared.fragments.Fragment.{Fragment}
 use Rattle.automaton.specs.Invariants.{Written, formAt, childForm, extra, bareOf, oneOf, inTurn, choiceOf, optionalOf, fragmentOf, hasAt, Joined, Room, Built}
-use Rattle.pattern.proofs.Trees.{child-in, child-out}
+use Rattle.nodes.proofs.Trees.{child-in, child-out}
 use Rattle.automaton.proofs.Trees.{setAt, is-item, is-assertion, is-then, is-or, is-repeat, is-empty, is-second}
 use Rattle.automaton.proofs.Words.{sets-append}
 use Rattle.automaton.proofs.Pieces.{piece-eps, piece-check, piece-take, piece-seq, piece-alt, piece-opt, piece-plus, no-follow, no-items, repeated-bare, piece-repeated, piece-nested}

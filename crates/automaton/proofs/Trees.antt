@@ -10,10 +10,10 @@ use lib.ListN.{getD, take, drop}
 use lib.Seq.{getD-take}
 use Rattle.regex.specs.Tree.{empty, item, assertion, then, or, repeat}
 use Rattle.regex.specs.Rule.{ByteSet}
-use Rattle.pattern.specs.Nodes.{opOf, xOf, yOf, zOf, extraOf, assertionOf, nodeOf, treeAt}
+use Rattle.nodes.specs.Nodes.{opOf, xOf, yOf, zOf, extraOf, assertionOf, nodeOf, treeAt}
 use Rattle.automaton.specs.Parts.{fourWords}
-use Rattle.pattern.specs.Invariants.{childAt}
-use Rattle.pattern.proofs.Trees.{tree-node}
+use Rattle.nodes.specs.Invariants.{childAt}
+use Rattle.nodes.proofs.Trees.{tree-node}
 use Rattle.automaton.proofs.Words.{four-ext, four-from}
 
 -- the byte set that stands before node k

@@ -11,8 +11,8 @@ use Rattle.regex.specs.Tree.{Extra, atMost, unbounded}
 use Rattle.regex.specs.Form.{Form, write, positions}
 use Rattle.regex.specs.Rule.{Assertion, ByteSet}
 use Rattle.regex.specs.Automaton.{null, first, last, follow, items}
-use Rattle.pattern.specs.Nodes.{treeAt}
-use Rattle.pattern.specs.Invariants.{childAt}
+use Rattle.nodes.specs.Nodes.{treeAt}
+use Rattle.nodes.specs.Invariants.{childAt}
 use Rattle.automaton.specs.Parts.{fourWords, flat, inside, atStart, atEnd}
 use Rattle.automaton.specs.declared.fragments.Fragment.{Fragment}
 

@@ -10,7 +10,7 @@ use Rattle.regex.specs.Form.{Form, write, positions}
 use Rattle.regex.specs.Count.{limit}
 use Rattle.regex.specs.Rule.{Assertion, ByteSet, world}
 use Rattle.regex.specs.Automaton.{first, last, follow, items}
-use Rattle.pattern.specs.Nodes.{Syntax}
+use Rattle.nodes.specs.Nodes.{Syntax}
 use Rattle.automaton.specs.declared.Parts.{Parts}
 
 -- the four-word rows of n numbers, one after the other

@@ -2,9 +2,9 @@
 // `follow` and writes its byte sets into `takes`. The node number falls; within a repeat the number of copies does.
 use crate::fragments;
 use crate::fragments::Fragment;
-use crate::nodes;
+use crate::items;
 use crate::rows;
-use pattern::layout;
+use nodes::layout;
 ghost use mathlib.Core.Path.{_≡_};
 ghost use Prim.Native.Nat.{_+_, _≤_, _<_};
 ghost use Rattle.regex.specs.Form.{plus, optionals, repeated};
@@ -134,7 +134,7 @@ pub(super) fn node(
     let y = w / 16384 % 131072;
     let z = w / 2147483648;
     if op == layout::ITEM {
-        rows::put(takes, b, nodes::set_of(a, k));
+        rows::put(takes, b, items::set_of(a, k));
         return fragments::one(b);
     }
     if op == layout::ASSERTION {

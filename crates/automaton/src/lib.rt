@@ -2,13 +2,13 @@
 // position, by recursion over the nodes, the node number falling.
 mod forms;
 mod fragments;
-mod nodes;
+mod items;
 mod rows;
 
 ghost use mathlib.Core.Path.{_≡_};
 ghost use Prim.Native.Nat.{_+_, _≤_};
 ghost use Rattle.regex.specs.Form.{write, positions};
-ghost use Rattle.pattern.specs.Nodes.{treeAt};
+ghost use Rattle.nodes.specs.Nodes.{treeAt};
 ghost use Rattle.automaton.specs.Parts.{formParts, noParts, partsOf};
 
 // The parts of a rule's automaton, its positions numbered from a base on. `fits` says that all of them are below 256; else the rest is zero. Row i of
@@ -69,7 +69,7 @@ fn whole(nodes: &[u64], root: usize, base: usize) -> Parts
 pub fn build(nodes: &[u64], root: usize, base: usize) -> Parts
     ensures { λ r. ⌜ r ≡ partsOf (treeAt (now (nodes .entry)) root) base ⌝ }
 {
-    let n = pattern::count(nodes, root) as usize;
+    let n = nodes::count(nodes, root) as usize;
     if n > 256 {
         return none();
     }

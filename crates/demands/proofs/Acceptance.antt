@@ -14,7 +14,7 @@ use borrow.Author.Tests.{eq-eqb, eqb-true}
 use Rattle.table.specs.Layout.{maxRules, maxPositions}
 use Rattle.table.specs.Table.{knownFlags}
 use Rattle.regex.specs.Form.{write, positions}
-use Rattle.pattern.specs.Nodes.{Syntax}
+use Rattle.nodes.specs.Nodes.{Syntax}
 use Rattle.pattern.specs.Walk.{Read, tree, refused}
 use Rattle.pattern.specs.Read.{longest, optionsOf, answerOf}
 use Rattle.pattern.proofs.Answers.{accepted-tree}

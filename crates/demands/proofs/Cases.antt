@@ -6,17 +6,18 @@ use mathlib.Core.List.{List, [], _∷_, map, zip, List·Memᴰ, List·Memᴰ·he
 use Prim.Native.Nat.{ℕ}
 use lib.Dec.{T, eqb, eqb→eq}
 use Rattle.sets.specs.Set.{on, has, setOf, wordOf, any, emptySet, insertedRange, unionOf, complementOf, inserted, fullSet}
-use Rattle.kinds.specs.Kind.{isDigit, isLower, isUpper, isBlank, isAlpha, isAlnum}
+use Rattle.kinds.specs.Kind.{isDigit, isLower, isUpper, isBlank, isAlpha, isAlnum, isCntrl}
 use Rattle.kinds.specs.Case.{otherCase, caseClosed}
 use Rattle.atoms.specs.Number.{digitOf, digits, valueFrom, blanks, numeralOf}
 use Rattle.atoms.specs.Escape.{bracedOf, shortOf, flipped64, raised, controlOf, typeOf, namedOf, placedOf, hexOf, octalOf, escapeOf}
 use Rattle.atoms.specs.Fault.{lower}
+use Rattle.atoms.specs.Raw.{anyRaw, withRaw}
 use Rattle.atoms.specs.Quote.{isMark, gapOf}
-use Rattle.atoms.specs.Name.{names, begins, named, nameAmong, nameOf}
-use Rattle.atoms.specs.Class.{bracketOf, memberOf, rangeFault, jointOf, memberAt, membersOf, classOf, joined, settled}
+use Rattle.classes.specs.Name.{names, begins, named, nameAmong, nameOf}
+use Rattle.classes.specs.Class.{bracketOf, memberOf, rangeFault, jointOf, spelledAt, memberAt, membersOf, classOf, joined, settled}
 use Rattle.tokens.specs.Option.{lettersOf, beforeClose, commentOf, openingOf}
 use Rattle.tokens.specs.Quantifier.{bounded, open-ended, bracesOf, formOf, marked, quantifierOf}
-use Rattle.tokens.specs.Token.{escaped, unquotedOf, lexemeOf, itemSet}
+use Rattle.tokens.specs.Token.{escaped, unquotedOf, spelledOf, lexemeOf, itemSet}
 use Rattle.table.specs.Table.{all, emptied}
 use Rattle.regex.specs.Count.{copied, capped, saturating, nullable}
 use Rattle.regex.specs.Form.{write, positions, repeated, copies, optionals}
@@ -66,7 +67,7 @@ nextAnswers rs (a ∷ l) = nextAnswer rs a ∷ nextAnswers (afterNext rs a) l
 computed-right : (failing right cases ≡ [])
     × (nextAnswers [] (additionsIn cases) ≡ map (λ (k : Case). answerIn (k .verdict)) cases)
     × (failing (runs (acceptedAfter [] (additionsIn cases))) logs ≡ [])
-unfolding allRun right failing nextAnswers on has setOf wordOf any emptySet insertedRange unionOf complementOf inserted fullSet isDigit isLower isUpper isBlank otherCase caseClosed digitOf digits valueFrom blanks numeralOf bracedOf shortOf flipped64 raised controlOf typeOf namedOf placedOf hexOf octalOf isAlpha isAlnum escapeOf lower isMark gapOf names begins named nameAmong nameOf bracketOf memberOf rangeFault jointOf memberAt membersOf classOf joined settled lettersOf beforeClose commentOf openingOf bounded open-ended bracesOf formOf marked quantifierOf escaped unquotedOf lexemeOf itemSet copied capped saturating nullable write positions repeated copies optionals null first last follow items chained chosen one repeating closing opening act next finish walk judged readOf optionsOf unknownFlag placed used taken nextAnswer withNew afterNext acceptedAfter laid insert into owner computed starts nextLive ends endsAtEnd runIds runMarks byteIds byteState closeIds all bytes cases logs pass passed final follows same zip mathlib.Core.List.zipWith
+unfolding allRun right failing nextAnswers on has setOf wordOf any emptySet insertedRange unionOf complementOf inserted fullSet isDigit isLower isUpper isBlank otherCase caseClosed digitOf digits valueFrom blanks numeralOf bracedOf shortOf flipped64 raised controlOf typeOf namedOf placedOf hexOf octalOf isAlpha isAlnum escapeOf lower isMark gapOf names begins named nameAmong nameOf bracketOf memberOf rangeFault jointOf memberAt membersOf classOf joined settled lettersOf beforeClose commentOf openingOf bounded open-ended bracesOf formOf marked quantifierOf escaped unquotedOf lexemeOf itemSet copied capped saturating nullable write positions repeated copies optionals null first last follow items chained chosen one repeating closing opening act next finish walk judged readOf optionsOf unknownFlag placed used taken nextAnswer withNew afterNext acceptedAfter laid insert into owner computed starts nextLive ends endsAtEnd runIds runMarks byteIds byteState closeIds all bytes cases logs pass passed final follows same zip mathlib.Core.List.zipWith isCntrl anyRaw withRaw spelledAt spelledOf
 computed-right = (refl, refl, refl)
 
 -- ---- carried to the calls

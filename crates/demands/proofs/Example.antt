@@ -6,17 +6,18 @@ use Prim.Native.Nat.{ℕ, _≤_}
 use native.Mathlib.Omega.{arith}
 use lib.ListN.{length}
 use Rattle.sets.specs.Set.{on, has, setOf, wordOf, any, emptySet, insertedRange, unionOf, complementOf, inserted, fullSet}
-use Rattle.kinds.specs.Kind.{isDigit, isLower, isUpper, isBlank, isAlpha, isAlnum}
+use Rattle.kinds.specs.Kind.{isDigit, isLower, isUpper, isBlank, isAlpha, isAlnum, isCntrl}
 use Rattle.kinds.specs.Case.{otherCase, caseClosed}
 use Rattle.atoms.specs.Number.{digitOf, digits, valueFrom, blanks, numeralOf}
 use Rattle.atoms.specs.Escape.{bracedOf, shortOf, flipped64, raised, controlOf, typeOf, namedOf, placedOf, hexOf, octalOf, escapeOf}
 use Rattle.atoms.specs.Fault.{lower}
+use Rattle.atoms.specs.Raw.{anyRaw, withRaw}
 use Rattle.atoms.specs.Quote.{isMark, gapOf}
-use Rattle.atoms.specs.Name.{names, begins, named, nameAmong, nameOf}
-use Rattle.atoms.specs.Class.{bracketOf, memberOf, rangeFault, jointOf, memberAt, membersOf, classOf, joined, settled}
+use Rattle.classes.specs.Name.{names, begins, named, nameAmong, nameOf}
+use Rattle.classes.specs.Class.{bracketOf, memberOf, rangeFault, jointOf, spelledAt, memberAt, membersOf, classOf, joined, settled}
 use Rattle.tokens.specs.Option.{lettersOf, beforeClose, commentOf, openingOf}
 use Rattle.tokens.specs.Quantifier.{bounded, open-ended, bracesOf, formOf, marked, quantifierOf}
-use Rattle.tokens.specs.Token.{escaped, unquotedOf, lexemeOf, itemSet}
+use Rattle.tokens.specs.Token.{escaped, unquotedOf, spelledOf, lexemeOf, itemSet}
 use Rattle.table.specs.Layout.{tableWords}
 use Rattle.table.specs.Table.{all, isTable}
 use Rattle.table.specs.Automaton.{automaton}
@@ -54,7 +55,7 @@ module _ (words : List ℕ) (long : tableWords ≤ length words) where
 
   -- by the accepted rule alone: its id is taken, and this is what the calls give
   computes : (nextAnswer (acceptedIn c) (rule 5 0 "a") .number ≡ 3) × (run (computedOf (acceptedIn c)) (startOf (acceptedIn c)) (callsIn items) ≡ outcomes)
-  unfolding callsIn scanLeft closeLeft gives moves run items outcomes on has setOf wordOf any emptySet insertedRange unionOf complementOf inserted fullSet isDigit isLower isUpper isBlank otherCase caseClosed digitOf digits valueFrom blanks numeralOf bracedOf shortOf flipped64 raised controlOf typeOf namedOf placedOf hexOf octalOf isAlpha isAlnum escapeOf lower isMark gapOf names begins named nameAmong nameOf bracketOf memberOf rangeFault jointOf memberAt membersOf classOf joined settled lettersOf beforeClose commentOf openingOf bounded open-ended bracesOf formOf marked quantifierOf escaped unquotedOf lexemeOf itemSet copied capped saturating nullable write positions repeated copies optionals null first last follow byteSets chained chosen one repeating closing opening act next finish walk judged readOf optionsOf unknownFlag placed used taken nextAnswer withNew afterNext acceptedAfter laid insert into owner computed starts nextLive ends endsAtEnd runIds runMarks byteIds byteState closeIds all bytes stateAfter idsOf endsOf fits zip mathlib.Core.List.zipWith additionsOf steps
+  unfolding callsIn scanLeft closeLeft gives moves run items outcomes on has setOf wordOf any emptySet insertedRange unionOf complementOf inserted fullSet isDigit isLower isUpper isBlank otherCase caseClosed digitOf digits valueFrom blanks numeralOf bracedOf shortOf flipped64 raised controlOf typeOf namedOf placedOf hexOf octalOf isAlpha isAlnum escapeOf lower isMark gapOf names begins named nameAmong nameOf bracketOf memberOf rangeFault jointOf memberAt membersOf classOf joined settled lettersOf beforeClose commentOf openingOf bounded open-ended bracesOf formOf marked quantifierOf escaped unquotedOf lexemeOf itemSet copied capped saturating nullable write positions repeated copies optionals null first last follow byteSets chained chosen one repeating closing opening act next finish walk judged readOf optionsOf unknownFlag placed used taken nextAnswer withNew afterNext acceptedAfter laid insert into owner computed starts nextLive ends endsAtEnd runIds runMarks byteIds byteState closeIds all bytes stateAfter idsOf endsOf fits zip mathlib.Core.List.zipWith additionsOf steps isCntrl anyRaw withRaw spelledAt spelledOf
   computes = (refl, refl)
 
   -- before the opening: the state is closed

@@ -11,7 +11,7 @@ use Rattle.table.specs.Layout.{tableWords, maxRules}
 use Rattle.table.specs.Table.{emptied}
 use Rattle.stream.specs.Calls.{opened, space}
 use Rattle.regex.specs.Ordered.{Pair}
-unfoldable pub use Rattle.atoms.specs.Name.{bytes}
+unfoldable pub use Rattle.classes.specs.Name.{bytes}
 use Rattle.rules.specs.declared.Added.{Added}
 use Rattle.rules.specs.Add.{answer, addAnswer, addWords}
 use Rattle.rules.specs.Additions.{Addition}

@@ -18,7 +18,7 @@ use Rattle.regex.specs.Form.{write, positions}
 use Rattle.regex.specs.Rule.{Rule, Reported}
 use Rattle.regex.specs.Ordered.{Pair, Ordered, Once}
 use Rattle.regex.specs.Live.{Busy}
-use Rattle.pattern.specs.Nodes.{Syntax}
+use Rattle.nodes.specs.Nodes.{Syntax}
 use Rattle.pattern.specs.Walk.{tree}
 use Rattle.pattern.specs.Read.{longest, optionsOf}
 use Rattle.pattern.specs.Reasons.{Reason}
@@ -90,7 +90,7 @@ pub data Refusal (rules : List Accepted) (a : Addition) : Type 0 where
   all-there : maxRules ≤ length rules → Refusal rules a
   -- 5: "pattern over 256 bytes"
   too-long : longest < length (a .pattern) → Refusal rules a
-  -- 6 to 16, each a predicate of its own: crates/pattern/specs/Reasons.antt
+  -- 6 to 16 and 23, each a predicate of its own: crates/pattern/specs/Reasons.antt
   in-pattern : (number place : ℕ) → Reason (a .pattern) (optionsOf (a .flags)) number place → Refusal rules a
   -- 17: "over 256 positions with those in the table"
   no-room : (x : Syntax) → readingOf a ≡ tree x → maxPositions < used rules + positions (write x) → Refusal rules a

@@ -1,6 +1,6 @@
--- A pattern of at most 256 bytes is refused with a number and place exactly if they are those of the reasons 6 to 16 that decide, and accepted exactly if no
--- reason holds. Where a token stands, the walk from the pattern's start is the walk from there. There it goes on or stops with the lowest row that holds of
--- the token; so a refusal has its reason, and a reason refuses there, by its own number or a lower one. Assumes nothing.
+-- A pattern of at most 256 bytes is refused with a number and place exactly if they are those of the reasons 6 to 16 and 23 that decide, and accepted exactly
+-- if no reason holds. Where a token stands, the walk from the pattern's start is the walk from there. There it goes on or stops with the lowest row that
+-- holds of the token; so a refusal has its reason, and a reason refuses there, by its own number or a lower one. Assumes nothing.
 use mathlib.Core.Path.{_≡_, refl, sym, ap, ap₂, subst, _∙_}
 use mathlib.Core.Bool.{Bool, true, false, cond, or-false}
 use mathlib.Core.List.{List, [], _∷_}
@@ -11,34 +11,34 @@ use borrow.Author.Tests.{eqb-false, leb-true, ltb-true, ne-eqb, le-leb, lt-ltb, 
 use lib.Dec.{T, eqb, leb, ltb}
 use lib.ListN.{length, getD, drop, length-drop}
 use lib.Seq.{getD-drop, drop-drop}
-use Rattle.atoms.specs.declared as declared
+use Rattle.classes.specs.declared as declared
 use Rattle.tokens.specs.declared.Options.{Options}
-use Rattle.atoms.specs.declared.Member.{Member}
+use Rattle.classes.specs.declared.Member.{Member}
 use Rattle.tokens.specs.declared.Token.{Token}
 use Rattle.tokens.specs.declared.Token.the-variants.{Finish, Bar, Close, Class, One, Open, Set, Note, Unclosed, Repeat, Bad}
 use Rattle.tokens.specs.declared.Lexeme.{Lexeme}
 use Rattle.atoms.specs.Fault.{lower}
 use Rattle.atoms.specs.Quote.{opensQuote}
-use Rattle.atoms.specs.Class.{memberAt, joined, membersOf, classOf}
+use Rattle.classes.specs.Class.{spelledAt, memberAt, joined, membersOf, classOf}
 use Rattle.tokens.specs.Quantifier.{formOf}
-use Rattle.tokens.specs.Token.{lexemeOf}
+use Rattle.tokens.specs.Token.{spelledOf, lexemeOf}
 use Rattle.regex.specs.Form.{write, positions}
 use Rattle.regex.specs.Count.{limit, saturating, nullable, MatchesEmpty}
 use Rattle.regex.proofs.Logic.{true-T}
 use Rattle.regex.proofs.Counted.{above-limit, matches-empty}
-use Rattle.pattern.specs.Nodes.{Syntax}
+use Rattle.nodes.specs.Nodes.{Syntax}
 use Rattle.pattern.specs.Walk.{Target, nothing, single, repeated, Frame, State, Read, tree, refused, Next, stop, go, groupOf, deepest, targetFault, closing, opening, act, context, next, walk, begin}
 use Rattle.pattern.specs.Read.{longest, judged, readOf, answerOf}
-use Rattle.pattern.specs.Reasons.{plainly, row6, row7, row9, row10, row11, row12, row14, memberRow14, ofEnd, Stands, InClass, membersAt, markAt, closes, tokenAt, ClassAt, MemberAt, Finished, Reason, Decides}
+use Rattle.pattern.specs.Reasons.{plainly, row6, row7, row9, row10, row11, row12, row14, row23, memberRow14, ofEnd, rawToken, Stands, InClass, membersAt, markAt, closes, tokenAt, ClassAt, MemberAt, Finished, Reason, Decides}
 use Rattle.pattern.specs.Invariants.{from, follow, ended}
 use Rattle.atoms.proofs.Suffixes.{first}
 use Rattle.tokens.proofs.Lexemes.{lexeme-end}
-use Rattle.atoms.proofs.Ranges.{member-advances, members-end, members-mark, members-close, members-fault, members-more}
+use Rattle.classes.proofs.Ranges.{member-advances, members-end, members-mark, members-close, members-fault, members-more}
 use Rattle.pattern.proofs.Base.{either, split, true-not-false, by-lt, by-eq}
 use Rattle.pattern.proofs.Steps.{walk-end, walk-on}
 use Rattle.pattern.proofs.Answers.{accepted-tree}
-use Rattle.pattern.proofs.Lowest.{lowest, both, by-row, AtMost, most6, most7, most9, most10, most11, most14}
-use Rattle.pattern.proofs.Rows.{ownFault, lexeme-fault, memberFault, member-at-fault}
+use Rattle.pattern.proofs.Lowest.{lowest, both, last-row, by-row, AtMost, most6, most7, most9, most10, most11, most14, most23}
+use Rattle.pattern.proofs.Rows.{ownFault, spelled-fault, lexeme-fault, memberFault, member-at-fault}
 use Rattle.pattern.proofs.Standing.{step-walk, stands-walk, stands-fits, inside-token, begin-onward, class-onward, class-fits, close-quiet, class-quiet, open-quiet, unclosed-row, row-unclosed}
 
 is-T : (b : Bool) → b ≡ true → T b
@@ -56,7 +56,7 @@ faultAt m v = lower (context m (lexemeOf (m .options) v .token)) (lexemeOf (m .o
 abbrev tokenFault : State → List ℕ → ℕ
 tokenFault m v =
     let q : Bool = m .options .quoted in
-    lowest (plainly q (row6 v)) (plainly q (row7 v)) false (row10 (m .target) (lexemeOf (m .options) v .token)) (plainly q (row11 v)) (plainly q (row14 v))
+    lowest (plainly q (row6 v)) (plainly q (row7 v)) false (row10 (m .target) (lexemeOf (m .options) v .token)) (plainly q (row11 v)) (plainly q (row14 v)) (row23 (spelledOf (m .options) v .size) v)
 
 context-fault : (m : State) (t : Token) → context m t ≡ cond (row10 (m .target) t) 10 0
 context-fault m Finish = refl
@@ -81,22 +81,30 @@ unfolding row6 row7 row11 row14 formOf
 no-row true = refl
 no-row false = refl
 
-own-fault : (o : Options) (v : List ℕ) → lexemeOf o v .fault ≡ ownFault (o .quoted) v
-unfolding lexemeOf
+own-fault : (o : Options) (v : List ℕ) → spelledOf o v .fault ≡ ownFault (o .quoted) v
+unfolding spelledOf
 own-fault o [] = no-row (o .quoted)
-own-fault o (c ∷ v) = lexeme-fault o v c
+own-fault o (c ∷ v) = spelled-fault o v c
 
 token-fault : (m : State) (v : List ℕ) → faultAt m v ≡ tokenFault m v
 token-fault m v =
     let t : Token = lexemeOf (m .options) v .token in
     let q : Bool = m .options .quoted in
     let ten : Bool = row10 (m .target) t in
-    ap₂ lower (context-fault m t) (own-fault (m .options) v)
-    ∙ both false false false ten false false (plainly q (row6 v)) (plainly q (row7 v)) false false (plainly q (row11 v)) (plainly q (row14 v))
-    ∙ ap (λ (b : Bool). lowest (plainly q (row6 v)) (plainly q (row7 v)) false b (plainly q (row11 v)) (plainly q (row14 v))) (or-false ten)
+    let raw : Bool = row23 (spelledOf (m .options) v .size) v in
+    ap₂ lower (context-fault m t)
+    (lexeme-fault (m .options) v
+    ∙ ap (λ (f : ℕ). lower f (cond raw 23 0)) (own-fault (m .options) v)
+    ∙ last-row (plainly q (row6 v)) (plainly q (row7 v)) false false (plainly q (row11 v)) (plainly q (row14 v)) raw)
+    ∙ both false false false ten false false false (plainly q (row6 v)) (plainly q (row7 v)) false false (plainly q (row11 v)) (plainly q (row14 v)) raw
+    ∙ ap (λ (b : Bool). lowest (plainly q (row6 v)) (plainly q (row7 v)) false b (plainly q (row11 v)) (plainly q (row14 v)) raw) (or-false ten)
+
+-- a raw byte is in a member or range
+abbrev rawMember : (caseless quoted : Bool) → List ℕ → Bool
+rawMember caseless quoted v = row23 (spelledAt caseless quoted v .size) v
 
 -- the fault of a member or of a range where it stands
-member-rows : (s : List ℕ) (o : Options) (caseless quoted : Bool) (p : ℕ) → MemberAt s o caseless quoted p → memberAt caseless quoted (drop p s) .fault ≡ memberFault caseless quoted (drop p s)
+member-rows : (s : List ℕ) (o : Options) (caseless quoted : Bool) (p : ℕ) → MemberAt s o caseless quoted p → memberAt caseless quoted (drop p s) .fault ≡ memberFault caseless quoted (drop p s) (rawMember caseless quoted (drop p s))
 member-rows s o caseless quoted p M =
     let long : 0 < length (drop p s) = omega (arith, length-drop p s, M .inside) in
     member-at-fault caseless quoted (drop p s) long (rw (first s p, getD-drop p s 1 0) (M .unmarked))
@@ -112,13 +120,14 @@ module _ (s : List ℕ) (o : Options) where
   member-reason caseless quoted p M =
       let v : List ℕ = drop p s in
       subst (Explained p) (sym (member-rows s o caseless quoted p M))
-      (by-row (Explained p) (ofEnd row6 caseless quoted v) (ofEnd row7 caseless quoted v) (row9 caseless quoted v) false false (ofEnd memberRow14 caseless quoted v)
+      (by-row (Explained p) (ofEnd row6 caseless quoted v) (ofEnd row7 caseless quoted v) (row9 caseless quoted v) false false (ofEnd memberRow14 caseless quoted v) (rawMember caseless quoted v)
       (λ e z. Reason.member-cut p caseless quoted M (is-T _ e))
       (λ e z. Reason.member-large p caseless quoted M (is-T _ e))
       (λ e z. Reason.bad-range p caseless quoted M (is-T _ e))
       (λ e. none e)
       (λ e. none e)
       (λ e z. Reason.member-unsupported p caseless quoted M (is-T _ e))
+      (λ e z. Reason.member-raw p caseless quoted M (is-T _ e))
       (λ z. absurd (z refl)))
 
   abbrev ClassExplained : declared.Class.Class → Type 0
@@ -171,13 +180,14 @@ module _ (s : List ℕ) (o : Options) where
         let v : List ℕ = drop at s in
         let q : Bool = m .options .quoted in
         subst (Explained at) (sym (token-fault m v))
-        (by-row (Explained at) (plainly q (row6 v)) (plainly q (row7 v)) false (row10 (m .target) (tokenAt s at m)) (plainly q (row11 v)) (plainly q (row14 v))
+        (by-row (Explained at) (plainly q (row6 v)) (plainly q (row7 v)) false (row10 (m .target) (tokenAt s at m)) (plainly q (row11 v)) (plainly q (row14 v)) (rawToken s at m)
         (λ e z. Reason.escape-cut at m S (is-T _ e))
         (λ e z. Reason.escape-large at m S (is-T _ e))
         (λ e. none e)
         (λ e z. Reason.nothing-repeated at m S (is-T _ e))
         (λ e z. Reason.bad-bounds at m S (is-T _ e))
         (λ e z. Reason.unsupported at m S (is-T _ e))
+        (λ e z. Reason.raw-byte at m S (is-T _ e))
         (λ z. absurd (z refl)))
 
     closing-reason : (st : List Frame) → m .stack ≡ st → tokenAt s at m ≡ Close → StopExplained (closing at st (groupOf m))
@@ -203,7 +213,8 @@ module _ (s : List ℕ) (o : Options) where
     act-reason size (Note i) e = tt
     act-reason size Unclosed e =
         let p : length s ≡ at + length (drop at s) = omega (arith, stands-fits s o at m S, length-drop at s) in
-        subst (Reason s o 12) p (Reason.comment-open at m S (is-T _ (unclosed-row (m .options) (drop at s) e)))
+        let row = unclosed-row (m .options) (drop at s) e in
+        subst (Reason s o 12) p (Reason.comment-open at m S (is-T _ (row .0)) (row .1))
     act-reason size (Repeat n j) e = tt
     act-reason size Bad e = tt
 
@@ -337,10 +348,10 @@ module _ (s : List ℕ) (o : Options) where
         still-open e [] y = absurd (omega arith)
         still-open e (f ∷ fs) y = (omega arith, e)
 
-    comment-refuses : plainly (m .options .quoted) (row12 (drop at s)) ≡ true → Refuses 12 (length s) whole
+    comment-refuses : plainly (m .options .quoted) (row12 (drop at s)) ≡ true → rawToken s at m ≡ false → Refuses 12 (length s) whole
     unfolding act Stops
-    comment-refuses h =
-        let e = row-unclosed (m .options) (drop at s) h in
+    comment-refuses h r =
+        let e = row-unclosed (m .options) (drop at s) (h, r) in
         let p : at + length (drop at s) ≡ length s = omega (arith, stands-fits s o at m S, length-drop at s) in
         stops-refuses 12 (length s) (inside-token s at m Unclosed (e .0) (λ y. let w : _≡_ {A = ℕ} 0 1 = cc in omega arith))
         (acts 12 (length s) Unclosed (e .0) refl (e .1) (omega arith, p))
@@ -355,7 +366,7 @@ module _ (s : List ℕ) (o : Options) where
         (acts n q Class e refl (class-quiet (m .options) (drop at s) e) (rw (drop-drop 1 at s, ne-eqb (c .number) 0 bad) (a .most, p)))
 
   -- a class with a faulty member, and one that is not closed
-  member-refuses : (caseless quoted : Bool) (n at : ℕ) → MemberAt s o caseless quoted at → AtMost n (memberFault caseless quoted (drop at s)) → Refuses n at whole
+  member-refuses : (caseless quoted : Bool) (n at : ℕ) → MemberAt s o caseless quoted at → AtMost n (memberFault caseless quoted (drop at s) (rawMember caseless quoted (drop at s))) → Refuses n at whole
   member-refuses caseless quoted n at M a =
       let C = M .class in
       let O = class-onward caseless s (M .bracket + 1) at (M .isFirst) quoted (M .stands) in
@@ -408,20 +419,22 @@ module _ (s : List ℕ) (o : Options) where
   ofMember row c b at = ofEnd row c b (drop at s)
 
   reason-refuses : (n q : ℕ) → Reason s o n q → Refuses n q whole
-  reason-refuses n q (Reason.escape-cut at m S x) = rows-refuse at m S 6 (most6 (own row6 at m) (own row7 at m) false (ten at m) (own row11 at m) (own row14 at m) (true-T _ x))
-  reason-refuses n q (Reason.member-cut at c b M x) = member-refuses c b 6 at M (most6 (ofMember row6 c b at) (ofMember row7 c b at) (row9 c b (drop at s)) false false (ofMember memberRow14 c b at) (true-T _ x))
-  reason-refuses n q (Reason.escape-large at m S x) = rows-refuse at m S 7 (most7 (own row6 at m) (own row7 at m) false (ten at m) (own row11 at m) (own row14 at m) (true-T _ x))
-  reason-refuses n q (Reason.member-large at c b M x) = member-refuses c b 7 at M (most7 (ofMember row6 c b at) (ofMember row7 c b at) (row9 c b (drop at s)) false false (ofMember memberRow14 c b at) (true-T _ x))
+  reason-refuses n q (Reason.escape-cut at m S x) = rows-refuse at m S 6 (most6 (own row6 at m) (own row7 at m) false (ten at m) (own row11 at m) (own row14 at m) (rawToken s at m) (true-T _ x))
+  reason-refuses n q (Reason.member-cut at c b M x) = member-refuses c b 6 at M (most6 (ofMember row6 c b at) (ofMember row7 c b at) (row9 c b (drop at s)) false false (ofMember memberRow14 c b at) (rawMember c b (drop at s)) (true-T _ x))
+  reason-refuses n q (Reason.escape-large at m S x) = rows-refuse at m S 7 (most7 (own row6 at m) (own row7 at m) false (ten at m) (own row11 at m) (own row14 at m) (rawToken s at m) (true-T _ x))
+  reason-refuses n q (Reason.member-large at c b M x) = member-refuses c b 7 at M (most7 (ofMember row6 c b at) (ofMember row7 c b at) (row9 c b (drop at s)) false false (ofMember memberRow14 c b at) (rawMember c b (drop at s)) (true-T _ x))
   reason-refuses n q (Reason.class-open at bracket c b k C i h) = unclosed-refuses at bracket c b k C i h
-  reason-refuses n q (Reason.bad-range at c b M x) = member-refuses c b 9 at M (most9 (ofMember row6 c b at) (ofMember row7 c b at) (row9 c b (drop at s)) false false (ofMember memberRow14 c b at) (true-T _ x))
-  reason-refuses n q (Reason.nothing-repeated at m S x) = rows-refuse at m S 10 (most10 (own row6 at m) (own row7 at m) false (ten at m) (own row11 at m) (own row14 at m) (true-T _ x))
-  reason-refuses n q (Reason.bad-bounds at m S x) = rows-refuse at m S 11 (most11 (own row6 at m) (own row7 at m) false (ten at m) (own row11 at m) (own row14 at m) (true-T _ x))
+  reason-refuses n q (Reason.bad-range at c b M x) = member-refuses c b 9 at M (most9 (ofMember row6 c b at) (ofMember row7 c b at) (row9 c b (drop at s)) false false (ofMember memberRow14 c b at) (rawMember c b (drop at s)) (true-T _ x))
+  reason-refuses n q (Reason.nothing-repeated at m S x) = rows-refuse at m S 10 (most10 (own row6 at m) (own row7 at m) false (ten at m) (own row11 at m) (own row14 at m) (rawToken s at m) (true-T _ x))
+  reason-refuses n q (Reason.bad-bounds at m S x) = rows-refuse at m S 11 (most11 (own row6 at m) (own row7 at m) false (ten at m) (own row11 at m) (own row14 at m) (rawToken s at m) (true-T _ x))
   reason-refuses n q (Reason.group-open at m S h z) = open-refuses at m S h z
-  reason-refuses n q (Reason.comment-open at m S x) = comment-refuses at m S (true-T _ x)
+  reason-refuses n q (Reason.comment-open at m S x r) = comment-refuses at m S (true-T _ x) r
   reason-refuses n q (Reason.no-group at m S e z) = close-refuses at m S e z
   reason-refuses n q (Reason.too-deep at m i S e h) = deep-refuses at m S i e h
-  reason-refuses n q (Reason.unsupported at m S x) = rows-refuse at m S 14 (most14 (own row6 at m) (own row7 at m) false (ten at m) (own row11 at m) (own row14 at m) (true-T _ x))
-  reason-refuses n q (Reason.member-unsupported at c b M x) = member-refuses c b 14 at M (most14 (ofMember row6 c b at) (ofMember row7 c b at) (row9 c b (drop at s)) false false (ofMember memberRow14 c b at) (true-T _ x))
+  reason-refuses n q (Reason.unsupported at m S x) = rows-refuse at m S 14 (most14 (own row6 at m) (own row7 at m) false (ten at m) (own row11 at m) (own row14 at m) (rawToken s at m) (true-T _ x))
+  reason-refuses n q (Reason.member-unsupported at c b M x) = member-refuses c b 14 at M (most14 (ofMember row6 c b at) (ofMember row7 c b at) (row9 c b (drop at s)) false false (ofMember memberRow14 c b at) (rawMember c b (drop at s)) (true-T _ x))
+  reason-refuses n q (Reason.raw-byte at m S x) = rows-refuse at m S 23 (most23 (own row6 at m) (own row7 at m) false (ten at m) (own row11 at m) (own row14 at m) (rawToken s at m) (true-T _ x))
+  reason-refuses n q (Reason.member-raw at c b M x) = member-refuses c b 23 at M (most23 (ofMember row6 c b at) (ofMember row7 c b at) (row9 c b (drop at s)) false false (ofMember memberRow14 c b at) (rawMember c b (drop at s)) (true-T _ x))
   reason-refuses n q (Reason.matches-nothing t F x) = empty-refuses t F x
   reason-refuses n q (Reason.too-many t F x) = many-refuses t F x
 

@@ -15,19 +15,19 @@ use Rattle.tokens.specs.declared.Token.{Token}
 use Rattle.tokens.specs.declared.Token.the-variants.{Finish, Bar, Close, Class, One, Open, Set, Note, Unclosed, Repeat, Bad}
 use Rattle.tokens.specs.declared.Lexeme.{Lexeme}
 use Rattle.atoms.specs.Fault.{lower}
-use Rattle.atoms.specs.Class.{classOf}
+use Rattle.classes.specs.Class.{classOf}
 use Rattle.tokens.specs.Token.{lexemeOf}
 use Rattle.regex.specs.Tree.{empty, item, then, or}
 use Rattle.regex.specs.Count.{limit, saturating, nullable}
-use Rattle.pattern.specs.Nodes.{Syntax, treeAt, width}
+use Rattle.nodes.specs.Nodes.{Syntax, treeAt, width}
 use Rattle.pattern.specs.Walk.{Target, nothing, single, Frame, State, Read, tree, refused, Next, stop, go, chained, chosen, branchOf, groupOf, with-item, one, deepest, repeating, closing, opening, act, context, next, finish, walk, begin}
 use Rattle.pattern.specs.Read.{longest, judged, readOf, room, answerOf}
 use Rattle.pattern.specs.declared.Reading.{Reading}
-use Rattle.pattern.specs.Invariants.{Tidy}
+use Rattle.nodes.specs.Invariants.{Tidy}
 use Rattle.pattern.proofs.Base.{either}
 use Rattle.pattern.proofs.Lexemes.{Right, lexeme-sound}
 use Rattle.pattern.proofs.Sets.{words-item, class-closed}
-use Rattle.pattern.proofs.Trees.{extra-number, width-pos, front-tree}
+use Rattle.nodes.proofs.Trees.{extra-number, width-pos, front-tree}
 
 -- ---- lists of trees
 

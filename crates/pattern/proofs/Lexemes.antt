@@ -8,7 +8,7 @@ use Prim.Native.Nat.{ℕ, suc, _+_, _-_, _≤_, _<_}
 use native.Mathlib.Omega.{arith}
 use borrow.Author.Tests.{eqb-true, eqb-false, ltb-true}
 use lib.Dec.{eqb, leb, ltb}
-use lib.ListN.{length, getD, drop}
+use lib.ListN.{length, getD, take, drop}
 use Rattle.tokens.specs.declared.Options.{Options}
 use Rattle.atoms.specs.declared.Part.{Part}
 use Rattle.tokens.specs.declared.Form.{Form}
@@ -18,10 +18,11 @@ use Rattle.tokens.specs.declared.Lexeme.{Lexeme}
 use Rattle.atoms.specs.Number.{cap, numeralOf}
 use Rattle.atoms.specs.Escape.{escapeOf}
 use Rattle.atoms.specs.Fault.{lower}
+use Rattle.atoms.specs.Raw.{anyRaw, withRaw}
 use Rattle.tokens.specs.Option.{faulty, withCaseless, withDotAll, lettersOf, beforeClose, commentOf, openingOf}
 use Rattle.tokens.specs.Quantifier.{noForm, form, bounded, open-ended, bracesOf, formOf, marked, quantifierOf}
 use Rattle.atoms.specs.Quote.{isMark}
-use Rattle.tokens.specs.Token.{escaped, unquotedOf, lexemeOf}
+use Rattle.tokens.specs.Token.{escaped, unquotedOf, spelledOf, faultyAs, lexemeOf}
 use Rattle.tokens.proofs.Lengths.{lexeme-takes}
 use Rattle.pattern.proofs.Base.{either}
 
@@ -159,10 +160,39 @@ unquoted-right o c v =
     (λ k. either (RightL c) (eqb c 36) (λ l. refl)
     (λ l. either (RightL c) (formOf (c ∷ v) .is) (λ n. quantifier-right c (c ∷ v)) (λ n. refl)))))))))
 
+spelled-right : (o : Options) (c : ℕ) (v : List ℕ) → RightL c (spelledOf o (c ∷ v))
+unfolding spelledOf
+spelled-right o c v =
+    either (RightL c) (isMark (o .quoted) c (getD v 0 0)) (λ e. refl) (λ e. either (RightL c) (o .quoted) (λ f. refl) (λ f. unquoted-right o c v))
+
+-- a fault f that is one where g is: a quantifier's stays high
+faulty-as-right : (c f g : ℕ) (t : Token) → Right c g t → (High g → High f) → (f ≡ 0 → ⊥) → RightL c (faultyAs f t)
+faulty-as-right c f g Finish r h n = n
+faulty-as-right c f g Bar r h n = n
+faulty-as-right c f g Close r h n = n
+faulty-as-right c f g Class r h n = n
+faulty-as-right c f g (One a) r h n = n
+faulty-as-right c f g (Open o) r h n = n
+faulty-as-right c f g (Set o) r h n = n
+faulty-as-right c f g (Note o) r h n = n
+faulty-as-right c f g Unclosed r h n = n
+faulty-as-right c f g (Repeat least extra) r h n = (omega arith, omega arith, h (r .2))
+faulty-as-right c f g Bad r h n = n
+
+raw-high : (f size : ℕ) (v : List ℕ) → High f → High (withRaw f size v)
+unfolding withRaw
+raw-high f size v h =
+    let raw : Bool = anyRaw (take size v) in
+    lower-high f (cond raw 23 0) h (either High raw (λ e. inr (omega arith)) (λ e. inl refl))
+
 lexeme-right : (o : Options) (c : ℕ) (v : List ℕ) → RightL c (lexemeOf o (c ∷ v))
 unfolding lexemeOf
 lexeme-right o c v =
-    either (RightL c) (isMark (o .quoted) c (getD v 0 0)) (λ e. refl) (λ e. either (RightL c) (o .quoted) (λ f. refl) (λ f. unquoted-right o c v))
+    let l : Lexeme = spelledOf o (c ∷ v) in
+    let f : ℕ = withRaw (l .fault) (l .size) (c ∷ v) in
+    let right : RightL c l = spelled-right o c v in
+    either (RightL c) (eqb f 0) (λ e. right)
+    (λ e. faulty-as-right c f (l .fault) (l .token) right (raw-high (l .fault) (l .size) (c ∷ v)) (eqb-false f 0 e))
 
 -- of a token with byte c in front, where `left` bytes are left of the pattern
 pub record Sound (c left : ℕ) (l : Lexeme) : Type 0 where

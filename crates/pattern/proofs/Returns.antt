@@ -11,24 +11,25 @@ use borrow.Author.Tests.{eq-eqb, ne-eqb}
 use lib.ListN.{length, getD, drop, set, length-drop}
 use lib.Seq.{sets, length-sets}
 use Rattle.sets.proofs.Laws.{Words}
-use Rattle.atoms.specs.declared as declared
+use Rattle.classes.specs.declared as declared
 use Rattle.tokens.specs.declared.Options.{Options}
 use Rattle.atoms.specs.declared.Atom.{Atom}
 use Rattle.atoms.specs.declared.Atom.the-variants.{Byte, OfKind, NotOfKind, Dot, NotNewline, Start, End}
 use Rattle.tokens.specs.declared.Token.{Token}
 use Rattle.tokens.specs.declared.Token.the-variants.{Class, One, Open, Set, Note, Unclosed, Repeat}
 use Rattle.tokens.specs.declared.Lexeme.{Lexeme}
-use Rattle.atoms.specs.Class.{classOf}
+use Rattle.classes.specs.Class.{classOf}
 use Rattle.atoms.specs.Number.{cap}
 use Rattle.tokens.specs.Token.{lexemeOf, itemSet}
 use Rattle.atoms.proofs.Suffixes.{inside}
 use Rattle.regex.specs.Tree.{empty, item, assertion, then, or, repeat}
 use Rattle.regex.specs.Rule.{at-start, at-end}
-use Rattle.pattern.specs.Nodes.{Syntax, word, treeAt, width, lay, extraOf}
+use Rattle.nodes.specs.Nodes.{Syntax, word, treeAt, width, lay, extraOf}
 use Rattle.pattern.specs.Walk.{nothing, single, Frame, Read, refused, chained, chosen, one, closing}
-use Rattle.pattern.specs.Invariants.{Tidy, lent, Room, state, from, groupEnds, classEnds, refusal, got, onward, Read-up, Said, SaysBranches, SaysSequence, SaysItem, SaysOne, SaysClass, SaysQuantified, SaidBranches, SaidSequence, SaidItem, SaidOne, SaidClass, SaidQuantified, faultOf}
+use Rattle.nodes.specs.Invariants.{Tidy}
+use Rattle.pattern.specs.Invariants.{lent, Room, state, from, groupEnds, classEnds, refusal, got, onward, Read-up, Said, SaysBranches, SaysSequence, SaysItem, SaysOne, SaysClass, SaysQuantified, SaidBranches, SaidSequence, SaidItem, SaidOne, SaidClass, SaidQuantified, faultOf}
 use Rattle.pattern.specs.declared.items.Got.{Got}
-use Rattle.pattern.proofs.Trees.{laid-tree, both-laid, one-laid, number-extra, extra-number}
+use Rattle.nodes.proofs.Trees.{laid-tree, both-laid, one-laid, number-extra, extra-number}
 use Rattle.pattern.proofs.Sets.{words-item, Closed, class-closed}
 use Rattle.pattern.proofs.Steps.{lex, At, last, at-token, Ends, Other, from-one, from-set, from-note, from-unclosed, from-open, from-deep, from-class, from-fault, from-repeat, from-repeat-fault, free-other, branch-bar, branch-last, group-closes, group-open, past, from-end}
 

@@ -7,33 +7,36 @@ use Prim.Native.Nat.{ℕ, suc, _+_, _≤_, _<_, min}
 use native.Mathlib.Omega.{arith}
 use borrow.Author.Tests.{eqb-true, leb-true, leb-false, ltb-true, ltb-false, ne-eqb, lt-ltb, le-ltb, le-leb, lt-leb}
 use lib.Dec.{eqb, leb, ltb, leb·suc-suc, leb·suc-zero}
-use lib.ListN.{length, getD, drop, length-drop}
+use lib.ListN.{length, getD, take, drop, length-drop}
 use lib.Seq.{getD-drop, drop-drop}
-use Rattle.kinds.specs.Kind.{within, isLower, isUpper, isDigit, isAlpha, isAlnum}
+use Rattle.kinds.specs.Kind.{within, isLower, isUpper, isDigit, isAlpha, isAlnum, isCntrl}
 use Rattle.kinds.specs.declared.Kind.the-variants.{Digit, Word, Space, Horizontal, Vertical}
 use Rattle.atoms.specs.declared.Atom.{Atom}
 use Rattle.atoms.specs.declared.Atom.the-variants.{Byte, OfKind, NotOfKind, NotNewline, Start, End}
 use Rattle.atoms.specs.declared.Part.{Part}
 use Rattle.atoms.specs.declared.Gap.{Gap}
-use Rattle.atoms.specs.declared.Joint.{Joint}
+use Rattle.classes.specs.declared.Joint.{Joint}
 use Rattle.tokens.specs.declared.Options.{Options}
 use Rattle.tokens.specs.declared.Form.{Form}
-use Rattle.tokens.specs.declared.Token.the-variants.{One, Note}
+use Rattle.tokens.specs.declared.Token.{Token}
+use Rattle.tokens.specs.declared.Token.the-variants.{Finish, Bar, Close, Class, One, Open, Set, Note, Unclosed, Repeat, Bad}
 use Rattle.tokens.specs.declared.Lexeme.{Lexeme}
 use Rattle.atoms.specs.Number.{cap, some, blanks, digits, valueFrom, numeralOf}
 use Rattle.atoms.specs.Escape.{good, bracedOf, shortOf, controlOf, typeOf, namedOf, placedOf, hexOf, octalOf, escapeOf}
 use Rattle.atoms.specs.Fault.{lower}
+use Rattle.atoms.specs.Raw.{anyRaw, withRaw}
 use Rattle.atoms.specs.Quote.{isMark, opensQuote, wider, gapOf}
-use Rattle.atoms.specs.Name.{Name, names, begins, nameAmong, nameOf}
-use Rattle.atoms.specs.Class.{bracketOf, memberOf, rangeFault, isType, byteOf, jointOf, memberAt}
+use Rattle.classes.specs.Name.{Name, names, begins, nameAmong, nameOf}
+use Rattle.classes.specs.Class.{bracketOf, memberOf, rangeFault, isType, byteOf, jointOf, spelledAt, memberAt}
 use Rattle.tokens.specs.Option.{plain, withCaseless, withDotAll, lettersOf, beforeClose, commentOf, openingOf}
 use Rattle.tokens.specs.Quantifier.{bounded, open-ended, bracesOf, formOf, marked, quantifierOf}
-use Rattle.tokens.specs.Token.{escaped, withQuoted, unquotedOf, lexemeOf}
+use Rattle.tokens.specs.Token.{escaped, withQuoted, unquotedOf, lexemeOf, spelledOf, faultyAs}
 use Rattle.atoms.proofs.Suffixes.{first}
-use Rattle.atoms.proofs.Sizes.{joint-within}
-use Rattle.pattern.specs.Reasons.{among, number, beyond, braced, cutShort, tooLarge, unknown, optionBytes, hyphens, setting, badOpening, decimalOf, second, badBounds, row6, row7, row9, row11, row14, plainly, jointAt, farEnd, isNamed, unknownName, memberRow14, faultyEnd, ofEnd}
+use Rattle.classes.proofs.Sizes.{joint-within}
+use Rattle.pattern.specs.Reasons.{among, number, beyond, braced, cutShort, tooLarge, unknown, optionBytes, hyphens, setting, badOpening, decimalOf, second, badBounds, row6, row7, row9, row11, row14, plainly, jointAt, farEnd, isNamed, unknownName, memberRow14, faultyEnd, ofEnd, rawAmong, row23}
+use Rattle.atoms.proofs.Raws.{raw-besides}
 use Rattle.pattern.proofs.Base.{either, split, true-not-false, byte-not}
-use Rattle.pattern.proofs.Lowest.{lowest, both}
+use Rattle.pattern.proofs.Lowest.{lowest, both, last-row}
 
 -- ---- truth values
 
@@ -108,7 +111,7 @@ control-bool false false = refl
 
 -- the fault of an escape whose backslash stands before v, by its rows
 abbrev pub escapeFault : Bool → List ℕ → ℕ
-escapeFault i v = lowest (cutShort v) (tooLarge v) false false false (unknown i v)
+escapeFault i v = lowest (cutShort v) (tooLarge v) false false false (unknown i v) false
 
 abbrev EscapeFault : Bool → List ℕ → Type 0
 EscapeFault i v = fault (escapeOf i v) ≡ escapeFault i v
@@ -385,14 +388,14 @@ unfolding marked
 marked-fault q m = picked (lower (q .fault) (cond (eqb m 43) 14 0)) _ _ refl refl
 
 quantifier-fault : (c : ℕ) (v : List ℕ) → formOf (c ∷ v) .is ≡ true
-    → quantifierOf (c ∷ v) .fault ≡ lowest false false false false (eqb c 123 && badBounds v) (eqb (getD (c ∷ v) (formOf (c ∷ v) .size) 0) 43)
+    → quantifierOf (c ∷ v) .fault ≡ lowest false false false false (eqb c 123 && badBounds v) (eqb (getD (c ∷ v) (formOf (c ∷ v) .size) 0) 43) false
 unfolding quantifierOf
 quantifier-fault c v e =
     let bounds : Bool = eqb c 123 && badBounds v in
     let mark : Bool = eqb (getD (c ∷ v) (formOf (c ∷ v) .size) 0) 43 in
     marked-fault (formOf (c ∷ v)) (getD (c ∷ v) (formOf (c ∷ v) .size) 0)
     ∙ ap (λ (f : ℕ). lower f (cond mark 14 0)) (form-fault c v e)
-    ∙ both false false false false bounds false false false false false false mark
+    ∙ both false false false false bounds false false false false false false false mark false
     ∙ ap (λ (b : Bool). cond b 11 (cond mark 14 0)) (or-false bounds)
 
 -- ---- one token outside a class
@@ -400,7 +403,7 @@ quantifier-fault c v e =
 -- the fault of the token at the front of v by itself, by its rows, where a quote is open or not
 abbrev pub ownFault : Bool → List ℕ → ℕ
 ownFault quoted v =
-    lowest (plainly quoted (row6 v)) (plainly quoted (row7 v)) false false (plainly quoted (row11 v)) (plainly quoted (row14 v))
+    lowest (plainly quoted (row6 v)) (plainly quoted (row7 v)) false false (plainly quoted (row11 v)) (plainly quoted (row14 v)) false
 
 -- of a token outside a quote
 abbrev LexemeFault : Options → List ℕ → ℕ → Type 0
@@ -481,15 +484,64 @@ mark-rows c v e =
         split (eqb d 69) (λ f. subst (λ (k : ℕ). ownFault false (92 ∷ k ∷ w) ≡ 0) (sym (eqb-true d 69 f)) (letter-e w))
         (λ f. split (eqb d 81) (λ g. subst (λ (k : ℕ). ownFault false (92 ∷ k ∷ w) ≡ 0) (sym (eqb-true d 81 g)) (letter-q w)) (λ g. true-not-false false (rw (f, g) at h) refl))
 
-pub lexeme-fault : (o : Options) (v : List ℕ) (c : ℕ) → lexemeOf o (c ∷ v) .fault ≡ ownFault (o .quoted) (c ∷ v)
-unfolding lexemeOf
-lexeme-fault o v c = by-quote (o .quoted)
+pub spelled-fault : (o : Options) (v : List ℕ) (c : ℕ) → spelledOf o (c ∷ v) .fault ≡ ownFault (o .quoted) (c ∷ v)
+unfolding spelledOf
+spelled-fault o v c = by-quote (o .quoted)
   where
     by-quote : (q : Bool)
         → (cond (isMark q c (getD v 0 0)) (plain 2 (Note (withQuoted (opensQuote (getD v 0 0)) o))) (cond q (plain 1 (One (Byte c))) (unquotedOf o c v))) .fault
         ≡ ownFault q (c ∷ v)
     by-quote true = split (isMark true c (getD v 0 0)) (λ f. rw f) (λ f. rw f)
     by-quote false = split (isMark false c (getD v 0 0)) (λ f. rw f (sym (mark-rows c v f))) (λ f. rw f (unquoted-fault o v c f))
+
+-- ---- raw control bytes
+
+raw-byte : (b : ℕ) → isCntrl b ≡ (ltb b 32 || eqb b 127)
+unfolding isCntrl
+raw-byte b =
+    split (ltb b 32) (λ e. rw (e, le-leb b 31 (omega (arith, ltb-true b 32 e)))) (λ e. rw (e, lt-leb b 31 (omega (arith, ltb-false b 32 e))))
+
+pub raw-same : (v : List ℕ) → anyRaw v ≡ rawAmong v
+unfolding anyRaw rawAmong
+raw-same [] = refl
+raw-same (b ∷ v) = rw (raw-byte b, raw-same v) (or-assoc (ltb b 32) (eqb b 127) (rawAmong v))
+  where
+    or-assoc : (x y z : Bool) → ((x || y) || z) ≡ (x || (y || z))
+    or-assoc true y z = refl
+    or-assoc false y z = refl
+
+raw-row : (f size : ℕ) (v : List ℕ) → withRaw f size v ≡ lower f (cond (row23 size v) 23 0)
+unfolding withRaw row23
+raw-row f size v = rw (raw-same (take size v))
+
+faulty-as-fault : (f : ℕ) (t : Token) → faultyAs f t .fault ≡ f
+faulty-as-fault f Finish = refl
+faulty-as-fault f Bar = refl
+faulty-as-fault f Close = refl
+faulty-as-fault f Class = refl
+faulty-as-fault f (One a) = refl
+faulty-as-fault f (Open o) = refl
+faulty-as-fault f (Set o) = refl
+faulty-as-fault f (Note o) = refl
+faulty-as-fault f Unclosed = refl
+faulty-as-fault f (Repeat n j) = refl
+faulty-as-fault f Bad = refl
+
+-- a token's fault is that of its spelling and of its raw bytes
+pub lexeme-fault : (o : Options) (v : List ℕ)
+    → lexemeOf o v .fault ≡ lower (spelledOf o v .fault) (cond (row23 (spelledOf o v .size) v) 23 0)
+unfolding lexemeOf
+lexeme-fault o v =
+    let l : Lexeme = spelledOf o v in
+    let f : ℕ = withRaw (l .fault) (l .size) v in
+    split (eqb f 0)
+    (λ e. let z : f ≡ 0 = eqb-true f 0 e in rw e (raw-besides (l .fault) (l .size) v z ∙ sym z ∙ raw-row (l .fault) (l .size) v))
+    (λ e. rw e (faulty-as-fault f (l .token) ∙ raw-row (l .fault) (l .size) v))
+
+-- a token with no fault besides and no raw byte stays
+pub raw-clean : (o : Options) (v : List ℕ) → spelledOf o v .fault ≡ 0 → row23 (spelledOf o v .size) v ≡ false → lexemeOf o v ≡ spelledOf o v
+unfolding lexemeOf lower
+raw-clean o v e r = rw (raw-row (spelledOf o v .fault) (spelledOf o v .size) v, e, r)
 
 -- ---- one member or range of a class
 
@@ -511,7 +563,7 @@ bracket-fault caseless v =
 
 -- the fault of a member, or of one end of a range, by its rows
 abbrev endFault : Bool → List ℕ → ℕ
-endFault quoted v = lowest (plainly quoted (row6 v)) (plainly quoted (row7 v)) false false false (plainly quoted (memberRow14 v))
+endFault quoted v = lowest (plainly quoted (row6 v)) (plainly quoted (row7 v)) false false false (plainly quoted (memberRow14 v)) false
 
 -- of one outside a quote
 abbrev MemberFault : Bool → List ℕ → ℕ → Type 0
@@ -551,7 +603,7 @@ end-clean : (caseless quoted : Bool) (v : List ℕ) → 0 < length v → NoMark 
 end-clean caseless quoted v h u =
     ap (λ (f : ℕ). eqb f 0) (end-fault caseless quoted v h u) ∙ by-rows (plainly quoted (row6 v)) (plainly quoted (row7 v)) (plainly quoted (memberRow14 v))
   where
-    by-rows : (a b d : Bool) → eqb (lowest a b false false false d) 0 ≡ not (a || (b || d))
+    by-rows : (a b d : Bool) → eqb (lowest a b false false false d false) 0 ≡ not (a || (b || d))
     by-rows true b d = refl
     by-rows false true d = refl
     by-rows false false true = refl
@@ -570,7 +622,7 @@ range-fault m n a b ea eb = rw (ea, eb) (go (isType (m .atom) || isType (n .atom
     go false f = refl
 
 -- only row 6 gives 6
-only-cut : (a b d : Bool) → lowest a b false false false d ≡ 6 → a ≡ true
+only-cut : (a b d : Bool) → lowest a b false false false d false ≡ 6 → a ≡ true
 only-cut true b d e = refl
 only-cut false true d e = absurd (omega arith)
 only-cut false false true e = absurd (omega arith)
@@ -618,19 +670,20 @@ far-unmarked caseless quoted v =
 
 -- the faults of two ends, and of the two as a range
 range-both : (a b d x y z t : Bool)
-    → lower (lowest a b false false false d) (lower (lowest x y false false false z) (cond t 9 0)) ≡ lowest (a || x) (b || y) t false false (d || z)
+    → lower (lowest a b false false false d false) (lower (lowest x y false false false z false) (cond t 9 0)) ≡ lowest (a || x) (b || y) t false false (d || z) false
 range-both a b d x y z t =
-    rw (both x y false false false z false false t false false false)
-    (both a b false false false d (x || false) (y || false) t false false (z || false) ∙ rw (or-false x, or-false y, or-false z))
+    rw (both x y false false false z false false false t false false false false)
+    (both a b false false false d false (x || false) (y || false) t false false (z || false) false ∙ rw (or-false x, or-false y, or-false z))
 
 -- the fault of a member or of a range, by the rows
-abbrev pub memberFault : (caseless quoted : Bool) → List ℕ → ℕ
-memberFault caseless quoted v =
-    lowest (ofEnd row6 caseless quoted v) (ofEnd row7 caseless quoted v) (row9 caseless quoted v) false false (ofEnd memberRow14 caseless quoted v)
+abbrev pub memberFault : (caseless quoted : Bool) → List ℕ → (raw : Bool) → ℕ
+memberFault caseless quoted v raw =
+    lowest (ofEnd row6 caseless quoted v) (ofEnd row7 caseless quoted v) (row9 caseless quoted v) false false (ofEnd memberRow14 caseless quoted v) raw
 
-pub member-at-fault : (caseless quoted : Bool) (v : List ℕ) → 0 < length v → NoMark quoted v → memberAt caseless quoted v .fault ≡ memberFault caseless quoted v
-unfolding memberAt row9
-member-at-fault caseless quoted v h u =
+spelled-at-fault : (caseless quoted : Bool) (v : List ℕ) → 0 < length v → NoMark quoted v
+    → spelledAt caseless quoted v .fault ≡ memberFault caseless quoted v false
+unfolding spelledAt row9
+spelled-at-fault caseless quoted v h u =
     let m : Part = memberOf caseless quoted v in
     let j : Joint = jointAt caseless quoted v in
     let w : List ℕ = farEnd caseless quoted v in
@@ -648,3 +701,12 @@ member-at-fault caseless quoted v h u =
     (ap₂ lower first (ap₂ lower (end-fault caseless (j .quoted) w l t) (range-fault m n _ _ (end-clean caseless quoted v h u) (end-clean caseless (j .quoted) w l t)))
     ∙ range-both (plainly quoted (row6 v)) (plainly quoted (row7 v)) (plainly quoted (memberRow14 v)) (plainly (j .quoted) (row6 w)) (plainly (j .quoted) (row7 w)) (plainly (j .quoted) (memberRow14 w)) (badRange m n (not (faultyEnd quoted v)) (not (faultyEnd (j .quoted) w)))))
     (λ f. rw (f, or-false (plainly quoted (row6 v)), or-false (plainly quoted (row7 v)), or-false (plainly quoted (memberRow14 v))) first)))
+
+pub member-at-fault : (caseless quoted : Bool) (v : List ℕ) → 0 < length v → NoMark quoted v
+    → memberAt caseless quoted v .fault ≡ memberFault caseless quoted v (row23 (spelledAt caseless quoted v .size) v)
+unfolding memberAt
+member-at-fault caseless quoted v h u =
+    let size : ℕ = spelledAt caseless quoted v .size in
+    ap (λ (f : ℕ). withRaw f size v) (spelled-at-fault caseless quoted v h u)
+    ∙ raw-row (memberFault caseless quoted v false) size v
+    ∙ last-row (ofEnd row6 caseless quoted v) (ofEnd row7 caseless quoted v) (row9 caseless quoted v) false false (ofEnd memberRow14 caseless quoted v) (row23 size v)

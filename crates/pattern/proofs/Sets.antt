@@ -13,11 +13,11 @@ use Rattle.sets.proofs.Laws.{Words, words-setOf}
 use Rattle.kinds.specs.Case.{caseClosed}
 use Rattle.atoms.specs.declared.Atom.{Atom}
 use Rattle.atoms.specs.declared.Atom.the-variants.{Byte, OfKind, NotOfKind, Dot, NotNewline, Start, End}
-use Rattle.atoms.specs.declared.Class.{Class}
+use Rattle.classes.specs.declared.Class.{Class}
 use Rattle.atoms.specs.declared.Gap.{Gap}
-use Rattle.atoms.specs.declared.Member.{Member}
+use Rattle.classes.specs.declared.Member.{Member}
 use Rattle.tokens.specs.declared.Options.{Options}
-use Rattle.atoms.specs.Class.{memberAt, joined, settled, membersOf, classOf}
+use Rattle.classes.specs.Class.{memberAt, joined, settled, membersOf, classOf}
 use Rattle.atoms.specs.Quote.{isMark, opensQuote, gapOf}
 use Rattle.tokens.specs.Token.{itemSet}
 use Rattle.atoms.proofs.Suffixes.{inside}

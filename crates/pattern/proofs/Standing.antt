@@ -8,11 +8,11 @@ use Prim.Native.Nat.{ℕ, suc, _+_, _≤_, _<_}
 use native.Mathlib.Omega.{arith}
 use borrow.Author.Tests.{eqb-true, eqb-false, eq-eqb, ne-eqb, ltb-true, ltb-false, lt-ltb, le-ltb}
 use lib.Dec.{eqb, leb, ltb}
-use lib.ListN.{length, getD, drop, length-drop}
+use lib.ListN.{length, getD, take, drop, length-drop}
 use lib.Seq.{drop-drop}
 use Rattle.tokens.specs.declared.Options.{Options}
 use Rattle.atoms.specs.declared.Gap.{Gap}
-use Rattle.atoms.specs.declared.Member.{Member}
+use Rattle.classes.specs.declared.Member.{Member}
 use Rattle.atoms.specs.declared.Atom.the-variants.{Byte}
 use Rattle.atoms.specs.declared.Part.{Part}
 use Rattle.tokens.specs.declared.Form.{Form}
@@ -20,22 +20,26 @@ use Rattle.tokens.specs.declared.Token.{Token}
 use Rattle.tokens.specs.declared.Token.the-variants.{Finish, Bar, Close, Class, One, Open, Set, Note, Unclosed, Repeat, Bad}
 use Rattle.tokens.specs.declared.Lexeme.{Lexeme}
 use Rattle.atoms.specs.Fault.{lower}
+use Rattle.atoms.specs.Raw.{withRaw}
 use Rattle.atoms.specs.Quote.{isMark, gapOf}
-use Rattle.atoms.specs.Class.{memberAt, joined, membersOf, classOf}
+use Rattle.classes.specs.Class.{memberAt, joined, membersOf, classOf}
 use Rattle.tokens.specs.Option.{plain, withCaseless, withDotAll, lettersOf, beforeClose, commentOf, openingOf}
 use Rattle.tokens.specs.Quantifier.{formOf, marked, quantifierOf}
-use Rattle.tokens.specs.Token.{escaped, unquotedOf, lexemeOf}
+use Rattle.tokens.specs.Token.{escaped, unquotedOf, spelledOf, faultyAs, lexemeOf}
 use Rattle.sets.specs.Set.{emptySet}
-use Rattle.pattern.specs.Nodes.{Syntax}
+use Rattle.nodes.specs.Nodes.{Syntax}
 use Rattle.pattern.specs.Walk.{Frame, State, Next, stop, go, groupOf, deepest, closing, opening, act, context, next, walk, begin}
-use Rattle.pattern.specs.Reasons.{among, openComment, plainly, row12, Stands, InClass, membersAt, tokenAt}
+use Rattle.pattern.specs.Reasons.{among, openComment, plainly, row12, row23, Stands, InClass, membersAt, tokenAt}
 use Rattle.pattern.specs.Invariants.{from, follow}
+use Rattle.atoms.proofs.Raws.{raw-absent}
 use Rattle.atoms.proofs.Sizes.{byte-within}
 use Rattle.tokens.proofs.Lengths.{lexeme-fits}
 use Rattle.tokens.proofs.Lexemes.{lexeme-end}
-use Rattle.atoms.proofs.Ranges.{mark-inside, member-advances, members-mark, members-more}
+use Rattle.atoms.proofs.Gaps.{mark-inside}
+use Rattle.classes.proofs.Ranges.{member-advances, members-mark, members-more}
 use Rattle.pattern.proofs.Base.{either, split, by-lt, true-not-false, byte-not}
 use Rattle.pattern.proofs.Sets.{class-closed}
+use Rattle.pattern.proofs.Rows.{raw-same, raw-clean}
 use Rattle.pattern.proofs.Steps.{walk-on, walk-skip}
 
 -- ---- the walk
@@ -220,17 +224,40 @@ module _ (P : Type 0) where
       (λ e. either QuietLexeme (eqb c 36) (λ e. tt)
       (λ e. either QuietLexeme (formOf (c ∷ v) .is) (λ e. marked-quiet (formOf (c ∷ v)) _) (λ e. tt)))))))))
 
--- an open comment stands where no quote is open, and its row holds
+-- an open comment stands where no quote is open, its row holds, and it has no raw byte
 abbrev OpenComment : Options → List ℕ → Type 0
-OpenComment o v = plainly (o .quoted) (row12 v) ≡ true
+OpenComment o v = (plainly (o .quoted) (row12 v) ≡ true) × (row23 (spelledOf o v .size) v ≡ false)
+
+spelled-quiet : (P : Type 0) (o : Options) (v : List ℕ) → (plainly (o .quoted) (row12 v) ≡ true → P) → QuietLexeme P (spelledOf o v)
+unfolding spelledOf Quiet
+spelled-quiet P o [] h = tt
+spelled-quiet P o (c ∷ v) h =
+    let Q : Lexeme → Type 0 = QuietLexeme P in
+    either Q (isMark (o .quoted) c (getD v 0 0)) (λ e. tt) (λ e. either Q (o .quoted) (λ f. tt) (λ f. unquoted-quiet P o c v (λ z. h (rw (f, z)))))
+
+faulty-as-quiet : (P : Type 0) (f : ℕ) (t : Token) → QuietLexeme P (faultyAs f t)
+unfolding Quiet
+faulty-as-quiet P f Finish = tt
+faulty-as-quiet P f Bar = tt
+faulty-as-quiet P f Close = tt
+faulty-as-quiet P f Class = tt
+faulty-as-quiet P f (One a) = tt
+faulty-as-quiet P f (Open i) = tt
+faulty-as-quiet P f (Set i) = tt
+faulty-as-quiet P f (Note i) = tt
+faulty-as-quiet P f Unclosed = tt
+faulty-as-quiet P f (Repeat n j) = tt
+faulty-as-quiet P f Bad = tt
 
 lexeme-quiet : (o : Options) (v : List ℕ) → QuietLexeme (OpenComment o v) (lexemeOf o v)
-unfolding lexemeOf Quiet
-lexeme-quiet o [] = tt
-lexeme-quiet o (c ∷ v) =
-    let Q : Lexeme → Type 0 = QuietLexeme (OpenComment o (c ∷ v)) in
-    either Q (isMark (o .quoted) c (getD v 0 0)) (λ e. tt)
-    (λ e. either Q (o .quoted) (λ f. tt) (λ f. unquoted-quiet (OpenComment o (c ∷ v)) o c v (λ z. rw (f, z))))
+unfolding lexemeOf row23
+lexeme-quiet o v =
+    let l : Lexeme = spelledOf o v in
+    let f : ℕ = withRaw (l .fault) (l .size) v in
+    let Q : Lexeme → Type 0 = QuietLexeme (OpenComment o v) in
+    either Q (eqb f 0)
+    (λ e. spelled-quiet (OpenComment o v) o v (λ z. (z, sym (raw-same (take (l .size) v)) ∙ raw-absent (l .fault) (l .size) v (eqb-true f 0 e))))
+    (λ e. faulty-as-quiet (OpenComment o v) f (l .token))
 
 module _ (o : Options) (v : List ℕ) where
   pub close-quiet : lexemeOf o v .token ≡ Close → lexemeOf o v .fault ≡ 0
@@ -261,23 +288,29 @@ comment-opening o v e =
     not-true true h = sym h
     not-true false h = refl
 
-comment-token : (o : Options) (w : List ℕ) → openComment w ≡ true → not (o .quoted) ≡ true → lexemeOf o (40 ∷ w) ≡ plain (3 + beforeClose (drop 2 w)) Unclosed
-unfolding lexemeOf unquotedOf isMark
+comment-token : (o : Options) (w : List ℕ) → openComment w ≡ true → not (o .quoted) ≡ true → spelledOf o (40 ∷ w) ≡ plain (3 + beforeClose (drop 2 w)) Unclosed
+unfolding spelledOf unquotedOf isMark
 comment-token o w h q = unquoted (o .quoted) q
   where
     unquoted : (b : Bool) → not b ≡ true → cond b (plain 1 (One (Byte 40))) (openingOf o w) ≡ plain (3 + beforeClose (drop 2 w)) Unclosed
     unquoted true z = true-not-false false z refl
     unquoted false z = comment-opening o w h
 
-pub row-unclosed : (o : Options) (v : List ℕ) → OpenComment o v → (lexemeOf o v .token ≡ Unclosed) × (lexemeOf o v .fault ≡ 0)
+comment-spelled : (o : Options) (v : List ℕ) → plainly (o .quoted) (row12 v) ≡ true → (spelledOf o v .token ≡ Unclosed) × (spelledOf o v .fault ≡ 0)
 unfolding row12
-row-unclosed o v e =
+comment-spelled o v e =
     let a = and-eq-true-iff (not (o .quoted)) (row12 v) .0 e in
     by-bytes v (a .1) (a .0)
   where
-    by-bytes : (w : List ℕ) → (eqb (getD w 0 0) 40 && openComment (drop 1 w)) ≡ true → not (o .quoted) ≡ true → (lexemeOf o w .token ≡ Unclosed) × (lexemeOf o w .fault ≡ 0)
+    by-bytes : (w : List ℕ) → (eqb (getD w 0 0) 40 && openComment (drop 1 w)) ≡ true → not (o .quoted) ≡ true → (spelledOf o w .token ≡ Unclosed) × (spelledOf o w .fault ≡ 0)
     by-bytes [] h q = true-not-false false h refl
     by-bytes (c ∷ w) h q =
         let b = and-eq-true-iff (eqb c 40) (openComment w) .0 h in
-        let l = ap (λ (k : ℕ). lexemeOf o (k ∷ w)) (eqb-true c 40 (b .0)) ∙ comment-token o w (b .1) q in
+        let l = ap (λ (k : ℕ). spelledOf o (k ∷ w)) (eqb-true c 40 (b .0)) ∙ comment-token o w (b .1) q in
         (ap (λ (x : Lexeme). x .token) l, ap (λ (x : Lexeme). x .fault) l)
+
+pub row-unclosed : (o : Options) (v : List ℕ) → OpenComment o v → (lexemeOf o v .token ≡ Unclosed) × (lexemeOf o v .fault ≡ 0)
+row-unclosed o v e =
+    let c = comment-spelled o v (e .0) in
+    let l = raw-clean o v (c .1) (e .1) in
+    (ap (λ (x : Lexeme). x .token) l ∙ c .0, ap (λ (x : Lexeme). x .fault) l ∙ c .1)

@@ -10,7 +10,7 @@ use borrow.Author.Tests.{eqb-true, eqb-false, lt-ltb, le-ltb, eq-eqb, ne-eqb, le
 use lib.Dec.{eqb}
 use lib.ListN.{length, getD, drop, drop-of-length-le, length-drop, List·getD-eq-default}
 use lib.Seq.{drop-drop}
-use Rattle.atoms.specs.declared as declared
+use Rattle.classes.specs.declared as declared
 use Rattle.tokens.specs.declared.Options.{Options}
 use Rattle.atoms.specs.declared.Atom.{Atom}
 use Rattle.atoms.specs.declared.Atom.the-variants.{Byte, OfKind, NotOfKind, Dot, NotNewline, Start, End}
@@ -18,11 +18,12 @@ use Rattle.tokens.specs.declared.Token.{Token}
 use Rattle.tokens.specs.declared.Token.the-variants.{Finish, Bar, Close, Class, One, Open, Set, Note, Unclosed, Repeat, Bad}
 use Rattle.tokens.specs.declared.Lexeme.{Lexeme}
 use Rattle.atoms.specs.Fault.{lower}
-use Rattle.atoms.specs.Class.{classOf}
+use Rattle.classes.specs.Class.{classOf}
 use Rattle.tokens.specs.Token.{lexemeOf}
 use Rattle.atoms.proofs.Suffixes.{front}
+use Rattle.tokens.proofs.Lexemes.{lexeme-end}
 use Rattle.regex.specs.Tree.{empty, item, repeat}
-use Rattle.pattern.specs.Nodes.{Syntax, extraOf}
+use Rattle.nodes.specs.Nodes.{Syntax, extraOf}
 use Rattle.pattern.specs.Walk.{Target, nothing, single, repeated, Frame, State, Read, refused, Next, stop, go, chained, chosen, with-item, noted, one, deepest, repeating, targetFault, closing, opening, act, context, next, finish, walk}
 use Rattle.pattern.specs.Invariants.{state, from, follow, ended, groupEnds, branchEnds, classEnds, faultFor, faultOf}
 use Rattle.pattern.proofs.Base.{by-lt, split, true-not-false}
@@ -72,8 +73,7 @@ at-inside s at o l e h =
     record { is = e; inside = h; sound = rw (← e, front s at h, ← n) (lexeme-sound o (getD s at 0) (drop (at + 1) s)) }
 
 finish-at : (s : List ℕ) (at : ℕ) (o : Options) → length s ≤ at → lexemeOf o (drop at s) ≡ lex 0 0 Finish
-unfolding lexemeOf
-finish-at s at o h = rw (drop-of-length-le s h)
+finish-at s at o h = lexeme-end s at o h
 
 -- the end's token, told from the others
 abbrev pub last : Token → Bool

@@ -9,12 +9,13 @@ use lib.ListN.{length, drop, replicate, length-replicate, replicate-append-repli
 use lib.Seq.{sets, sets-eq, length-sets, drop-at}
 use Rattle.tokens.specs.declared.Options.{Options}
 use Rattle.regex.specs.Count.{limit, saturating, nullable}
-use Rattle.pattern.specs.Nodes.{Syntax, treeAt, width, lay}
+use Rattle.nodes.specs.Nodes.{Syntax, treeAt, width, lay}
 use Rattle.pattern.specs.Walk.{tree, refused, closing, chosen, walk, begin}
 use Rattle.pattern.specs.Read.{longest, judged, readOf, room, answerOf}
-use Rattle.pattern.specs.Invariants.{Tidy, SaidBranches}
+use Rattle.nodes.specs.Invariants.{Tidy}
+use Rattle.pattern.specs.Invariants.{SaidBranches}
 use Rattle.pattern.specs.declared.items.Got.{Got}
-use Rattle.pattern.proofs.Trees.{lay-length}
+use Rattle.nodes.proofs.Trees.{lay-length}
 use Rattle.pattern.proofs.Steps.{group-closes, group-open}
 use Rattle.pattern.proofs.Returns.{on-ok, on-no}
 

@@ -6,38 +6,24 @@ use Prim.Native.Nat.{ℕ, _+_, _-_, _*_, _≤_, _<_}
 use lib.Dec.{eqb, ltb}
 use lib.ListN.{length, getD, drop}
 use lib.Seq.{sets}
-use Rattle.sets.proofs.Laws.{Words}
 use Rattle.tokens.specs.declared.Options.{Options}
 use Rattle.atoms.specs.declared.Atom.{Atom}
 use Rattle.tokens.specs.declared.Token.{Token}
 use Rattle.tokens.specs.declared.Token.the-variants.{Finish, Bar, Close, Class, One, Open, Set, Note, Unclosed, Repeat, Bad}
 use Rattle.tokens.specs.declared.Lexeme.{Lexeme}
-use Rattle.atoms.specs.Class.{classOf}
-use Rattle.atoms.specs.Number.{cap}
+use Rattle.classes.specs.Class.{classOf}
 use Rattle.tokens.specs.Token.{lexemeOf}
-use Rattle.regex.specs.Tree.{empty, item, assertion, then, or, repeat}
-use Rattle.pattern.specs.Nodes.{Syntax, treeAt, width, lay, extraOf, numberOf}
+use Rattle.regex.specs.Tree.{item}
+use Rattle.nodes.specs.Nodes.{Syntax, treeAt, width, lay}
+use Rattle.nodes.specs.Invariants.{Tidy}
 use Rattle.pattern.specs.Walk.{Target, nothing, single, Frame, State, Read, tree, refused, Next, stop, go, chained, chosen, with-item, one, closing, walk}
 use Rattle.pattern.specs.declared.items.Got.{Got}
 
 -- ---- the words
 
--- a tree that words can hold: its sets are four 64-bit words, its repeats have numbers that a node has room for
-unfoldable pub Tidy : Syntax → Type 0
-Tidy empty = Unit {0}
-Tidy (item c) = Words c
-Tidy (assertion a) = Unit {0}
-Tidy (then x y) = Tidy x × Tidy y
-Tidy (or x y) = Tidy x × Tidy y
-Tidy (repeat x n j) = Tidy x × (n < cap) × (extraOf (numberOf j) ≡ j)
-
 -- how many words the readers are lent
 abbrev pub lent : ℕ
 lent = 2048
-
--- the tree of x as a child of node k: a child that is not smaller reads as empty
-unfoldable pub childAt : List ℕ → ℕ → ℕ → Syntax
-childAt a k x = cond (ltb x k) (treeAt a x) empty
 
 -- words for six nodes a byte that is unread at place `at`, and `more`; n is the first free one
 pub record Room (s a : List ℕ) (at n more : ℕ) : Type 0 where

@@ -6,7 +6,7 @@ use lib.Dec.{eqb, ltb}
 use lib.ListN.{length, replicate}
 use Rattle.tokens.specs.declared.Options.{Options}
 use Rattle.regex.specs.Count.{limit, saturating, nullable}
-use Rattle.pattern.specs.Nodes.{width, lay}
+use Rattle.nodes.specs.Nodes.{width, lay}
 use Rattle.pattern.specs.Walk.{Read, tree, refused, walk, begin}
 use Rattle.pattern.specs.declared.Reading.{Reading}
 

@@ -1,31 +1,31 @@
--- Why a pattern is refused: the rows of the table "When the watcher says no" from 6 to 16, each as a predicate of its own: on the bytes of one token and
--- what stands before it, on the finished tree, or on the pattern's end. Taken over from the reading: where the tokens and members stand, each after one that
--- is not refused (`Stands`, `InClass`), whether a quote is open there and what its marks are, what stands before a token (the open groups, and what a
--- quantifier would repeat), which token it is, what a member stands for, which hyphen joins two members, which braces are a quantifier, the table of names,
--- digits and their value, and the finished tree. Said anew: everything that makes one of them faulty. The theorems are `decided` and `accepted` of
--- proofs/Accepted.antt. Assumes nothing: these are definitions.
+-- Why a pattern is refused: the rows of the table "When the watcher says no" from 6 to 16, and 23, each as a predicate of its own: on the bytes of one token
+-- and what stands before it, on the finished tree, or on the pattern's end. Taken over from the reading: where the tokens and members stand, each after one
+-- that is not refused (`Stands`, `InClass`), whether a quote is open there and what its marks are, what stands before a token (the open groups, and what a
+-- quantifier would repeat), which token it is, how many bytes a token, a member or a range takes, what a member stands for, which hyphen joins two members,
+-- which braces are a quantifier, the table of names, digits and their value, and the finished tree. Said anew: everything that makes one of them faulty.
+-- The theorems are `decided` and `accepted` of proofs/Accepted.antt. Assumes nothing: these are definitions.
 use mathlib.Core.Path.{_≡_}
 use mathlib.Core.Bool.{Bool, true, false, cond, not, _&&_, _||_}
 use mathlib.Core.List.{List, [], _∷_}
 use Prim.Native.Nat.{ℕ, suc, _+_, _≤_, _<_}
 use lib.Dec.{T, eqb, leb, ltb}
-use lib.ListN.{length, getD, drop}
+use lib.ListN.{length, getD, drop, take}
 use Rattle.kinds.specs.Kind.{within, isAlnum}
 use Rattle.tokens.specs.declared.Options.{Options}
 use Rattle.atoms.specs.declared.Part.{Part}
 use Rattle.atoms.specs.declared.Gap.{Gap}
-use Rattle.atoms.specs.declared.Joint.{Joint}
+use Rattle.classes.specs.declared.Joint.{Joint}
 use Rattle.tokens.specs.declared.Token.{Token}
 use Rattle.tokens.specs.declared.Token.the-variants.{Finish, Bar, Close, Class, One, Open, Set, Note, Unclosed, Repeat, Bad}
 use Rattle.atoms.specs.Number.{some, blanks, digits, valueFrom}
 use Rattle.atoms.specs.Quote.{isMark, opensQuote, gapOf}
-use Rattle.atoms.specs.Name.{Name, names, begins as beginsWith}
-use Rattle.atoms.specs.Class.{memberOf, isType, byteOf, jointOf, memberAt}
+use Rattle.classes.specs.Name.{Name, names, begins as beginsWith}
+use Rattle.classes.specs.Class.{memberOf, isType, byteOf, jointOf, spelledAt, memberAt}
 use Rattle.tokens.specs.Quantifier.{formOf}
-use Rattle.tokens.specs.Token.{lexemeOf}
+use Rattle.tokens.specs.Token.{spelledOf, lexemeOf}
 use Rattle.regex.specs.Form.{write, positions}
 use Rattle.regex.specs.Count.{limit, MatchesEmpty}
-use Rattle.pattern.specs.Nodes.{Syntax}
+use Rattle.nodes.specs.Nodes.{Syntax}
 use Rattle.pattern.specs.Walk.{Target, nothing, single, repeated, State, go, groupOf, deepest, next, begin}
 
 -- ---- numbers between braces: v is the pattern after the opening brace or after the comma
@@ -203,6 +203,18 @@ row9 caseless quoted v =
     let n : Part = memberOf caseless (j .quoted) w in
     j .is && (isType (m .atom) || isType (n .atom) || (not (faultyEnd quoted v) && (not (faultyEnd (j .quoted) w) && ltb (byteOf (n .atom)) (byteOf (m .atom)))))
 
+-- ---- raw control bytes
+
+-- a raw byte below 32, or 127, is among these bytes
+unfoldable pub rawAmong : List ℕ → Bool
+rawAmong [] = false
+rawAmong (b ∷ v) = ltb b 32 || (eqb b 127 || rawAmong v)
+
+-- 23: "A raw byte below 32, or 127, anywhere in a pattern, quotes and comments too, is refused with 23, as a fault of the token it lies in". The token or
+-- member takes the first `size` bytes of v.
+unfoldable pub row23 : (size : ℕ) → List ℕ → Bool
+row23 size v = rawAmong (take size v)
+
 -- ---- where tokens stand
 
 -- A token, or the pattern's end, stands at place `at` with m before it: the first at 0, and each next one after a token that is not refused.
@@ -246,6 +258,10 @@ pub record ClassAt (s : List ℕ) (o : Options) (caseless : Bool) (at : ℕ) : T
   pub token : tokenAt s at state ≡ Class
   pub case : state .options .caseless ≡ caseless
 
+-- a raw byte is in the token at a place
+abbrev pub rawToken : List ℕ → ℕ → State → Bool
+rawToken s at m = row23 (spelledOf (m .options) (drop at s) .size) (drop at s)
+
 -- a member or a range of a class, at a place
 pub record MemberAt (s : List ℕ) (o : Options) (caseless quoted : Bool) (at : ℕ) : Type 0 where
   pub bracket : ℕ
@@ -266,7 +282,7 @@ pub record Finished (s : List ℕ) (o : Options) (t : Syntax) : Type 0 where
   pub tree : t ≡ groupOf state
 
 -- ---- the reasons, each with its number and place: "The place is the token's first byte. Faults known only at the end (8, 12 for an open group, 15, 16, ..)
--- have the pattern's length as place"; "An open comment is 12 at the pattern's length"
+-- have the pattern's length as place"; "An open comment is 12 at the pattern's length", so it comes after 23, a fault of the comment's own
 
 pub data Reason (s : List ℕ) (o : Options) : (number place : ℕ) → Type 0 where
   escape-cut : (at : ℕ) (m : State) → Stands s o at m → T (plainly (m .options .quoted) (row6 (drop at s))) → Reason s o 6 at
@@ -282,11 +298,14 @@ pub data Reason (s : List ℕ) (o : Options) : (number place : ℕ) → Type 0 w
   -- "group not closed, or `)` without one"
   group-open : (at : ℕ) (m : State) → Stands s o at m → length s ≤ at → 0 < length (m .stack) → Reason s o 12 (length s)
   no-group : (at : ℕ) (m : State) → Stands s o at m → tokenAt s at m ≡ Close → m .stack ≡ [] → Reason s o 12 at
-  comment-open : (at : ℕ) (m : State) → Stands s o at m → T (plainly (m .options .quoted) (row12 (drop at s))) → Reason s o 12 (length s)
+  comment-open : (at : ℕ) (m : State) → Stands s o at m → T (plainly (m .options .quoted) (row12 (drop at s))) → rawToken s at m ≡ false → Reason s o 12 (length s)
   -- "a 17th group open (only `(`, `(?:` and option groups count)"
   too-deep : (at : ℕ) (m : State) (inside : Options) → Stands s o at m → tokenAt s at m ≡ Open inside → deepest ≤ length (m .stack) → Reason s o 13 at
   unsupported : (at : ℕ) (m : State) → Stands s o at m → T (plainly (m .options .quoted) (row14 (drop at s))) → Reason s o 14 at
   member-unsupported : (at : ℕ) (caseless quoted : Bool) → MemberAt s o caseless quoted at → T (ofEnd memberRow14 caseless quoted (drop at s)) → Reason s o 14 at
+  raw-byte : (at : ℕ) (m : State) → Stands s o at m → T (rawToken s at m) → Reason s o 23 at
+  member-raw : (at : ℕ) (caseless quoted : Bool)
+      → MemberAt s o caseless quoted at → T (row23 (spelledAt caseless quoted (drop at s) .size) (drop at s)) → Reason s o 23 at
   -- "the rule could match no bytes, were all its assertions true"
   matches-nothing : (t : Syntax) → Finished s o t → MatchesEmpty t → Reason s o 15 (length s)
   -- "over 256 positions in this rule"

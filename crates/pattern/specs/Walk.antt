@@ -12,11 +12,11 @@ use Rattle.tokens.specs.declared.Token.{Token}
 use Rattle.tokens.specs.declared.Token.the-variants.{Finish, Bar, Close, Class, One, Open, Set, Note, Unclosed, Repeat, Bad}
 use Rattle.tokens.specs.declared.Lexeme.{Lexeme}
 use Rattle.atoms.specs.Fault.{lower}
-use Rattle.atoms.specs.Class.{classOf}
+use Rattle.classes.specs.Class.{classOf}
 use Rattle.tokens.specs.Token.{lexemeOf, itemSet}
 use Rattle.regex.specs.Tree.{empty, item, assertion, then, or, repeat}
 use Rattle.regex.specs.Rule.{at-start, at-end}
-use Rattle.pattern.specs.Nodes.{Syntax, extraOf}
+use Rattle.nodes.specs.Nodes.{Syntax, extraOf}
 
 -- what a quantifier at this place would repeat: nothing, an item or a group, or one that has a quantifier already
 pub data Target : Type 0 where

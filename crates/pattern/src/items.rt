@@ -1,10 +1,10 @@
 // What the readers share: their answer, nodes without children and with two, and an item with the quantifier that may follow it.
-use crate::layout::ASSERTION;
-use crate::layout::REPEAT;
-use crate::nodes::put;
-use crate::nodes::put_item;
+use crate::writer::put;
+use crate::writer::put_item;
 use atoms::Atom;
-use atoms::class_at;
+use classes::class_at;
+use nodes::layout::ASSERTION;
+use nodes::layout::REPEAT;
 use tokens::Lexeme;
 use tokens::Options;
 use tokens::Token;
@@ -13,7 +13,7 @@ use tokens::token_at;
 ghost use mathlib.Core.Path.{_≡_};
 ghost use Prim.Native.Nat.{_+_, _<_};
 ghost use lib.ListN.{set};
-ghost use Rattle.pattern.specs.Nodes.{word};
+ghost use Rattle.nodes.specs.Nodes.{word};
 ghost use Rattle.pattern.specs.Invariants.{lent, Room, refusal, got, faultOf, SaidOne, SaidClass, SaidQuantified};
 
 // What a reader hands back. Fault 0: it has read up to place `at`, the words below n are written, root is the tree's node, and `options` hold from

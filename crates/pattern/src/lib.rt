@@ -1,15 +1,13 @@
 // The reader: pattern bytes and options in, a refusal with its place or the syntax tree out. The tree comes back by value as numbered nodes in
 // an array of words, each node's children with smaller numbers, so nothing is lent and a refusal has nothing to leave alone.
-mod figures;
 mod groups;
 mod items;
-pub mod layout;
-mod nodes;
 mod reader;
+mod writer;
 
-pub use figures::count;
-pub use figures::nullable;
 use groups::branches;
+use nodes::count;
+use nodes::nullable;
 pub use reader::Reader;
 use tokens::Options;
 ghost use mathlib.Core.Path.{_≡_};

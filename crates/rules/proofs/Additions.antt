@@ -17,7 +17,7 @@ use Rattle.table.specs.Automaton.{Automaton, automaton}
 use Rattle.table.proofs.Test.{Passes, passes, accepted, refused as no-table}
 use Rattle.table.proofs.Emptying.{emptied-zero, empty-passes, empty-automaton}
 use Rattle.regex.specs.Form.{write, positions}
-use Rattle.pattern.specs.Nodes.{Syntax}
+use Rattle.nodes.specs.Nodes.{Syntax}
 use Rattle.pattern.specs.Walk.{Read, tree, refused}
 use Rattle.pattern.specs.Read.{optionsOf}
 use Rattle.automaton.specs.Parts.{partsOf, formParts}

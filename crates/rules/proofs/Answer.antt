@@ -16,7 +16,7 @@ use Rattle.table.specs.Table.{isTable, knownFlags}
 use Rattle.table.proofs.Test.{Passes, passes}
 use Rattle.regex.specs.Form.{write, positions}
 use Rattle.regex.specs.Count.{limit}
-use Rattle.pattern.specs.Nodes.{Syntax, treeAt}
+use Rattle.nodes.specs.Nodes.{Syntax, treeAt}
 use Rattle.pattern.specs.Walk.{Read, tree, refused}
 use Rattle.pattern.specs.Read.{readOf, optionsOf, answerOf}
 use Rattle.pattern.specs.declared.Reading.{Reading}

@@ -16,7 +16,7 @@ use Rattle.table.specs.Table.{knownFlags, isTable}
 use Rattle.table.proofs.Test.{passes, accepted}
 use Rattle.regex.specs.Form.{write, positions}
 use Rattle.regex.specs.Count.{limit}
-use Rattle.pattern.specs.Nodes.{Syntax}
+use Rattle.nodes.specs.Nodes.{Syntax}
 use Rattle.pattern.specs.Walk.{Read, tree, refused}
 use Rattle.pattern.specs.Read.{readOf, optionsOf}
 use Rattle.automaton.specs.Parts.{partsOf}

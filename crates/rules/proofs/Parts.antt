@@ -13,7 +13,7 @@ use Rattle.regex.specs.Form.{Form, write, positions}
 use Rattle.regex.specs.Count.{limit}
 use Rattle.regex.specs.Rule.{Assertion, ByteSet}
 use Rattle.regex.specs.Automaton.{first, last, follow, items}
-use Rattle.pattern.specs.Nodes.{Syntax}
+use Rattle.nodes.specs.Nodes.{Syntax}
 use Rattle.automaton.specs.Parts.{fourWords, inside, atStart, atEnd, formParts, partsOf}
 use Rattle.automaton.specs.declared.Parts.{Parts}
 use Rattle.automaton.proofs.Words.{has-four}

@@ -10,7 +10,7 @@ use lib.ListN.{length}
 use borrow.Author.Tests.{ltb-false, le-ltb}
 use Rattle.tokens.specs.declared.Options.{Options}
 use Rattle.regex.specs.Count.{limit, saturating, nullable}
-use Rattle.pattern.specs.Nodes.{Syntax}
+use Rattle.nodes.specs.Nodes.{Syntax}
 use Rattle.pattern.specs.Walk.{Read, tree, refused, walk, begin}
 use Rattle.pattern.specs.Read.{longest, judged, readOf, answerOf}
 use Rattle.pattern.proofs.Answers.{accepted-tree}

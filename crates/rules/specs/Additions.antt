@@ -7,7 +7,7 @@ use lib.ListN.{length}
 use Rattle.table.specs.Layout.{maxRules}
 use Rattle.regex.specs.Form.{write, positions}
 use Rattle.regex.specs.Rule.{Rule}
-use Rattle.pattern.specs.Nodes.{Syntax}
+use Rattle.nodes.specs.Nodes.{Syntax}
 use Rattle.pattern.specs.Walk.{Read, tree, refused}
 use Rattle.pattern.specs.Read.{readOf, optionsOf}
 use Rattle.rules.specs.Add.{answer, unknownFlag, placed}
@@ -47,7 +47,7 @@ taken (r ∷ rs) id = eqb (r .id) id || taken rs id
 abbrev pub readingOf : Addition → Read
 readingOf a = readOf (a .pattern) (optionsOf (a .flags))
 
--- The answer of the next addition to a table with these rules: 2, 3, 4, then the reader's 5 to 16, then 17.
+-- The answer of the next addition to a table with these rules: 2, 3, 4, then the reader's 5 to 16 and 23, then 17.
 unfoldable pub nextAnswer : List Accepted → Addition → Added
 nextAnswer rs a =
     cond (unknownFlag (a .flags)) (answer 2 0)

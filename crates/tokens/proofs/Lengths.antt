@@ -8,18 +8,17 @@ use native.Mathlib.Omega.{arith}
 use borrow.Author.Tests.{eqb-true, eqb-false, ltb-true}
 use lib.Dec.{eqb, leb, ltb}
 use lib.ListN.{length, getD, drop, length-drop}
-use Rattle.sets.specs.Set.{emptySet}
 use Rattle.atoms.specs.Number.{cap, numeralOf}
 use Rattle.atoms.specs.Fault.{lower}
-use Rattle.atoms.specs.Quote.{isMark, opensQuote, gapOf}
-use Rattle.atoms.specs.Class.{joined, membersOf, classOf, memberAt}
+use Rattle.atoms.specs.Raw.{anyRaw, withRaw}
+use Rattle.atoms.specs.Quote.{isMark, opensQuote}
 use Rattle.tokens.specs.Option.{plain, faulty, withCaseless, withDotAll, lettersOf, beforeClose, commentOf, openingOf}
 use Rattle.tokens.specs.Quantifier.{noForm, bounded, open-ended, bracesOf, formOf, marked, quantifierOf}
-use Rattle.tokens.specs.Token.{escaped, unquotedOf, lexemeOf}
+use Rattle.tokens.specs.Token.{escaped, unquotedOf, spelledOf, faultyAs, lexemeOf}
 use Rattle.atoms.specs.declared.Part.{Part}
-use Rattle.atoms.specs.declared.Class.{Class}
 use Rattle.tokens.specs.declared.Options.{Options}
 use Rattle.tokens.specs.declared.Token.{Token}
+use Rattle.tokens.specs.declared.Token.the-variants.{Finish, Bar, Close, Class, One, Open, Set, Note, Unclosed, Repeat, Bad}
 use Rattle.tokens.specs.declared.Form.{Form}
 use Rattle.tokens.specs.declared.Lexeme.{Lexeme}
 use Rattle.atoms.proofs.Suffixes.{inside}
@@ -171,16 +170,37 @@ unquoted-takes o c v =
     (λ e. marked-takes n q (getD (c ∷ v) (q .size) 0) e (form-counts (c ∷ v)) (λ z. inside (c ∷ v) (q .size) (λ y. omega arith)))
     (byte _)))))))))
 
--- where the pattern has not ended, a token that is not faulty takes a byte at least, and no token more than there are
-pub lexeme-takes : (o : Options) (c : ℕ) (v : List ℕ) → Takes (length (c ∷ v)) (lexemeOf o (c ∷ v))
-unfolding lexemeOf
-lexeme-takes o c v =
+spelled-takes : (o : Options) (c : ℕ) (v : List ℕ) → Takes (length (c ∷ v)) (spelledOf o (c ∷ v))
+unfolding spelledOf
+spelled-takes o c v =
     let n = length (c ∷ v) in
     let quoted = o .quoted in
     pick (Takes n) (isMark quoted c (getD v 0 0)) (λ e. plain-takes n 2 _ (omega arith) (omega (arith, mark-within quoted c v e)))
     (pick (Takes n) quoted (λ e. plain-takes n 1 _ (omega arith) (omega arith)) (unquoted-takes o c v))
 
-pub lexeme-fits : (o : Options) (v : List ℕ) → lexemeOf o v .size ≤ length v
+pub faulty-as-takes : (n f : ℕ) (t : Token) → (f ≡ 0 → ⊥) → Takes n (faultyAs f t)
+faulty-as-takes n f Finish h = faulty-takes n f h
+faulty-as-takes n f Bar h = faulty-takes n f h
+faulty-as-takes n f Close h = faulty-takes n f h
+faulty-as-takes n f Class h = faulty-takes n f h
+faulty-as-takes n f (One a) h = faulty-takes n f h
+faulty-as-takes n f (Open o) h = faulty-takes n f h
+faulty-as-takes n f (Set o) h = faulty-takes n f h
+faulty-as-takes n f (Note o) h = faulty-takes n f h
+faulty-as-takes n f Unclosed h = faulty-takes n f h
+faulty-as-takes n f (Repeat least extra) h = record { fits = omega arith; takes = λ e. absurd (h e) }
+faulty-as-takes n f Bad h = faulty-takes n f h
+
+-- where the pattern has not ended, a token that is not faulty takes a byte at least, and no token more than there are
+pub lexeme-takes : (o : Options) (c : ℕ) (v : List ℕ) → Takes (length (c ∷ v)) (lexemeOf o (c ∷ v))
 unfolding lexemeOf
+lexeme-takes o c v =
+    let n = length (c ∷ v) in
+    let l = spelledOf o (c ∷ v) in
+    let fault = withRaw (l .fault) (l .size) (c ∷ v) in
+    either (Takes n) (eqb fault 0) (λ e. spelled-takes o c v) (λ e. faulty-as-takes n fault (l .token) (eqb-false fault 0 e))
+
+pub lexeme-fits : (o : Options) (v : List ℕ) → lexemeOf o v .size ≤ length v
+unfolding lexemeOf spelledOf withRaw anyRaw lower
 lexeme-fits o [] = omega arith
 lexeme-fits o (c ∷ v) = lexeme-takes o c v .fits

@@ -11,10 +11,12 @@ use Rattle.atoms.specs.declared.Atom.{Atom}
 use Rattle.atoms.specs.declared.Atom.the-variants.{Byte, OfKind, NotOfKind, Dot, NotNewline, Start, End}
 use Rattle.atoms.specs.declared.Part.{Part}
 use Rattle.tokens.specs.declared.Options.{Options}
-use Rattle.tokens.specs.declared.Token.the-variants.{Finish, Bar, Close, Class, One, Note}
+use Rattle.tokens.specs.declared.Token.{Token}
+use Rattle.tokens.specs.declared.Token.the-variants.{Finish, Bar, Close, Class, One, Open, Set, Note, Unclosed, Repeat, Bad}
 use Rattle.tokens.specs.declared.Lexeme.{Lexeme}
 use Rattle.atoms.specs.Escape.{escapeOf}
 use Rattle.atoms.specs.Quote.{isMark, opensQuote}
+use Rattle.atoms.specs.Raw.{withRaw}
 use Rattle.tokens.specs.Option.{plain, faulty, openingOf}
 use Rattle.tokens.specs.Quantifier.{formOf, quantifierOf}
 
@@ -41,14 +43,36 @@ unquotedOf o c v =
     (cond (formOf (c ∷ v) .is) (quantifierOf (c ∷ v))
     (plain 1 (One (Byte c)))))))))))
 
--- The token at the front of v, where o are the options there. The marks of quotes are notes, as comments are: "An empty quote and a lone `\E` count as
--- comments". In a quote each byte stands for itself; "the literal interpretation continues to the end of the pattern" where no `\E` ends it (source document 000).
-unfoldable pub lexemeOf : Options → List ℕ → Lexeme
-lexemeOf o [] = plain 0 Finish
-lexemeOf o (c ∷ v) =
+-- The token at the front of v, where o are the options there, with its faults but that of a raw control byte. The marks of quotes are notes, as comments
+-- are: "An empty quote and a lone `\E` count as comments". In a quote each byte stands for itself; "the literal interpretation continues to the end of the
+-- pattern" where no `\E` ends it (source document 000).
+unfoldable pub spelledOf : Options → List ℕ → Lexeme
+spelledOf o [] = plain 0 Finish
+spelledOf o (c ∷ v) =
     cond (isMark (o .quoted) c (getD v 0 0)) (plain 2 (Note (withQuoted (opensQuote (getD v 0 0)) o)))
     (cond (o .quoted) (plain 1 (One (Byte c)))
     (unquotedOf o c v))
+
+-- A token with this fault. A quantifier stays one: it also has the fault of what stands before it.
+abbrev pub faultyAs : ℕ → Token → Lexeme
+faultyAs fault Finish = faulty fault
+faultyAs fault Bar = faulty fault
+faultyAs fault Close = faulty fault
+faultyAs fault Class = faulty fault
+faultyAs fault (One a) = faulty fault
+faultyAs fault (Open o) = faulty fault
+faultyAs fault (Set o) = faulty fault
+faultyAs fault (Note o) = faulty fault
+faultyAs fault Unclosed = faulty fault
+faultyAs fault (Repeat least extra) = record { fault = fault; size = 0; token = Repeat 0 0 }
+faultyAs fault Bad = faulty fault
+
+-- the token at the front of v, with the fault of a raw control byte in it
+unfoldable pub lexemeOf : Options → List ℕ → Lexeme
+lexemeOf o v =
+    let l : Lexeme = spelledOf o v in
+    let fault : ℕ = withRaw (l .fault) (l .size) v in
+    cond (eqb fault 0) l (faultyAs fault (l .token))
 
 -- all bytes but 10
 abbrev pub allButNewline : List ℕ

@@ -13,6 +13,7 @@ use atoms::cased;
 use atoms::escape_at;
 use atoms::is_mark;
 use atoms::peek;
+use atoms::with_raw;
 ghost use mathlib.Core.Path.{_≡_};
 ghost use mathlib.Core.Bool.{cond};
 ghost use Prim.Native.Nat.{_+_, _<_};
@@ -21,7 +22,7 @@ ghost use Rattle.tokens.specs.Option.{plain};
 ghost use Rattle.tokens.specs.Quantifier.{formOf, quantifierOf};
 ghost use Rattle.atoms.specs.declared.Atom.the-variants.{Byte};
 ghost use Rattle.tokens.specs.declared.Token.the-variants.{One};
-ghost use Rattle.tokens.specs.Token.{escaped, unquotedOf, lexemeOf, allButNewline, itemSet};
+ghost use Rattle.tokens.specs.Token.{escaped, unquotedOf, spelledOf, faultyAs, lexemeOf, allButNewline, itemSet};
 
 // An escape as a token.
 fn escaped(p: Part) -> Lexeme
@@ -68,9 +69,9 @@ fn unquoted(s: &[u8], at: usize, options: Options) -> Lexeme
     }
 }
 
-// What stands at a place outside a class, where the options are these.
-pub fn token_at(s: &[u8], at: usize, options: Options) -> Lexeme
-    ensures { λ r. ⌜ r ≡ lexemeOf options (drop at (now (s .entry))) ⌝ }
+// What stands at a place outside a class, where the options are these, with its faults but that of a raw control byte.
+fn spelled(s: &[u8], at: usize, options: Options) -> Lexeme
+    ensures { λ r. ⌜ r ≡ spelledOf options (drop at (now (s .entry))) ⌝ }
 {
     if s.len() <= at {
         return plain(0, Token::Finish);
@@ -91,6 +92,33 @@ pub fn token_at(s: &[u8], at: usize, options: Options) -> Lexeme
         return plain(1, Token::One(Atom::Byte(c)));
     }
     unquoted(s, at, options)
+}
+
+// A token with a fault.
+fn faulty_as(fault: u32, token: Token) -> Lexeme
+    ensures { λ r. ⌜ r ≡ faultyAs fault token ⌝ }
+{
+    match token {
+        Token::Repeat { least: _, extra: _ } => Lexeme {
+            fault,
+            size: 0,
+            token: Token::Repeat { least: 0, extra: 0 },
+        },
+        _ => refused(fault),
+    }
+}
+
+// What stands at a place outside a class, where the options are these.
+pub fn token_at(s: &[u8], at: usize, options: Options) -> Lexeme
+    ensures { λ r. ⌜ r ≡ lexemeOf options (drop at (now (s .entry))) ⌝ }
+{
+    let l = spelled(s, at, options);
+    let fault = with_raw(s, at, l.size, l.fault);
+    if fault == 0 {
+        return l;
+    }
+    let token = l.token;
+    faulty_as(fault, token)
 }
 
 // Every byte but 10.

@@ -32,7 +32,8 @@ pub const MEANING: Alphabet = Alphabet {
     bytes: b"abA\n",
 };
 
-/// Pieces of classes, quotes and comments, whole or not, and what may stand beside them.
+/// Pieces of classes, quotes and comments, whole or not, and what may stand beside them or, as a raw
+/// control byte, nowhere.
 pub const SPELLING: Alphabet = Alphabet {
     tokens: &[
         "a",
@@ -50,14 +51,16 @@ pub const SPELLING: Alphabet = Alphabet {
         ")",
         "(?#",
         "(?i)",
+        "\t",
     ],
     bytes: b"aA-^]*",
 };
 
-/// Pieces of quantifiers and escapes with braces, and the blanks that may stand between them. The
-/// logs are of what they may stand for: a letter, a digit, a blank, and the byte of value 2.
+/// Pieces of quantifiers and escapes with braces, and the blanks that may stand between them, one of
+/// which is a raw control byte. The logs are of what they may stand for: a letter, a digit, a space,
+/// and the byte of value 2.
 pub const BRACES: Alphabet =
-    Alphabet { tokens: &["a", "{", "}", ",", " ", "2", "\\x{", "?"], bytes: b"a2 \x02" };
+    Alphabet { tokens: &["a", "{", "}", ",", " ", "\t", "2", "\\x{", "?"], bytes: b"a2 \x02" };
 
 #[derive(Clone, Copy, Debug)]
 pub struct Bounds {

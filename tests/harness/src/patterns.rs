@@ -6,6 +6,12 @@ use crate::rng::Rng;
 /// Bytes with something to them: control bytes, edges of the ASCII range, the other spaces.
 pub const ODD_BYTES: &[u8] = &[0, 10, 13, 127, 128, 160, 255];
 
+/// Those of them that a pattern may hold.
+const HIGH_BYTES: &[u8] = &[128, 133, 160, 255];
+
+/// Raw control bytes, which no pattern may hold.
+const RAW_BYTES: &[u8] = &[0, 9, 9, 9, 10, 13, 31, 127];
+
 const LETTERS: &[u8] = b"aabbcABC";
 const PLAIN: &[u8] = b"abcABC0159_ -,]}=:<!&~";
 const META: &[u8] = b"\\[](){}|.^$*+?-";
@@ -60,6 +66,7 @@ const NASTY: &[&str] = &[
     "{ 3 , 2 }",
     "{ 65536 }",
     "{ 9, 1}",
+    "{ 3,0 }",
     "{ , }",
     "{ }",
     "{2 3}",
@@ -145,6 +152,39 @@ const SPELLINGS: &[&str] = &[
     "(?#a\\)",
 ];
 
+/// Raw control bytes within a token, or right beside one: put in by chance, in a class or not.
+const RAW_SPELLINGS: &[&str] = &[
+    "\\\t",
+    "\\c\t",
+    "\\x\t",
+    "\\x{\t4}",
+    "\\x{\t}",
+    "\\o{400\t}",
+    "{2,\t3}",
+    "{\t2}",
+    "a{\t2}",
+    "a{2\t}+",
+    "a{3,\t1}",
+    "a{\t65536}",
+    "{2\t3}",
+    "{\t}",
+    "[\t-a]",
+    "[a-\t]",
+    "[\\d-\t]",
+    "[!-\x7f]",
+    "[\\0-\t]",
+    "[ -\x7f]",
+    "[\t",
+    "\\Q\t\\E",
+    "\\Qa\n",
+    "(?#\t)",
+    "(?#a\r)",
+    "(?#\t",
+    "(?#\n",
+    "(?#a\x7f",
+    "(?i\t)",
+];
+
 const NAMES: &[&str] = &[
     "alpha", "lower", "upper", "alnum", "ascii", "blank", "cntrl", "digit", "graph", "print",
     "punct", "space", "word", "xdigit",
@@ -164,7 +204,7 @@ pub fn pattern(rng: &mut Rng) -> Vec<u8> {
     let mut out = Vec::new();
     let budget = 1 + rng.below(10);
     choice(rng, &mut out, budget, 0);
-    if rng.once_in(4) {
+    if rng.once_in(3) {
         for _ in 0..=rng.below(2) {
             break_it(rng, &mut out);
         }
@@ -230,7 +270,7 @@ fn item(rng: &mut Rng, out: &mut Vec<u8>, budget: usize, depth: usize) {
         9 | 10 => out.push(b'.'),
         11 => out.extend([b'\\', *rng.pick(META)]),
         12 => out.extend(rng.pick(ESCAPES).bytes()),
-        13 => out.push(*rng.pick(ODD_BYTES)),
+        13 => out.push(odd_byte(rng)),
         14 => out.extend(b"\\N"),
         15..=17 => class(rng, out),
         18 => quote(rng, out, b"aabA\\\\*+?.|(){}[]^$EQ#d2 "),
@@ -242,6 +282,12 @@ fn item(rng: &mut Rng, out: &mut Vec<u8>, budget: usize, depth: usize) {
         }
         _ => out.push(*rng.pick(LETTERS)),
     }
+}
+
+/// A byte above 127, seldom a raw control byte.
+fn odd_byte(rng: &mut Rng) -> u8 {
+    let bytes = if rng.once_in(8) { RAW_BYTES } else { HIGH_BYTES };
+    *rng.pick(bytes)
 }
 
 /// Bytes in a quote, which is seldom left open.
@@ -269,7 +315,7 @@ fn class(rng: &mut Rng, out: &mut Vec<u8>) {
             0..=2 => out.push(*rng.pick(LETTERS)),
             3 => out.extend(rng.pick(ESCAPES).bytes()),
             4 => out.extend(rng.pick(&["+--", "--a", "\\x00-\\x1f", "0-9-", "!-~"]).bytes()),
-            5 => out.push(*rng.pick(ODD_BYTES)),
+            5 => out.push(odd_byte(rng)),
             6 => out.push(*rng.pick(b"[(){}.*+?|^$,:=")),
             7 => range(rng, out),
             8 | 9 => name(rng, out),
@@ -336,12 +382,14 @@ fn name(rng: &mut Rng, out: &mut Vec<u8>) {
 /// A few bytes taken out, put in or changed.
 fn break_it(rng: &mut Rng, out: &mut Vec<u8>) {
     let at = rng.below(out.len() + 1);
-    match rng.below(8) {
+    match rng.below(11) {
         0 if at < out.len() => drop(out.remove(at)),
         1 if at < out.len() => out[at] = rng.byte(),
         2 => out.insert(at, *rng.pick(META)),
         3 => out.truncate(at),
         4 | 5 => drop(out.splice(at..at, rng.pick(SPELLINGS).bytes())),
+        6 | 7 => drop(out.splice(at..at, rng.pick(RAW_SPELLINGS).bytes())),
+        8 if rng.once_in(2) => out.insert(at, *rng.pick(RAW_BYTES)),
         _ => drop(out.splice(at..at, rng.pick(NASTY).bytes())),
     }
 }

@@ -22,8 +22,8 @@ pub struct Count {
     pub calls: u64,
     pub refused_calls: u64,
     pub reports: u64,
-    /// Additions by their number, 0 to 17.
-    pub by_number: [u64; 18],
+    /// Additions by their number, 0 to 17 and 23.
+    pub by_number: [u64; 24],
 }
 
 /// Runs the cases from `first` on; the first disagreement, made smaller, is the error.

@@ -7,13 +7,13 @@ use reference::rule::check;
 
 use crate::watcher::{PatternReader, Reading};
 
-pub const BYTES: &[u8] = b"\\[]^-(){}?*+|,:.1aixdNcQE# ";
+pub const BYTES: &[u8] = b"\\[]^-(){}?*+|,:.1aixdNcQE# \t";
 
 #[derive(Clone, Debug, Default)]
 pub struct Count {
     pub patterns: u64,
-    /// Readings by their number, 0 to 16.
-    pub by_number: [u64; 17],
+    /// Readings by their number, 0 to 16 and 23.
+    pub by_number: [u64; 24],
 }
 
 /// The reading that the reference gives.

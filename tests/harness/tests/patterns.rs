@@ -1,11 +1,12 @@
-//! The random patterns hold enough of what is easily missed: named classes, quotes and comments, and
-//! blanks in braces, in all their corners, accepted and refused.
+//! The random patterns hold enough of what is easily missed: named classes, quotes and comments,
+//! blanks in braces and raw control bytes, in all their corners, accepted and refused.
 
 use std::collections::BTreeMap;
 
 use harness::patterns::pattern;
 use harness::rng::Rng;
 use reference::rule::check;
+use reference::token::is_control;
 
 fn has(pattern: &[u8], part: &str) -> bool {
     pattern.windows(part.len()).any(|window| window == part.as_bytes())
@@ -50,27 +51,46 @@ fn kinds(pattern: &[u8], number: u32, place: usize) -> Vec<&'static str> {
             kind("blanks alone", has(pattern, "{ }") || has(pattern, "{ , }")),
             kind("blank between digits", has(pattern, "{2 3}")),
         ],
-        6 => vec![kind(
-            "blank and no number",
-            from.starts_with(b"\\x{ }") || from.starts_with(b"\\x{4 1"),
-        )],
+        6 => vec![
+            kind(
+                "blank and no number",
+                from.starts_with(b"\\x{ }") || from.starts_with(b"\\x{4 1"),
+            ),
+            kind("6 before 23", from.starts_with(b"\\c\t") || from.starts_with(b"\\x{\t}")),
+        ],
+        7 => vec![kind("7 before 23", from.starts_with(b"\\o{400\t}"))],
         8 => vec![kind("open quote in a class", has(pattern, "[\\Q"))],
         9 => vec![
             kind("name at the start of a range", from.starts_with(b"[:")),
             kind("name at the end of a range", from[1..].starts_with(b"-[:")),
             kind("quoted end of a falling range", before.ends_with(b"\\Q")),
+            kind("9 before 23", from.starts_with(b"a-\t") || from.starts_with(b"\\d-\t")),
         ],
         10 => vec![
             kind("quantifier after nothing", after_nothing),
             kind("lone mark after nothing", after_nothing && b"?+".contains(&from[0])),
             kind("group that starts with nothing", before.ends_with(b"(\\E")),
             kind("quantifier with a blank", from.starts_with(b"{ ")),
+            kind("10 before 23", from.starts_with(b"{\t2}") || from.starts_with(b"{2,\t3}")),
         ],
-        11 => vec![kind("number with a blank", from.starts_with(b"{ "))],
+        11 => vec![
+            kind("number with a blank", from.starts_with(b"{ ")),
+            kind("11 before 23", from.starts_with(b"{3,\t1}") || from.starts_with(b"{\t65536}")),
+        ],
         12 => vec![kind("open comment", place == pattern.len() && has(pattern, "(?#"))],
         14 => vec![
             kind("no name of the list", from.starts_with(b"[:")),
             kind("other bracket", from.starts_with(b"[.") || from.starts_with(b"[=")),
+            kind("14 before 23", from.starts_with(b"{2\t}+") || from.starts_with(b"(?i\t)")),
+        ],
+        23 => vec![
+            kind("raw byte by itself", is_control(from[0]) && !before.ends_with(b"\\Q")),
+            kind("raw byte in a quote", is_control(from[0]) && before.ends_with(b"\\Q")),
+            kind("raw byte in an escape", from[0] == b'\\'),
+            kind("raw byte in a quantifier", from[0] == b'{'),
+            kind("raw byte in a range", from.len() > 2 && !is_control(from[0]) && from[1] == b'-'),
+            kind("raw byte in a comment", from.starts_with(b"(?#")),
+            kind("raw byte in an open comment", from.starts_with(b"(?#") && !from.contains(&b')')),
         ],
         _ => vec![],
     };
@@ -90,6 +110,6 @@ fn every_corner_comes_often() {
             *count.entry(kind).or_default() += 1;
         }
     }
-    assert_eq!(count.len(), 33, "{count:?}");
+    assert_eq!(count.len(), 46, "{count:?}");
     assert!(count.values().all(|&n| n >= 100), "{count:?}");
 }

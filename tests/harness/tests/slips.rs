@@ -8,6 +8,7 @@ use harness::play::play;
 use harness::random;
 use harness::watcher::{Answer, Change, Watcher};
 use reference::calls::{Stream, Table};
+use reference::token::is_control;
 
 #[derive(Clone, Copy, Debug, PartialEq)]
 enum Slip {
@@ -28,11 +29,14 @@ enum Slip {
     NegatesBeforeCase,
     BlanksAreBytes,
     BlanksAreNotThere,
+    PlaceOfTheRawByte,
+    RawByteBeforeLowerNumbers,
+    CommentsMayHoldAnything,
 }
 
 use Slip::*;
 
-const SLIPS: [Slip; 17] = [
+const SLIPS: [Slip; 20] = [
     PlaceOfTheMark,
     EndFaultAtTheStart,
     HalfOfAByte,
@@ -50,6 +54,9 @@ const SLIPS: [Slip; 17] = [
     NegatesBeforeCase,
     BlanksAreBytes,
     BlanksAreNotThere,
+    PlaceOfTheRawByte,
+    RawByteBeforeLowerNumbers,
+    CommentsMayHoldAnything,
 ];
 
 impl Slip {
@@ -157,6 +164,22 @@ impl Watcher for Slip {
         match (self, number) {
             (PlaceOfTheMark, 14) => (number, place + 1),
             (EndFaultAtTheStart, 12 | 15) => (number, 0),
+            (PlaceOfTheRawByte, 23) => {
+                let raw = pattern[place..].iter().position(|&byte| is_control(byte));
+                (number, place + raw.unwrap_or(0))
+            }
+            (RawByteBeforeLowerNumbers, 9 | 10)
+                if pattern[place..].iter().skip(1).take(2).any(|&byte| is_control(byte)) =>
+            {
+                (23, place)
+            }
+            (CommentsMayHoldAnything, 23) if pattern[place..].starts_with(b"(?#") => {
+                let cleaned: Vec<u8> = pattern
+                    .iter()
+                    .map(|&byte| if is_control(byte) { b'x' } else { byte })
+                    .collect();
+                Model.add(table, id, flags, &cleaned)
+            }
             (RefusedAdditionAdds, 16) => {
                 Model.add(table, id, flags, b"a");
                 (number, place)
@@ -285,11 +308,11 @@ fn the_model_agrees_with_the_definition() {
     assert!(count.accepted > 40 && count.pairs == count.accepted * (1 + 4 + 16 + 64));
     let bounds = Bounds { alphabet: SPELLING, tokens: 3, bytes: 1, part: (0, 1) };
     let count = exhaustive::run(&Model, &Model, bounds).unwrap();
-    assert_eq!(count.patterns, 1 + 15 + 15 * 15 + 15 * 15 * 15);
+    assert_eq!(count.patterns, 1 + 16 + 16 * 16 + 16 * 16 * 16);
     assert!(count.accepted > 400 && count.pairs == count.accepted * (1 + 6));
     let bounds = Bounds { alphabet: BRACES, tokens: 4, bytes: 1, part: (0, 1) };
     let count = exhaustive::run(&Model, &Model, bounds).unwrap();
-    assert_eq!(count.patterns, 1 + 8 + 8 * 8 + 8 * 8 * 8 + 8 * 8 * 8 * 8);
+    assert_eq!(count.patterns, 1 + 9 + 9 * 9 + 9 * 9 * 9 + 9 * 9 * 9 * 9);
     assert!(count.accepted > 1_000 && count.pairs == count.accepted * (1 + 4));
     random::run(&Model, 2, 0, 500).unwrap();
 }

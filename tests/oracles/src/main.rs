@@ -82,7 +82,7 @@ const LOGS: &[&[u8]] = &[
 
 /// For all patterns of up to so many tokens, whether they are accepted here and by PCRE2: a table of
 /// our number, 0 for accepted, and PCRE2's error, 0 for accepted, with the count and the first
-/// pattern of each. Our 14, 15 and 16 are left out: they are about the subset and its limits. What
+/// pattern of each. Our 14, 15, 16 and 23 are left out: they are about the subset and its limits. What
 /// both accept must have the same meaning on these logs.
 fn all_readings<T: AsRef<[u8]>>(
     alphabet: &[T],

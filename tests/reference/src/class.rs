@@ -13,6 +13,7 @@ use crate::escape::{self, Escaped};
 use crate::names;
 use crate::quote::Place;
 use crate::refusal::Refusal;
+use crate::token::lowest_fault;
 
 pub enum Class {
     Closed { set: ByteSet, end: usize },
@@ -48,15 +49,21 @@ pub fn read(pattern: &[u8], at: usize, caseless: bool) -> Result<Class, Refusal>
 }
 
 /// One token of a class: a member, or a range with both its ends. Of all faults within the token
-/// the lowest number is given, at the token's first byte.
+/// the lowest number is given, at the token's first byte. A member's own are all below 23.
 fn member_or_range(
     pattern: &[u8],
     place: Place,
     caseless: bool,
 ) -> Result<(ByteSet, Place), Refusal> {
+    let faultless = |end: usize, faults: &[u32]| match lowest_fault(&pattern[place.at..end], faults)
+    {
+        Some(number) => Err(Refusal::at(number, place.at)),
+        None => Ok(()),
+    };
     let (low, after_low) = member(pattern, place, caseless);
     let Some(high_place) = range_goes_on(pattern, after_low) else {
         let low = low.map_err(|number| Refusal::at(number, place.at))?;
+        faultless(after_low.at, &[])?;
         return Ok((set_of(low), after_low));
     };
     let (high, after) = member(pattern, high_place, caseless);
@@ -68,14 +75,17 @@ fn member_or_range(
             Ok(Member::Byte(_)) => {}
         }
     }
-    if let (Ok(Member::Byte(l)), Ok(Member::Byte(h))) = (&low, &high) {
-        if l <= h {
-            return Ok((ByteSet::of(|b| *l <= b && b <= *h), after));
+    let set = match (low, high) {
+        (Ok(Member::Byte(low)), Ok(Member::Byte(high))) => {
+            if low > high {
+                faults.push(9);
+            }
+            ByteSet::of(|b| low <= b && b <= high)
         }
-        faults.push(9);
-    }
-    let lowest = faults.into_iter().min().expect("a range that is not right has a fault");
-    Err(Refusal::at(lowest, place.at))
+        _ => ByteSet::none(),
+    };
+    faultless(after.at, &faults)?;
+    Ok((set, after))
 }
 
 /// The place of a range's other end: after a hyphen, if neither the class nor the pattern ends there.

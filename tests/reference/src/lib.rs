@@ -7,7 +7,9 @@
 //! # Reading
 //! `reader` reads tokens from left to right and stops at the first faulty one. A token is faulty in
 //! possibly several ways; all of them are collected over the whole token (a quantifier with its
-//! mark, a range with both its ends) and the lowest number is given at the token's first byte.
+//! mark, a range with both its ends) and the lowest number is given at the token's first byte. A raw
+//! control byte within the token's bytes, 23, is one of them (`token`); a comment is one token, and
+//! in a quote each byte is one.
 //! Faults known only at the end are looked at after the last token, in the order 8, 12, 15, 16, and
 //! 17 in `rule`, where the other rules are known. `rule::check` has the checks 2 to 5 before.
 //! `escape`, `class`, `names`, `quantifier` and `braces`, the numbers between braces of escapes and
@@ -69,6 +71,7 @@ pub mod quote;
 pub mod reader;
 pub mod refusal;
 pub mod rule;
+pub mod token;
 pub mod tree;
 pub mod ways;
 pub mod written;

@@ -14,6 +14,7 @@ use crate::escape::{self, Escaped};
 use crate::quantifier::{self, Quantifier};
 use crate::quote::Place;
 use crate::refusal::{Refusal, CASELESS, DOT_ALL, MAX_GROUPS, MAX_POSITIONS};
+use crate::token::lowest_fault;
 use crate::tree::{Assertion, Node};
 
 #[derive(Clone, Copy)]
@@ -113,8 +114,7 @@ impl Reader<'_> {
     fn token(&mut self) -> Result<Token, Refusal> {
         let at = self.place.at;
         if self.place.quoted {
-            self.push_byte(self.pattern[at], at + 1);
-            return Ok(Token::Whole);
+            return self.byte();
         }
         if let Some(quantifier) = quantifier::read(self.pattern, at) {
             return self.quantifier(quantifier);
@@ -122,7 +122,7 @@ impl Reader<'_> {
         match self.pattern[at] {
             b'\\' => self.escape()?,
             b'[' => return self.class(),
-            b'(' if self.pattern[at..].starts_with(b"(?#") => return Ok(self.comment()),
+            b'(' if self.pattern[at..].starts_with(b"(?#") => return self.comment(),
             b'(' => self.parenthesis()?,
             b')' => {
                 if self.frames.len() == 1 {
@@ -144,8 +144,25 @@ impl Reader<'_> {
             b'.' => self.push(Node::Item(ByteSet::not_newline()), Before::Item, at + 1),
             b'^' => self.push(Node::Assert(Assertion::Start), Before::Nothing, at + 1),
             b'$' => self.push(Node::Assert(Assertion::End), Before::Nothing, at + 1),
-            byte => self.push_byte(byte, at + 1),
+            _ => return self.byte(),
         }
+        Ok(Token::Whole)
+    }
+
+    /// The lowest fault of the token from the present place to `end`, whose form has these.
+    fn faultless(&self, end: usize, of_its_form: &[u32]) -> Result<(), Refusal> {
+        let at = self.place.at;
+        match lowest_fault(&self.pattern[at..end], of_its_form) {
+            Some(number) => Err(Refusal::at(number, at)),
+            None => Ok(()),
+        }
+    }
+
+    /// A byte that stands for itself, quoted or not.
+    fn byte(&mut self) -> Result<Token, Refusal> {
+        let at = self.place.at;
+        self.faultless(at + 1, &[])?;
+        self.push_byte(self.pattern[at], at + 1);
         Ok(Token::Whole)
     }
 
@@ -160,9 +177,7 @@ impl Reader<'_> {
         if quantifier.possessive {
             faults.push(14);
         }
-        if let Some(lowest) = faults.into_iter().min() {
-            return Err(Refusal::at(lowest, self.place.at));
-        }
+        self.faultless(quantifier.end, &faults)?;
         let item = self.innermost().sequence.pop().expect("an item stands before");
         let repeat =
             Node::Repeat { of: Box::new(item), low: quantifier.low, high: quantifier.high };
@@ -173,7 +188,10 @@ impl Reader<'_> {
     fn escape(&mut self) -> Result<(), Refusal> {
         let at = self.place.at;
         let escape = escape::read(self.pattern, at, false);
-        match escape.meaning.map_err(|number| Refusal::at(number, at))? {
+        // Its own numbers, 6, 7 and 14, come before 23.
+        let meaning = escape.meaning.map_err(|number| Refusal::at(number, at))?;
+        self.faultless(escape.end, &[])?;
+        match meaning {
             Escaped::Byte(byte) => self.push_byte(byte, escape.end),
             Escaped::Type(set) => self.push(Node::Item(set), Before::Item, escape.end),
             Escaped::NotNewline => {
@@ -194,16 +212,15 @@ impl Reader<'_> {
         }
     }
 
-    /// `(?#` and all that follows up to the first `)`. It is no group and no item.
-    fn comment(&mut self) -> Token {
+    /// `(?#` and all that follows up to the first `)`, or to the pattern's end: one token. It is no
+    /// group and no item.
+    fn comment(&mut self) -> Result<Token, Refusal> {
         let text = self.place.at + 3;
-        match self.pattern[text..].iter().position(|&byte| byte == b')') {
-            Some(length) => {
-                self.place.at = text + length + 1;
-                Token::Whole
-            }
-            None => Token::Open(12),
-        }
+        let length = self.pattern[text..].iter().position(|&byte| byte == b')');
+        let end = length.map_or(self.pattern.len(), |length| text + length + 1);
+        self.faultless(end, &[])?;
+        self.place.at = end;
+        Ok(if length.is_some() { Token::Whole } else { Token::Open(12) })
     }
 
     /// A `(`: the opening of a group, an option setting, or nothing of the subset.

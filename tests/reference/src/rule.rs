@@ -1,5 +1,5 @@
-//! A rule, and an addition's checks 2 to 17 in their order. Check 1, which is about the lent words,
-//! stands with the model of the calls.
+//! A rule, and an addition's checks 2 to 17 and 23 in their order. Check 1, which is about the lent
+//! words, stands with the model of the calls.
 
 use crate::reader;
 use crate::refusal::*;

@@ -1,12 +1,29 @@
 //! Spaces and tabs between the braces of quantifiers and of `\x{..}` and `\o{..}`: for each pattern an
-//! equal one without them, or the number and the place. A brace that is no quantifier is literal.
+//! equal one without them, or the number and the place. A brace that is no quantifier is literal. A
+//! tab is passed over like a space, and is then a raw control byte of the token, or by itself.
 
 mod readings;
 
 use readings::{equal, members, refused, rule};
 
 /// What may stand wherever a blank may.
-const BLANKS: [&str; 5] = ["", " ", "\t", "  ", "\t \t"];
+const BLANKS: [&str; 5] = ["", " ", "\t", "  ", " \t"];
+
+/// Equal to the plain pattern; with a tab, refused at the first byte of the token it lies in.
+fn equal_or_raw(pattern: &str, plain: &str, token: usize) {
+    match pattern.find('\t') {
+        None => equal(&[(pattern, plain)]),
+        Some(_) => refused(&[(pattern, 23, token)]),
+    }
+}
+
+/// Its braces are bytes; a raw control byte among them is refused by itself.
+fn literal(pattern: &str) {
+    match pattern.find(|c: char| c.is_ascii_control()) {
+        None => equal(&[(pattern, &pattern.replace('{', "\\{"))]),
+        Some(at) => refused(&[(pattern, 23, at)]),
+    }
+}
 
 /// Every way to put blanks for the `#` of a spelling.
 fn spelled(spelling: &str) -> Vec<String> {
@@ -23,38 +40,39 @@ fn spelled(spelling: &str) -> Vec<String> {
 
 #[test]
 fn quantifiers_at_every_gap() {
-    for (spelling, plain) in [
-        ("a{#2#}", "a{2}"),
-        ("a{#2#,#}", "a{2,}"),
-        ("a{#2#,#3#}", "a{2,3}"),
-        ("ab{#,#3#}", "ab{,3}"),
-        ("a{#0#,#3#}b", "a{0,3}b"),
-        ("a{#02#,#0003#}", "a{2,3}"),
-        ("a{#2#}?b", "a{2}b"),
-        ("(?:ab|c){#2#,#}?", "(?:ab|c){2,}"),
-        ("[ab]{#12#}", "[ab]{12}"),
+    for (spelling, plain, token) in [
+        ("a{#2#}", "a{2}", 1),
+        ("a{#2#,#}", "a{2,}", 1),
+        ("a{#2#,#3#}", "a{2,3}", 1),
+        ("ab{#,#3#}", "ab{,3}", 2),
+        ("a{#0#,#3#}b", "a{0,3}b", 1),
+        ("a{#02#,#0003#}", "a{2,3}", 1),
+        ("a{#2#}?b", "a{2}b", 1),
+        ("(?:ab|c){#2#,#}?", "(?:ab|c){2,}", 8),
+        ("[ab]{#12#}", "[ab]{12}", 4),
     ] {
         for pattern in spelled(spelling) {
-            equal(&[(&pattern, plain)]);
+            equal_or_raw(&pattern, plain, token);
         }
     }
 }
 
 #[test]
 fn escapes_at_every_gap() {
-    for (spelling, plain) in [
-        ("\\x{#41#}", "A"),
-        ("\\x{#0041#}b", "Ab"),
-        ("\\o{#101#}", "A"),
-        ("[\\x{#41#}-\\o{#103#}]", "[A-C]"),
-        ("\\x{#41#}{#2#}", "A{2}"),
+    for (spelling, plain, token) in [
+        ("\\x{#41#}", "A", 0),
+        ("a\\x{#0041#}b", "aAb", 1),
+        ("\\o{#101#}", "A", 0),
+        ("[b\\o{#101#}]", "[bA]", 2),
+        ("[\\x{#41#}-\\o{#103#}]", "[A-C]", 1),
     ] {
         for pattern in spelled(spelling) {
-            equal(&[(&pattern, plain)]);
+            equal_or_raw(&pattern, plain, token);
         }
     }
+    equal(&[("\\x{ 41 }{ 2 }", "A{2}")]);
     assert_eq!(members(1, "\\x{ 41 }"), b"Aa");
-    assert_eq!(members(0, "\\x{ ff\t}"), [255]);
+    assert_eq!(members(0, "\\x{ ff }"), [255]);
     assert_eq!(members(0, "\\o{ 0 }"), [0]);
 }
 
@@ -100,9 +118,7 @@ fn the_same_faults_as_without_blanks() {
 #[test]
 fn blanks_alone_are_no_number() {
     for spelling in ["{#}", "{#,#}", "a{#}", "a{#,#}", "a{#", "a{#2#", "a{#2#,#", "a{#2#,#3#"] {
-        for pattern in spelled(spelling) {
-            equal(&[(&pattern, &pattern.replace('{', "\\{"))]);
-        }
+        spelled(spelling).iter().for_each(|pattern| literal(pattern));
     }
     // The last byte is repeated, as that of any other literal text.
     equal(&[("{ }{2}", "\\{ }{2}"), ("{ , }{ 2 }", "\\{ , }{2}"), ("a{ }+", "a\\{ }+")]);
@@ -131,7 +147,7 @@ fn a_blank_between_digits_or_elsewhere() {
         "a{2\u{c},3}",
         "a{\02}",
     ] {
-        equal(&[(pattern, &pattern.replace('{', "\\{"))]);
+        literal(pattern);
     }
     refused(&[
         ("\\x{4 1}", 6, 0),

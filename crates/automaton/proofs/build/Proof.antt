@@ -5,7 +5,7 @@ use native.Mathlib.Omega.{arith}
 use Rattle.regex.specs.Form.{write, positions}
 use Rattle.regex.specs.Count.{capped, saturating}
 use Rattle.regex.proofs.Counted.{saturated}
-use Rattle.pattern.specs.Nodes.{Syntax, treeAt}
+use Rattle.nodes.specs.Nodes.{Syntax, treeAt}
 use Rattle.automaton.proofs.Padded.{parts-none, parts-whole}
 use Rattle.automaton.proofs.build.Statement.{statement}
 use Rattle.automaton.proofs.build.Tie as tie

@@ -4,8 +4,7 @@ use mathlib.Core.Path.{sym, _∙_}
 use Prim.Native.Nat.{_-_}
 use native.Mathlib.Omega.{arith}
 use lib.ListN.{length}
-use Rattle.atoms.proofs.Ranges.{mark-inside}
-use Rattle.atoms.proofs.Gaps.{Passed, passed-none, passed-more, passed-done}
+use Rattle.atoms.proofs.Gaps.{mark-inside, Passed, passed-none, passed-more, passed-done}
 use Rattle.atoms.proofs.quote.gap_at.Statement.{statement}
 use Rattle.atoms.proofs.quote.gap_at.Tie as tie
 

@@ -13,7 +13,7 @@ use Rattle.pattern.proofs.items.quantified.Reads as quantified
 use Rattle.pattern.proofs.items.quantified.Kinds as quantified-kinds
 use Rattle.pattern.proofs.items.+quantified.Lts-quantified as quantified-lts
 use Rattle.pattern.proofs.items.refuse.Reads as refuse-reads
-use Rattle.pattern.proofs.nodes.put.Reads as put-reads
+use Rattle.pattern.proofs.writer.put.Reads as put-reads
 use Rattle.tokens.proofs.token_at.Reads as token-at-reads
 use Rattle.pattern.proofs.items.+quantified.{statement}
 use Rattle.pattern.proofs.items.+quantified.Tie.{close}
