@@ -14,8 +14,9 @@ use Rattle.sets.proofs.Laws.{has-setOf, setOf-ext, any-ext}
 use Rattle.sets.proofs.Digits.{wordOf-ext}
 use Rattle.table.specs.Layout.{maxPositions}
 use Rattle.table.specs.Automaton.{Automaton}
+use Rattle.steps.specs.Step.{starts, stepped, ends, endsAtEnd}
 use Rattle.stream.specs.declared.Stream.{Stream}
-use Rattle.stream.specs.Byte.{starts, nextLive, ends, endsAtEnd, runIds, runMarks, byteIds, byteState, stateAfter, idsOf, endsOf, fits, closeIds}
+use Rattle.stream.specs.Byte.{nextLive, runIds, runMarks, byteIds, byteState, stateAfter, idsOf, endsOf, fits, closeIds}
 
 -- what the two say of the rules and positions that they have
 pub record Agree (w v : Automaton) : Type 0 where
@@ -51,7 +52,7 @@ module _ (w v : Automaton) (same : Agree w v) where
   Inside s = (q : ℕ) → q < maxPositions → has (s .live) q ≡ true → q < w .positions
 
   next-agrees : (s : Stream) (x : ℕ) → x < 256 → nextLive w s x ≡ nextLive v s x
-  unfolding nextLive starts
+  unfolding stepped starts
   next-agrees s x small =
       setOf-ext _ _ (λ q lt. below (w .positions) (v .positions) q _ _ (same .positions) (λ l.
       ap₂ _&&_ (same .takes x q small l)
@@ -59,17 +60,17 @@ module _ (w v : Automaton) (same : Agree w v) where
       (any-ext maxPositions _ _ (λ p m. ap (λ (b : Bool). has (s .live) p && b) (same .follow p q l))))))
 
   next-inside : (s : Stream) (x q : ℕ) → q < maxPositions → has (nextLive w s x) q ≡ true → q < w .positions
-  unfolding nextLive
+  unfolding stepped
   next-inside s x q lt h = go (decLt q (w .positions))
     where
       f : ℕ → Bool
-      f q = ltb q (w .positions) && (w .takes x q && (starts w s q || any maxPositions (λ p. has (s .live) p && w .follow p q)))
+      f q = ltb q (w .positions) && (w .takes x q && (starts w (s .taken) q || any maxPositions (λ p. has (s .live) p && w .follow p q)))
 
       go : Dec (q < w .positions) → q < w .positions
       go (yes l) = l
       go (no ge) =
           absurd (mathlib.Core.Bool.true≢false (sym h ∙ has-setOf f q lt
-          ∙ ap (λ (b : Bool). b && (w .takes x q && (starts w s q || any maxPositions (λ p. has (s .live) p && w .follow p q)))) (le-ltb q (w .positions) (omega arith))))
+          ∙ ap (λ (b : Bool). b && (w .takes x q && (starts w (s .taken) q || any maxPositions (λ p. has (s .live) p && w .follow p q)))) (le-ltb q (w .positions) (omega arith))))
 
   module _ (live : List ℕ) (inside : (q : ℕ) → q < maxPositions → has live q ≡ true → q < w .positions) (a : ℕ) (lt : a < w .rules) where
     ends-agrees : ends w live a ≡ ends v live a

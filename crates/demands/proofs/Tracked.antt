@@ -15,8 +15,9 @@ use Rattle.sets.proofs.Laws.{has-setOf, has-empty, any-at, any-some, on-zero}
 use Rattle.sets.proofs.Digits.{on-wordOf}
 use Rattle.table.specs.Layout.{maxPositions}
 use Rattle.table.specs.Automaton.{Automaton, single}
+use Rattle.steps.specs.Step.{starts, stepped, ends, endsAtEnd}
 use Rattle.stream.specs.declared.Stream.{Stream}
-use Rattle.stream.specs.Byte.{starts, nextLive, ends, endsAtEnd, runMarks, byteState, stateAfter}
+use Rattle.stream.specs.Byte.{nextLive, runMarks, byteState, stateAfter}
 use Rattle.regex.specs.Form.{Form, Match, Reach, positions}
 use Rattle.regex.specs.Live.{Reached}
 use Rattle.regex.specs.Gap.{no-bytes}
@@ -106,7 +107,7 @@ module _ (w : Automaton) (rule : ℕ → Rule) (from : ℕ → ℕ) (tab : ℕ �
     x = getD bytes k 0
 
     starts-is : (a q : ℕ) → a < w .rules → Within (from a) (rule a) q
-        → T (starts w s q) ↔ First (world (no-bytes (take k bytes)) false) (formOf (rule a)) (from a) q
+        → T (starts w (s .taken) q) ↔ First (world (no-bytes (take k bytes)) false) (formOf (rule a)) (from a) q
     unfolding starts
     starts-is a q lt i =
         subst (λ (n : ℕ). T (cond (eqb n 0) (w .firstAtStart q) (w .first q)) ↔ First (world (no-bytes (take k bytes)) false) (formOf (rule a)) (from a) q)
@@ -121,14 +122,14 @@ module _ (w : Automaton) (rule : ℕ → Rule) (from : ℕ → ℕ) (tab : ℕ �
 
     live-is : (a : ℕ) → a < w .rules → (q : ℕ) → Within (from a) (rule a) q
         → T (has (nextLive w s x) q) ↔ Reached (stream (take (suc k) bytes) false) (formOf (rule a)) (from a) q (suc k)
-    unfolding nextLive
+    unfolding stepped
     live-is a lt q i =
         let f : Form ByteSet Assertion = formOf (rule a) in
         let b : ℕ = from a in
         let inside : q < w .positions = omega (arith, i .1, enc .inside a lt) in
         let comes : ℕ → Bool = λ p. has (s .live) p && w .follow p q in
-        let member : has (nextLive w s x) q ≡ (ltb q (w .positions) && (w .takes x q && (starts w s q || any maxPositions comes))) =
-        has-setOf (λ q. ltb q (w .positions) && (w .takes x q && (starts w s q || any maxPositions (λ p. has (s .live) p && w .follow p q)))) q
+        let member : has (nextLive w s x) q ≡ (ltb q (w .positions) && (w .takes x q && (starts w (s .taken) q || any maxPositions comes))) =
+        has-setOf (λ q. ltb q (w .positions) && (w .takes x q && (starts w (s .taken) q || any maxPositions (λ p. has (s .live) p && w .follow p q)))) q
         (omega (arith, enc .few-positions)) in
         let step = base-next tab f b (enc .takes a lt) (take k bytes) x false false q in
         let len : length (take k bytes) ≡ k = length-take-le k bytes (omega arith) in
@@ -138,11 +139,11 @@ module _ (w : Automaton) (rule : ℕ → Rule) (from : ℕ → ℕ) (tab : ℕ �
         let of : Reached (stream (take (suc k) bytes) false) f b q (suc k) → Reached (stream (take k bytes ++ x ∷ []) false) f b q (suc (length (take k bytes))) =
         λ h. subst₂ (λ (l : List ℕ) (n : ℕ). Reached (stream l false) f b q (suc n)) more (sym len) h in (
           λ h.
-              let g = and-T (ltb q (w .positions)) (w .takes x q && (starts w s q || any maxPositions comes)) .0 (subst T member h) in
-              let c = and-T (w .takes x q) (starts w s q || any maxPositions comes) .0 (g .1) in
+              let g = and-T (ltb q (w .positions)) (w .takes x q && (starts w (s .taken) q || any maxPositions comes)) .0 (subst T member h) in
+              let c = and-T (w .takes x q) (starts w (s .taken) q || any maxPositions comes) .0 (g .1) in
               to (step .1 (
                 enc .takes-is q x inside small .0 (c .0),
-                elim (or-T (starts w s q) (any maxPositions comes) .0 (c .1)) [
+                elim (or-T (starts w (s .taken) q) (any maxPositions comes) .0 (c .1)) [
                   | inl y ↦ inl (starts-is a q lt i .0 y)
                   | inr y ↦
                       let p = any-T maxPositions comes .0 y in
@@ -158,7 +159,7 @@ module _ (w : Automaton) (rule : ℕ → Rule) (from : ℕ → ℕ) (tab : ℕ �
               )),
           λ h.
               let g = step .0 (of h) in
-              let came : T (starts w s q || any maxPositions comes) = or-T (starts w s q) (any maxPositions comes) .1 (elim (g .1) [
+              let came : T (starts w (s .taken) q || any maxPositions comes) = or-T (starts w (s .taken) q) (any maxPositions comes) .1 (elim (g .1) [
                 | inl y ↦ inl (starts-is a q lt i .1 y)
                 | inr y ↦
                     let j = follow-inside (world false false) f b (y .0) q (y .2) in
@@ -170,18 +171,18 @@ module _ (w : Automaton) (rule : ℕ → Rule) (from : ℕ → ℕ) (tab : ℕ �
                       and-T (has (s .live) (y .0)) (w .follow (y .0) q) .1 (on-live, enc .follow-is a (y .0) q lt (omega (arith, j .1, enc .inside a lt)) i .1 (y .2)),
                     ))
               ]) in
-              let taking : T (w .takes x q && (starts w s q || any maxPositions comes)) =
-              and-T (w .takes x q) (starts w s q || any maxPositions comes) .1 (enc .takes-is q x inside small .1 (g .0), came) in
+              let taking : T (w .takes x q && (starts w (s .taken) q || any maxPositions comes)) =
+              and-T (w .takes x q) (starts w (s .taken) q || any maxPositions comes) .1 (enc .takes-is q x inside small .1 (g .0), came) in
               subst T (sym member)
-              (and-T (ltb q (w .positions)) (w .takes x q && (starts w s q || any maxPositions comes)) .1 (lt→ltb q (w .positions) inside, taking)),
+              (and-T (ltb q (w .positions)) (w .takes x q && (starts w (s .taken) q || any maxPositions comes)) .1 (lt→ltb q (w .positions) inside, taking)),
         )
 
     next-inside : (q : ℕ) → q < maxPositions → T (has (nextLive w s x) q) → q < w .positions
-    unfolding nextLive
+    unfolding stepped
     next-inside q lq h =
         ltb→lt q (w .positions)
-        (and-T (ltb q (w .positions)) (w .takes x q && (starts w s q || any maxPositions (λ p. has (s .live) p && w .follow p q))) .0
-        (subst T (has-setOf (λ q. ltb q (w .positions) && (w .takes x q && (starts w s q || any maxPositions (λ p. has (s .live) p && w .follow p q)))) q lq) h) .0)
+        (and-T (ltb q (w .positions)) (w .takes x q && (starts w (s .taken) q || any maxPositions (λ p. has (s .live) p && w .follow p q))) .0
+        (subst T (has-setOf (λ q. ltb q (w .positions) && (w .takes x q && (starts w (s .taken) q || any maxPositions (λ p. has (s .live) p && w .follow p q)))) q lq) h) .0)
 
     pub goes-on : Alive (suc k) (byteState w s x)
     unfolding byteState

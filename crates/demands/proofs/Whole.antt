@@ -11,8 +11,9 @@ use lib.Dec.{T, T-not, not-T}
 use lib.ListN.{length, getD}
 use Rattle.sets.specs.Set.{on}
 use Rattle.table.specs.Automaton.{Automaton, single}
+use Rattle.steps.specs.Step.{ends, endsAtEnd}
 use Rattle.stream.specs.declared.Stream.{Stream}
-use Rattle.stream.specs.Byte.{nextLive, ends, endsAtEnd, due, runIds, byteIds, byteState, stateAfter, closeIds}
+use Rattle.stream.specs.Byte.{nextLive, due, runIds, byteIds, byteState, stateAfter, closeIds}
 use Rattle.regex.specs.Rule.{Rule, ByteSet}
 use Rattle.regex.specs.Ordered.{closing-moment, Settled, Falls, Hides, Stays, Entry, entry, Before, Rising, Owed, IsList}
 use Rattle.regex.proofs.Logic.{and-T}

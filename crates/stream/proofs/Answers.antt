@@ -3,9 +3,8 @@
 use mathlib.Core.Path.{_≡_, refl, sym, ap, ap₂, _∙_}
 use mathlib.Core.Bool.{Bool, true, false, cond, not, _&&_}
 use mathlib.Core.List.{List, _++_}
-use Prim.Native.Nat.{ℕ, zero, suc, _+_, _-_, _^_, _<_, _≤_}
+use Prim.Native.Nat.{ℕ, zero, suc, _+_, _≤_}
 use native.Mathlib.Omega.{arith}
-use lib.Bits.{bitAnd}
 use lib.Dec.{eqb, leb}
 use lib.ListN.{length, getD, replicate}
 use borrow.Author.Tests.{eq-eqb, ne-eqb}
@@ -13,15 +12,13 @@ use Rattle.sets.specs.Set.{on}
 use Rattle.table.specs.Layout.{maxRules, rulesOf, positionsOf}
 use Rattle.table.specs.Table.{isTable}
 use Rattle.table.specs.Automaton.{Automaton, automaton}
+use Rattle.steps.specs.Step.{stepped, ends, endsAtEnd, rulesWhere}
+use Rattle.steps.proofs.Members.{on-places}
 use Rattle.stream.specs.declared.Stream.{Stream}
-use Rattle.stream.specs.Byte.{nextLive, ends, endsAtEnd, runIds, runMarks, byteIds, byteState, stateAfter, idsOf, endsOf, fits, closeIds}
+use Rattle.stream.specs.Byte.{nextLive, runIds, runMarks, byteIds, byteState, stateAfter, idsOf, endsOf, fits, closeIds}
 use Rattle.stream.specs.Calls.{fresh, opened, space, scanNumber, closeNumber, takenBy, written, scanned, scannedIds, scannedOffsets, shut, closed, closedIds, closedOffsets}
 use Rattle.stream.specs.Invariants.{stateOf, Wrote, Ran}
-use Rattle.stream.proofs.Members.{placesBelow, places-small, on-without}
-use Rattle.stream.proofs.TableSets.{meeting}
 use Rattle.stream.proofs.Runs.{run-ext}
-use Rattle.stream.proofs.Steps.{next-parts}
-use Rattle.stream.proofs.Turns.{ends-word, ends-at-end-word}
 use Rattle.stream.proofs.Blocks.{taken-after, rules-after, positions-after, closed-after}
 
 -- ---- the parts of a state that count
@@ -33,7 +30,7 @@ byte-live w s x = refl
 -- one byte
 module _ (w : Automaton) (s z : Stream) (live : s .live ≡ z .live) (marks : s .reported ≡ z .reported) (taken : s .taken ≡ z .taken) (x : ℕ) where
   next-alike : nextLive w s x ≡ nextLive w z x
-  next-alike = next-parts w s x ∙ ap₂ (λ (l : List ℕ) (n : ℕ). nextLive w (stateOf l 0 n) x) live taken ∙ sym (next-parts w z x)
+  next-alike = ap₂ (λ (l : List ℕ) (n : ℕ). stepped w (w .positions) l n x) live taken
 
   marks-alike : byteState w s x .reported ≡ byteState w z x .reported
   unfolding byteState
@@ -166,14 +163,6 @@ module _ (t : List ℕ) (s : Stream) (block ids offsets : List ℕ) (number : �
 
 -- ---- closing
 
--- the rules that need the stream's end, as a word
-pub closing-word : (t live : List ℕ) (a : ℕ) → rulesOf t ≤ maxRules → a < rulesOf t
-    → on (bitAnd (placesBelow (rulesOf t) (meeting t live 8)) (2 ^ 64 - 1 - placesBelow (rulesOf t) (meeting t live 4))) a
-    ≡ (endsAtEnd (automaton t) live a && not (ends (automaton t) live a))
-closing-word t live a few h =
-    on-without (placesBelow (rulesOf t) (meeting t live 8)) (placesBelow (rulesOf t) (meeting t live 4)) a (places-small (meeting t live 4) (rulesOf t)) (omega arith)
-    ∙ ap₂ (λ (x y : Bool). x && not y) (ends-at-end-word t live a few h) (ends-word t live a few h)
-
 module _ (t : List ℕ) (s : Stream) (ids offsets : List ℕ) (number : ℕ) (is : number ≡ closeNumber t s (space ids offsets)) where
   -- a refused closing gives its number and leaves all else
   module _ (refused : number ≡ 0 → ⊥) where
@@ -193,14 +182,20 @@ module _ (t : List ℕ) (s : Stream) (ids offsets : List ℕ) (number : ℕ) (is
     close-refused-offsets = sym (rw kept-test)
 
   -- an accepted closing gives its run and sets the mark
-  module _ (accepted : number ≡ 0) (found : ℕ) (same : (a : ℕ) → a < rulesOf t → on found a ≡ (endsAtEnd (automaton t) (s .live) a && not (ends (automaton t) (s .live) a)))
+  module _ (accepted : number ≡ 0) (few : rulesOf t ≤ maxRules) (found : ℕ)
+      (found-is : found ≡ rulesWhere (automaton t) (λ a. endsAtEnd (automaton t) (s .live) a && not (ends (automaton t) (s .live) a)))
       (reports marks : ℕ) (ids′ offsets′ : List ℕ) (wrote : Wrote (automaton t) (on found) (s .reported) (s .taken) ids offsets reports marks ids′ offsets′) where
     shut-now : eqb (closeNumber t s (space ids offsets)) 0 ≡ true
     shut-now = eq-eqb (closeNumber t s (space ids offsets)) 0 (sym is ∙ accepted)
 
     run-is : runIds (automaton t) (on found) (s .reported) (automaton t .rules) ≡ closeIds (automaton t) s
     unfolding closeIds automaton
-    run-is = run-ext (automaton t) (on found) (λ a. endsAtEnd (automaton t) (s .live) a && not (ends (automaton t) (s .live) a)) (s .reported) (rulesOf t) same
+    run-is =
+        run-ext (automaton t) (on found) needs (s .reported) (rulesOf t)
+        (λ a h. ap (λ (x : ℕ). on x a) found-is ∙ on-places needs (rulesOf t) a h (omega arith))
+      where
+        needs : ℕ → Bool
+        needs a = endsAtEnd (automaton t) (s .live) a && not (ends (automaton t) (s .live) a)
 
     pub close-accepted : record { number = 0; reports = reports; stream = shut s } ≡ closed t s ids offsets
     unfolding closed

@@ -14,8 +14,9 @@ use lib.ListN.{length, getD, drop, replicate, length-append, length-replicate, L
 use lib.Seq.{getD-drop, drop-append-seam}
 use borrow.Author.Tests.{le-leb, lt-leb, leb-true, leb-false}
 use Rattle.table.specs.Automaton.{Automaton}
+use Rattle.steps.specs.Step.{ends}
 use Rattle.stream.specs.declared.Stream.{Stream}
-use Rattle.stream.specs.Byte.{nextLive, ends, byteIds, byteState, stateAfter, idsOf, endsOf, fits}
+use Rattle.stream.specs.Byte.{nextLive, byteIds, byteState, stateAfter, idsOf, endsOf, fits}
 use Rattle.stream.proofs.Runs.{run-few}
 
 module _ (w : Automaton) (s : Stream) (block : List ℕ) where

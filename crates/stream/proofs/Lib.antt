@@ -1,12 +1,6 @@
--- The laws of the calls on a stream: Bounds (numbers that fit), Members (words by their digits), TableSets (sets and flags in a table's words), Steps (one
--- byte), Runs (one run of reports), Blocks (some bytes), Turns (the scanning loop), Accepting (when a call is accepted), Answers (what it gives), Results (what
--- callers may count on), Local (only the first 4,096 words count).
+-- The laws of the calls on a stream: Bounds (numbers that fit), Runs (one run of reports), Blocks (some bytes), Turns (the scanning loop), Accepting (when a call is
+-- accepted), Answers (what it gives), Results (what callers may count on), Local (only the first 4,096 words count).
 pub mod Bounds
-pub mod Members
-pub mod TableSets
-pub mod Asked
-pub mod Steps
-pub mod Walked
 pub mod Runs
 pub mod Blocks
 pub mod Turns

@@ -14,13 +14,14 @@ use Rattle.sets.proofs.Laws.{has-setOf, has-empty, any-none, any-never, count-n
 use Rattle.table.specs.Layout.{maxPositions, rulesOf, positionsOf}
 use Rattle.table.specs.Table.{isTable}
 use Rattle.table.specs.Automaton.{Automaton, automaton, single}
+use Rattle.steps.specs.Step.{starts, stepped, ends}
+use Rattle.steps.proofs.Members.{not-below}
 use Rattle.stream.specs.declared.Stream.{Stream}
 use Rattle.stream.specs.declared.Scanned.{Scanned}
 use Rattle.stream.specs.declared.Closed.{Closed}
-use Rattle.stream.specs.Byte.{starts, nextLive, ends, runMarks, byteState, stateAfter, idsOf, closeIds}
+use Rattle.stream.specs.Byte.{nextLive, runMarks, byteState, stateAfter, idsOf, closeIds}
 use Rattle.stream.specs.Valid.{streamLimit, sameCounts, liveInside, marksSingle, underLimit, valid}
 use Rattle.stream.specs.Calls.{fresh, opened, space, scanNumber, closeNumber, takenBy, scanned, shut, closed, busyOf}
-use Rattle.stream.proofs.Members.{not-below}
 use Rattle.stream.proofs.Blocks.{fits-le, one-fits, taken-after, rules-after, positions-after}
 use Rattle.stream.proofs.Accepting.{Fitting, fitted, Accepted, accepted, close-number}
 
@@ -54,13 +55,13 @@ opened-valid t e =
 
 -- a live set is kept below the count
 inside-next : (w : Automaton) (s : Stream) (x : ℕ) → liveInside w (byteState w s x) ≡ true
-unfolding liveInside byteState nextLive
+unfolding liveInside byteState stepped
 inside-next w s x =
     ap not (any-never maxPositions (λ q. has (setOf takers) q && leb (w .positions) q)
     (λ q h. ap₂ (λ (a b : Bool). a && b) (has-setOf takers q h) (sym (not-below q (w .positions))) ∙ apart (ltb q (w .positions)) (rest q)))
   where
     rest : ℕ → Bool
-    rest q = w .takes x q && (starts w s q || any maxPositions (λ p. has (s .live) p && w .follow p q))
+    rest q = w .takes x q && (starts w (s .taken) q || any maxPositions (λ p. has (s .live) p && w .follow p q))
 
     takers : ℕ → Bool
     takers q = ltb q (w .positions) && rest q

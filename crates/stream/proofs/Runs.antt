@@ -19,10 +19,11 @@ use Rattle.sets.specs.Set.{on, asOne, count}
 use Rattle.sets.proofs.Digits.{on-or, on-and, on-wordOf, wordOf-ext, wordOf-lt, ones-count, count-ext, count-le}
 use Rattle.table.specs.Automaton.{Automaton, single}
 use Rattle.table.proofs.Rows.{under}
+use Rattle.steps.specs.Step.{rulesWhere}
+use Rattle.steps.proofs.Members.{word-is, on-places-past, on-without, count-below}
 use Rattle.stream.specs.Byte.{due, runIds, runMarks}
 use Rattle.stream.specs.Calls.{written}
 use Rattle.stream.specs.Invariants.{Wrote}
-use Rattle.stream.proofs.Members.{placesBelow, word-is, on-places-past, on-without, count-below}
 
 -- ---- the ids
 
@@ -123,7 +124,7 @@ wrote-none w f marks end ids offsets h e =
 -- ---- in words
 
 -- the marks gain the single-match rules that end
-pub marks-words : (w : Automaton) (ending marks : ℕ) → marks < 2 ^ 64 → bitOr marks (bitAnd ending (placesBelow (w .rules) (single w))) ≡ runMarks w (on ending) marks
+pub marks-words : (w : Automaton) (ending marks : ℕ) → marks < 2 ^ 64 → bitOr marks (bitAnd ending (rulesWhere w (single w))) ≡ runMarks w (on ending) marks
 unfolding runMarks
 marks-words w ending marks h =
     word-is (bitOr marks (bitAnd ending singles)) (λ a. on marks a || (ltb a (w .rules) && (single w a && on ending a)))
@@ -134,7 +135,7 @@ marks-words w ending marks h =
     ∙ and-comm (on ending a) (ltb a (w .rules) && single w a) ∙ and-assoc (ltb a (w .rules)) (single w a) (on ending a)))
   where
     singles : ℕ
-    singles = placesBelow (w .rules) (single w)
+    singles = rulesWhere w (single w)
 
 -- the rules that end and have no mark are counted by their digits
 pub due-ones : (ending marks : ℕ) → ending < 2 ^ 64 → marks < 2 ^ 64 → ones (bitAnd ending (2 ^ 64 - 1 - marks)) ≡ count 64 (λ a. on ending a && not (on marks a))
@@ -149,12 +150,12 @@ due-digit ending marks a h l =
     ap (λ (x : ℕ). eqb x 1) (and-mask (bitAnd ending (2 ^ 64 - 1 - marks) / 2 ^ a) 1) ∙ on-without ending marks a h l
 
 -- and are as many as the run has ids, where no other rule ends
-pub due-count : (w : Automaton) (f : ℕ → Bool) (marks n : ℕ) → n ≤ 64
-    → count 64 (λ a. on (placesBelow n f) a && not (on marks a)) ≡ length (runIds w (on (placesBelow n f)) marks n)
-due-count w f marks n h =
-    count-below n 64 (λ a. on (placesBelow n f) a && not (on marks a)) h
-    (λ a l m. ap (λ (b : Bool). b && not (on marks a)) (on-places-past f n a l m))
-    ∙ sym (run-count w (on (placesBelow n f)) marks n)
+pub due-count : (w : Automaton) (f : ℕ → Bool) (marks : ℕ) → w .rules ≤ 64
+    → count 64 (λ a. on (rulesWhere w f) a && not (on marks a)) ≡ length (runIds w (on (rulesWhere w f)) marks (w .rules))
+due-count w f marks h =
+    count-below (w .rules) 64 (λ a. on (rulesWhere w f) a && not (on marks a)) h
+    (λ a l m. ap (λ (b : Bool). b && not (on marks a)) (on-places-past f (w .rules) a l m))
+    ∙ sym (run-count w (on (rulesWhere w f)) marks (w .rules))
 
 -- ---- the writer's loop
 

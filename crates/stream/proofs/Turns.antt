@@ -7,59 +7,40 @@ use mathlib.Core.List.{List, [], _++_, append-nil, append-assoc}
 use Prim.Native.Nat.{ℕ, zero, suc, _+_, _-_, _^_, _<_, _≤_, zero-le}
 use native.Mathlib.Nat.{add-zero, le-refl}
 use native.Mathlib.Omega.{arith}
-use lib.Dec.{ltb}
 use lib.ListN.{length, getD, take, drop, replicate, length-take, length-drop, length-append, length-replicate, drop-of-length-le}
 use lib.Seq.{drop-drop, drop-at, take-at, take-all}
 use borrow.Rule.Slice.PartMut.{putMid}
 use borrow.Author.Count.{below-more}
 use borrow.Author.Tests.{lt-ltb, le-ltb, ltb-true, ltb-false}
 use Rattle.sets.specs.Set.{on, has, any, count, emptySet}
-use Rattle.sets.proofs.Laws.{has-setOf, has-empty, any-none, any-ext, any-never}
-use Rattle.table.specs.Layout.{maxRules, maxPositions, rulesOf, lastAt, lastAtEndAt, rowHas}
-use Rattle.table.specs.Automaton.{Automaton, automaton}
+use Rattle.sets.proofs.Laws.{has-setOf, has-empty, any-none, any-never}
+use Rattle.table.specs.Layout.{maxPositions}
+use Rattle.table.specs.Automaton.{Automaton}
+use Rattle.steps.specs.Step.{stepped, ends, lastsOf, rulesWhere}
+use Rattle.steps.proofs.Members.{on-places}
 use Rattle.stream.specs.declared.Stream.{Stream}
-use Rattle.stream.specs.Byte.{nextLive, ends, endsAtEnd, runIds, runMarks, byteIds, byteState, stateAfter, idsOf, endsOf}
+use Rattle.stream.specs.Byte.{nextLive, runIds, runMarks, byteIds, byteState, stateAfter, idsOf, endsOf}
 use Rattle.stream.specs.Calls.{space, written}
-use Rattle.stream.specs.Invariants.{stateOf, Wrote, Delivered, Skipped, Ran}
-use Rattle.stream.proofs.Members.{placesBelow, on-places}
-use Rattle.stream.proofs.TableSets.{meeting, lastsBelow}
+use Rattle.stream.specs.Invariants.{Wrote, Delivered, Skipped, Ran}
 use Rattle.stream.proofs.Runs.{run-ext, run-none, marks-none, marks-small, due-count, wrote-ext, wrote-none}
-use Rattle.stream.proofs.Steps.{next-parts}
 use Rattle.stream.proofs.Blocks.{state-more, ids-more, ends-more, taken-after, ends-count, fits-le, fits-is}
 
--- ---- the rules that end, as a word
-
--- the rules below the count that a live set meets in their last sets are those that end
-pub ends-word : (t live : List ℕ) (a : ℕ) → rulesOf t ≤ maxRules → a < rulesOf t → on (placesBelow (rulesOf t) (meeting t live 4)) a ≡ ends (automaton t) live a
-unfolding ends automaton
-ends-word t live a few h =
-    on-places (meeting t live 4) (rulesOf t) a h (omega arith)
-    ∙ any-ext maxPositions (λ p. has live p && rowHas t (lastAt a) p) (λ p. has live p && (ltb a maxRules && rowHas t (lastAt a) p))
-    (λ p l. ap (λ (b : Bool). has live p && (b && rowHas t (lastAt a) p)) (sym (lt-ltb a maxRules (omega arith))))
-
--- and in their last sets at the stream's end, those that end there
-pub ends-at-end-word : (t live : List ℕ) (a : ℕ) → rulesOf t ≤ maxRules → a < rulesOf t → on (placesBelow (rulesOf t) (meeting t live 8)) a ≡ endsAtEnd (automaton t) live a
-unfolding endsAtEnd automaton
-ends-at-end-word t live a few h =
-    on-places (meeting t live 8) (rulesOf t) a h (omega arith)
-    ∙ any-ext maxPositions (λ p. has live p && rowHas t (lastAtEndAt a) p) (λ p. has live p && (ltb a maxRules && rowHas t (lastAtEndAt a) p))
-    (λ p l. ap (λ (b : Bool). has live p && (b && rowHas t (lastAtEndAt a) p)) (sym (lt-ltb a maxRules (omega arith))))
+-- ---- the rules that end
 
 -- the gate: a set that does not meet the union of the last sets ends no rule
-pub gate : (t live : List ℕ) (a : ℕ) → a < rulesOf t → any maxPositions (λ q. has live q && has (lastsBelow t (rulesOf t)) q) ≡ false → ends (automaton t) live a ≡ false
-unfolding ends automaton
-gate t live a h e =
-    any-never maxPositions (λ p. has live p && (ltb a maxRules && rowHas t (lastAt a) p))
-    (λ p l. shut (has live p) (ltb a maxRules) (rowHas t (lastAt a) p)
-    (λ x. any-none (rulesOf t) (λ a. rowHas t (lastAt a) p)
-    (sym (has-setOf (λ p. any (rulesOf t) (λ a. rowHas t (lastAt a) p)) p l)
-    ∙ sym (ap (λ (b : Bool). b && has (lastsBelow t (rulesOf t)) p) x)
-    ∙ any-none maxPositions (λ q. has live q && has (lastsBelow t (rulesOf t)) q) e p l) a h))
+pub gate : (w : Automaton) (live : List ℕ) (a : ℕ) → a < w .rules → any maxPositions (λ q. has live q && has (lastsOf w) q) ≡ false → ends w live a ≡ false
+unfolding ends lastsOf
+gate w live a h e =
+    any-never maxPositions (λ p. has live p && w .last a p)
+    (λ p l. shut (has live p) (w .last a p)
+    (λ x. any-none (w .rules) (λ a. w .last a p)
+    (sym (has-setOf (λ p. any (w .rules) (λ a. w .last a p)) p l)
+    ∙ sym (ap (λ (b : Bool). b && has (lastsOf w) p) x)
+    ∙ any-none maxPositions (λ q. has live q && has (lastsOf w) q) e p l) a h))
   where
-    shut : (x y z : Bool) → (x ≡ true → z ≡ false) → (x && (y && z)) ≡ false
-    shut true true z f = f refl
-    shut true false z f = refl
-    shut false y z f = refl
+    shut : (x z : Bool) → (x ≡ true → z ≡ false) → (x && z) ≡ false
+    shut true z f = f refl
+    shut false z f = refl
 
 pub ends-empty : (w : Automaton) (a : ℕ) → ends w emptySet a ≡ false
 unfolding ends
@@ -67,53 +48,47 @@ ends-empty w a = any-never maxPositions (λ p. has emptySet p && w .last a p) (�
 
 -- ---- one byte's run
 
-module _ (t live : List ℕ) (marks end : ℕ) (ids offsets : List ℕ) (few : rulesOf t ≤ maxRules) (small : marks < 2 ^ 64) where
+module _ (w : Automaton) (live : List ℕ) (marks end : ℕ) (ids offsets : List ℕ) (few : w .rules ≤ 64) (small : marks < 2 ^ 64) where
   -- a live set that does not meet the last sets ends no rule
-  pub delivered-none : (last : List ℕ) → last ≡ lastsBelow t (rulesOf t) → any maxPositions (λ q. has live q && has last q) ≡ false
-      → Delivered (automaton t) live marks end ids offsets false 0 marks ids offsets
-  unfolding automaton
+  pub delivered-none : (last : List ℕ) → last ≡ lastsOf w → any maxPositions (λ q. has live q && has last q) ≡ false
+      → Delivered w live marks end ids offsets false 0 marks ids offsets
   delivered-none last is shut =
-      let none : ((a : ℕ) → a < rulesOf t → ends (automaton t) live a ≡ false) =
-      λ a l. gate t live a l (ap (λ (x : List ℕ). any maxPositions (λ q. has live q && has x q)) (sym is) ∙ shut) in
+      let none : ((a : ℕ) → a < w .rules → ends w live a ≡ false) =
+      λ a l. gate w live a l (ap (λ (x : List ℕ). any maxPositions (λ q. has live q && has x q)) (sym is) ∙ shut) in
       record {
-        full-if = sym (le-ltb (space ids offsets) (length (runIds (automaton t) (ends (automaton t) live) marks (rulesOf t))) (omega (arith, ap length (run-none (automaton t) (ends (automaton t) live) marks (rulesOf t) none))));
-        wrote = wrote-none (automaton t) (ends (automaton t) live) marks end ids offsets small none;
+        full-if = sym (le-ltb (space ids offsets) (length (runIds w (ends w live) marks (w .rules))) (omega (arith, ap length (run-none w (ends w live) marks (w .rules) none))));
+        wrote = wrote-none w (ends w live) marks end ids offsets small none;
       }
 
   -- the rules found, how many of them are due, and the space
-  module _ (found due room : ℕ) (is : found ≡ placesBelow (rulesOf t) (meeting t live 4)) (due-is : due ≡ count 64 (λ a. on found a && not (on marks a))) (room-is : room ≡ space ids offsets) where
-    found-ends : (a : ℕ) → a < automaton t .rules → on found a ≡ ends (automaton t) live a
-    unfolding automaton
-    found-ends a l = ap (λ (x : ℕ). on x a) is ∙ ends-word t live a few l
+  module _ (found due room : ℕ) (is : found ≡ rulesWhere w (ends w live)) (due-is : due ≡ count 64 (λ a. on found a && not (on marks a))) (room-is : room ≡ space ids offsets) where
+    found-ends : (a : ℕ) → a < w .rules → on found a ≡ ends w live a
+    found-ends a l = ap (λ (x : ℕ). on x a) is ∙ on-places (ends w live) (w .rules) a l few
 
     -- those that are due are as many as the run has ids
-    pub found-due : due ≡ length (runIds (automaton t) (on found) marks (rulesOf t))
+    pub found-due : due ≡ length (runIds w (on found) marks (w .rules))
     found-due =
-        due-is ∙ ap (λ (x : ℕ). count 64 (λ a. on x a && not (on marks a))) is
-        ∙ due-count (automaton t) (meeting t live 4) marks (rulesOf t) (omega arith)
-        ∙ ap (λ (x : ℕ). length (runIds (automaton t) (on x) marks (rulesOf t))) (sym is)
+        due-is ∙ ap (λ (x : ℕ). count 64 (λ a. on x a && not (on marks a))) is ∙ due-count w (ends w live) marks few
+        ∙ ap (λ (x : ℕ). length (runIds w (on x) marks (w .rules))) (sym is)
 
-    ends-due : due ≡ length (runIds (automaton t) (ends (automaton t) live) marks (rulesOf t))
-    unfolding automaton
-    ends-due = found-due ∙ ap length (run-ext (automaton t) (on found) (ends (automaton t) live) marks (rulesOf t) found-ends)
+    ends-due : due ≡ length (runIds w (ends w live) marks (w .rules))
+    ends-due = found-due ∙ ap length (run-ext w (on found) (ends w live) marks (w .rules) found-ends)
 
     -- their reports do not all fit
-    pub delivered-full : room < due → Delivered (automaton t) live marks end ids offsets true 0 marks ids offsets
-    unfolding automaton
+    pub delivered-full : room < due → Delivered w live marks end ids offsets true 0 marks ids offsets
     delivered-full h =
         record {
-          full-if = sym (lt-ltb (space ids offsets) (length (runIds (automaton t) (ends (automaton t) live) marks (rulesOf t))) (omega (arith, ends-due, room-is)));
-          wrote = wrote-none (automaton t) (λ a. false) marks end ids offsets small (λ a l. refl);
+          full-if = sym (lt-ltb (space ids offsets) (length (runIds w (ends w live) marks (w .rules))) (omega (arith, ends-due, room-is)));
+          wrote = wrote-none w (λ a. false) marks end ids offsets small (λ a l. refl);
         }
 
     -- they do, and are written
-    pub delivered-run : due ≤ room → (reports marks′ : ℕ) (ids′ offsets′ : List ℕ) → Wrote (automaton t) (on found) marks end ids offsets reports marks′ ids′ offsets′
-        → Delivered (automaton t) live marks end ids offsets false reports marks′ ids′ offsets′
-    unfolding automaton
+    pub delivered-run : due ≤ room → (reports marks′ : ℕ) (ids′ offsets′ : List ℕ) → Wrote w (on found) marks end ids offsets reports marks′ ids′ offsets′
+        → Delivered w live marks end ids offsets false reports marks′ ids′ offsets′
     delivered-run h reports marks′ ids′ offsets′ wrote =
         record {
-          full-if = sym (le-ltb (space ids offsets) (length (runIds (automaton t) (ends (automaton t) live) marks (rulesOf t))) (omega (arith, ends-due, room-is)));
-          wrote = wrote-ext (automaton t) (on found) (ends (automaton t) live) marks end ids offsets reports marks′ ids′ offsets′ found-ends wrote;
+          full-if = sym (le-ltb (space ids offsets) (length (runIds w (ends w live) marks (w .rules))) (omega (arith, ends-due, room-is)));
+          wrote = wrote-ext w (on found) (ends w live) marks end ids offsets reports marks′ ids′ offsets′ found-ends wrote;
         }
 
 -- ---- bytes passed over
@@ -122,7 +97,7 @@ module _ (w : Automaton) (block : List ℕ) (taken from : ℕ) where
   pub skipped-none : (live : List ℕ) → from ≤ length block → Skipped w live block taken from from
   skipped-none live h = record { rises = le-refl from; inside = h; empty = λ l. absurd (omega arith); still = λ j l m. absurd (omega arith) }
 
-  pub skipped-more : (at : ℕ) → Skipped w emptySet block taken from at → at < length block → nextLive w (stateOf emptySet 0 (taken + at)) (getD block at 0) ≡ emptySet
+  pub skipped-more : (at : ℕ) → Skipped w emptySet block taken from at → at < length block → stepped w (w .positions) emptySet (taken + at) (getD block at 0) ≡ emptySet
       → Skipped w emptySet block taken from (at + 1)
   skipped-more at h l e =
       record {
@@ -130,7 +105,7 @@ module _ (w : Automaton) (block : List ℕ) (taken from : ℕ) where
         inside = omega arith;
         empty = λ m. refl;
         still = λ j f g.
-            below-more (λ (i : ℕ). from ≤ i → nextLive w (stateOf emptySet 0 (taken + i)) (getD block i 0) ≡ emptySet) at (λ i m k. h .still i k m) (λ k. e) j g f;
+            below-more (λ (i : ℕ). from ≤ i → stepped w (w .positions) emptySet (taken + i) (getD block i 0) ≡ emptySet) at (λ i m k. h .still i k m) (λ k. e) j g f;
       }
 
   pub skipped-live : (at : ℕ) (live : List ℕ) → live ≡ emptySet → Skipped w emptySet block taken from at → Skipped w live block taken from at
@@ -199,12 +174,11 @@ module _ (w : Automaton) (s : Stream) (block ids₀ offsets₀ : List ℕ) where
       }
 
   module _ (live : List ℕ) (reported : ℕ) (ids offsets : List ℕ) (count at : ℕ) (h : Running w s block ids₀ offsets₀ live reported ids offsets count at)
-      (next : List ℕ) (step : next ≡ nextLive w (stateOf live 0 (s .taken + at)) (getD block at 0)) where
+      (next : List ℕ) (step : next ≡ stepped w (w .positions) live (s .taken + at) (getD block at 0)) where
     -- what the definitions say of the next byte, in terms of the locals
     next-is : nextLive w (stateAfter w s block at) (getD block at 0) ≡ next
     next-is =
-        next-parts w (stateAfter w s block at) (getD block at 0)
-        ∙ ap₂ (λ (l : List ℕ) (n : ℕ). nextLive w (stateOf l 0 n) (getD block at 0)) (sym (h .live-is)) (taken-after w s block at) ∙ sym step
+        ap₂ (λ (l : List ℕ) (n : ℕ). stepped w (w .positions) l n (getD block at 0)) (sym (h .live-is)) (taken-after w s block at) ∙ sym step
 
     live-more : next ≡ stateAfter w s block (at + 1) .live
     unfolding byteState
@@ -357,7 +331,7 @@ module _ (w : Automaton) (s : Stream) (block ids₀ offsets₀ : List ℕ) where
         one n l m r =
             let empty : live ≡ emptySet = q .empty (omega arith) in
             running-silent live reported ids offsets count n r live
-            (empty ∙ sym (q .still n l m) ∙ ap (λ (x : List ℕ). nextLive w (stateOf x 0 (s .taken + n)) (getD block n 0)) (sym empty)) (omega (arith, q .inside))
+            (empty ∙ sym (q .still n l m) ∙ ap (λ (x : List ℕ). stepped w (w .positions) x (s .taken + n) (getD block n 0)) (sym empty)) (omega (arith, q .inside))
             (λ a f. ap (λ (x : List ℕ). ends w x a) empty ∙ ends-empty w a)
 
         over : (d : ℕ) → at + d ≤ to → Running w s block ids₀ offsets₀ live reported ids offsets count (at + d)

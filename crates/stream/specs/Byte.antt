@@ -3,29 +3,17 @@
 use mathlib.Core.Bool.{Bool, cond, not, _&&_, _||_}
 use mathlib.Core.List.{List, [], _∷_, _++_}
 use Prim.Native.Nat.{ℕ, zero, suc, _+_}
-use lib.Dec.{eqb, leb, ltb}
+use lib.Dec.{leb, ltb}
 use lib.ListN.{length, getD, replicate}
-use Rattle.sets.specs.Set.{on, has, setOf, wordOf, any}
-use Rattle.table.specs.Layout.{maxPositions}
+use Rattle.sets.specs.Set.{on, wordOf}
 use Rattle.table.specs.Automaton.{Automaton, single}
+use Rattle.steps.specs.Step.{stepped, ends, endsAtEnd}
 use Rattle.stream.specs.declared.Stream.{Stream}
 
 module _ (w : Automaton) where
-  -- the positions at which a match can start with the next byte; `^` and `\A` "hold at offset 0 only"
-  unfoldable pub starts : Stream → ℕ → Bool
-  starts s q = cond (eqb (s .taken) 0) (w .firstAtStart q) (w .first q)
-
-  -- The next live set: the positions below the table's count that take byte x, and are first or follow a live one. A match may start at every byte.
-  unfoldable pub nextLive : Stream → ℕ → List ℕ
-  nextLive s x =
-      setOf (λ q. ltb q (w .positions) && (w .takes x q && (starts s q || any maxPositions (λ p. has (s .live) p && w .follow p q))))
-
-  -- some live position ends a match of the rule in place a: plainly, or if the stream ends here
-  unfoldable pub ends : List ℕ → ℕ → Bool
-  ends live a = any maxPositions (λ p. has live p && w .last a p)
-
-  unfoldable pub endsAtEnd : List ℕ → ℕ → Bool
-  endsAtEnd live a = any maxPositions (λ p. has live p && w .lastAtEnd a p)
+  -- the next live set of a state: what byte x steps to, among the positions of the table
+  abbrev pub nextLive : Stream → ℕ → List ℕ
+  nextLive s x = stepped w (w .positions) (s .live) (s .taken) x
 
   -- A run of reports has one end offset and some rules, "by rising id": places are by rising id, and of the first n those report that pass the test and have
   -- no mark "already reported".
@@ -42,12 +30,12 @@ module _ (w : Automaton) where
 
   -- one byte: the ids that it reports, and the state after it
   unfoldable pub byteIds : Stream → ℕ → List ℕ
-  byteIds s x = runIds (ends (nextLive s x)) (s .reported) (w .rules)
+  byteIds s x = runIds (ends w (nextLive s x)) (s .reported) (w .rules)
 
   unfoldable pub byteState : Stream → ℕ → Stream
   byteState s x = record {
     live = nextLive s x;
-    reported = runMarks (ends (nextLive s x)) (s .reported);
+    reported = runMarks (ends w (nextLive s x)) (s .reported);
     taken = suc (s .taken);
     rules = s .rules;
     positions = s .positions;
@@ -76,4 +64,4 @@ module _ (w : Automaton) where
 
   -- "Closing reports, by rising id, pairs not already given whose match needs the end; of a single-match rule that has reported, none."
   unfoldable pub closeIds : Stream → List ℕ
-  closeIds s = runIds (λ a. endsAtEnd (s .live) a && not (ends (s .live) a)) (s .reported) (w .rules)
+  closeIds s = runIds (λ a. endsAtEnd w (s .live) a && not (ends w (s .live) a)) (s .reported) (w .rules)

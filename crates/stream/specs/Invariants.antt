@@ -2,16 +2,15 @@
 use mathlib.Core.Path.{_≡_}
 use mathlib.Core.Bool.{Bool, false, not, _&&_}
 use mathlib.Core.List.{List}
-use Prim.Native.Nat.{ℕ, zero, suc, _+_, _<_, _≤_}
+use Prim.Native.Nat.{ℕ, _+_, _<_, _≤_}
 use lib.Dec.{ltb}
 use lib.ListN.{length, getD, replicate}
-use Rattle.sets.specs.Set.{setOf, unionOf, emptySet}
-use Rattle.table.specs.Layout.{followAt, rowHas}
+use Rattle.sets.specs.Set.{emptySet}
 use Rattle.table.specs.Automaton.{Automaton}
+use Rattle.steps.specs.Step.{stepped, ends}
 use Rattle.stream.specs.declared.Stream.{Stream}
-use Rattle.stream.specs.Byte.{nextLive, ends, runIds, runMarks, stateAfter, idsOf, endsOf, fits}
+use Rattle.stream.specs.Byte.{runIds, runMarks, stateAfter, idsOf, endsOf, fits}
 use Rattle.stream.specs.Calls.{space, written}
-use Rattle.stream.specs.Walk.{asked}
 
 -- a state of which the live set, the marks and the bytes taken count
 abbrev pub stateOf : (live : List ℕ) → (reported taken : ℕ) → Stream
@@ -29,17 +28,12 @@ pub record Delivered (w : Automaton) (live : List ℕ) (marks end : ℕ) (ids of
   pub full-if : full ≡ ltb (space ids offsets) (length (runIds w (ends w live) marks (w .rules)))
   pub wrote : Wrote w (λ a. not full && ends w live a) marks end ids offsets reports marks′ ids′ offsets′
 
--- a set joined with what follows the positions that the first n turns of the walk over a word ask; digit k of the word is position base + k
-unfoldable pub joined : (t : List ℕ) → (word base : ℕ) → (from : List ℕ) → ℕ → List ℕ
-joined t word base from zero = from
-joined t word base from (suc n) = unionOf (joined t word base from n) (setOf (rowHas t (followAt (base + asked word n))))
-
 -- nothing is live and the bytes of the block from `from` up to `to` leave it so, `taken` bytes of the stream before the block
 pub record Skipped (w : Automaton) (live block : List ℕ) (taken from to : ℕ) : Type 0 where
   pub rises : from ≤ to
   pub inside : to ≤ length block
   pub empty : from < to → live ≡ emptySet
-  pub still : (j : ℕ) → from ≤ j → j < to → nextLive w (stateOf emptySet 0 (taken + j)) (getD block j 0) ≡ emptySet
+  pub still : (j : ℕ) → from ≤ j → j < to → stepped w (w .positions) emptySet (taken + j) (getD block j 0) ≡ emptySet
 
 -- as many bytes of the block as have reports that fit, the state after them and both lists
 pub record Ran (w : Automaton) (s : Stream) (block ids offsets live : List ℕ) (reported taken reports : ℕ) (ids′ offsets′ : List ℕ) : Type 0 where

@@ -2,18 +2,14 @@
 // Nothing is required of a caller: each promise holds for any words, state, block and lists. specs/Calls.antt says what each call gives.
 mod checks;
 mod reports;
-mod rows;
 mod scan;
-mod walk;
 
 use checks::least;
 use checks::refusal;
 use reports::write_run;
-use rows::ending;
-use rows::singles;
 use scan::run;
-use table::layout::LAST;
-use table::layout::LAST_AT_END;
+use steps::closing;
+use steps::singles;
 use table::layout::POSITIONS_AT;
 use table::layout::RULES_AT;
 ghost use mathlib.Core.Path.{_≡_};
@@ -136,12 +132,10 @@ impl Stream {
             };
         }
         let live = self.live;
-        let rules = words[RULES_AT] as usize;
-        let found = ending(live, words, rules, LAST_AT_END) & !ending(live, words, rules, LAST);
         let r = write_run(
-            found,
+            closing(live, words),
             self.reported,
-            singles(words, rules),
+            singles(words),
             words,
             self.taken,
             ids,

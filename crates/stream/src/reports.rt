@@ -1,20 +1,17 @@
 // One run of reports: one end offset, and the rules that end there by rising place, each a digit of a word.
 use super::checks::least;
-use super::rows::ending;
-use super::rows::meets;
-use super::rows::record_word;
-use table::layout::ID;
-use table::layout::LAST;
+use steps::ending;
+use steps::meets;
+use steps::rule_id;
 use table::layout::RULES_AT;
 ghost use mathlib.Core.Path.{_≡_};
 ghost use mathlib.Core.Bool.{true, not, _&&_};
 ghost use Prim.Native.Nat.{_≤_};
-ghost use lib.Dec.{ltb};
 ghost use lib.ListN.{length};
-ghost use Rattle.sets.specs.Set.{on, setOf, wordOf, any, count};
-ghost use Rattle.table.specs.Layout.{rulesOf, lastAt, rowHas};
+ghost use Rattle.sets.specs.Set.{on, count};
 ghost use Rattle.table.specs.Table.{isTable};
 ghost use Rattle.table.specs.Automaton.{automaton, single};
+ghost use Rattle.steps.specs.Step.{lastsOf, rulesWhere};
 ghost use Rattle.stream.specs.Byte.{runIds};
 ghost use Rattle.stream.specs.Invariants.{Wrote, Delivered};
 
@@ -41,7 +38,7 @@ pub(super) fn write_run(
     ids: &mut [u32],
     offsets: &mut [u64],
 ) -> Run
-    requires { ⌜ (isTable (now words) ≡ true) × (singles ≡ wordOf 64 (λ a. ltb a (rulesOf (now words)) && single (automaton (now words)) a)) × (length (runIds (automaton (now words)) (on ending) reported (rulesOf (now words))) ≤ length (now ids)) × (length (runIds (automaton (now words)) (on ending) reported (rulesOf (now words))) ≤ length (now offsets)) ⌝ }
+    requires { ⌜ (isTable (now words) ≡ true) × (singles ≡ rulesWhere (automaton (now words)) (single (automaton (now words)))) × (length (runIds (automaton (now words)) (on ending) reported (automaton (now words) .rules)) ≤ length (now ids)) × (length (runIds (automaton (now words)) (on ending) reported (automaton (now words) .rules)) ≤ length (now offsets)) ⌝ }
     ensures { λ r. ⌜ Wrote (automaton (now (words .entry))) (on ending) reported end (now (ids .entry)) (now (offsets .entry)) (r .reports) (r .reported) (now (ids .exit)) (now (offsets .exit)) ⌝ }
 {
     let rules = words[RULES_AT] as usize;
@@ -50,7 +47,7 @@ pub(super) fn write_run(
     let mut a: usize = 0;
     while a < rules {
         if due >> a & 1 == 1 {
-            ids[n] = record_word(words, a, ID) as u32;
+            ids[n] = rule_id(words, a) as u32;
             offsets[n] = end;
             n += 1;
         }
@@ -81,7 +78,7 @@ pub(super) fn deliver(
     ids: &mut [u32],
     offsets: &mut [u64],
 ) -> Delivery
-    requires { ⌜ (isTable (now words) ≡ true) × (last ≡ setOf (λ p. any (rulesOf (now words)) (λ a. rowHas (now words) (lastAt a) p))) × (singles ≡ wordOf 64 (λ a. ltb a (rulesOf (now words)) && single (automaton (now words)) a)) ⌝ }
+    requires { ⌜ (isTable (now words) ≡ true) × (last ≡ lastsOf (automaton (now words))) × (singles ≡ rulesWhere (automaton (now words)) (single (automaton (now words)))) ⌝ }
     ensures { λ r. ⌜ Delivered (automaton (now (words .entry))) live reported end (now (ids .entry)) (now (offsets .entry)) (r .full) (r .reports) (r .reported) (now (ids .exit)) (now (offsets .exit)) ⌝ }
 {
     if !meets(live, last) {
@@ -91,8 +88,7 @@ pub(super) fn deliver(
             reported,
         };
     }
-    let rules = words[RULES_AT] as usize;
-    let found = ending(live, words, rules, LAST);
+    let found = ending(live, words);
     if least(ids.len(), offsets.len()) < due(found, reported) {
         return Delivery {
             full: true,

@@ -1,55 +1,19 @@
-// The bytes of a block, one after the other: the next live set, the bytes that change nothing, the loop.
+// The bytes of a block, one after the other: the bytes that change nothing, and the loop.
 use super::reports::deliver;
-use super::rows::lasts;
-use super::rows::meets;
-use super::rows::singles;
-use super::walk::walk;
+use steps::lasts;
+use steps::meets;
+use steps::singles;
+use steps::step;
+use steps::takers;
 use table::layout::FIRST_AT;
-use table::layout::FIRST_AT_START_AT;
 use table::layout::POSITIONS_AT;
-use table::layout::RULES_AT;
-use table::layout::SET_WORDS;
-use table::layout::TAKERS_AT;
 ghost use mathlib.Core.Path.{_≡_};
 ghost use mathlib.Core.Bool.{true};
 ghost use Prim.Native.Nat.{_+_, _^_, _<_, _≤_};
 ghost use lib.ListN.{length};
-ghost use Rattle.sets.specs.Set.{setOf, emptySet};
-ghost use Rattle.table.specs.Layout.{tableWords, positionsOf, takersAt, rowHas};
 ghost use Rattle.table.specs.Table.{isTable};
 ghost use Rattle.table.specs.Automaton.{automaton};
-ghost use Rattle.stream.specs.Byte.{starts, nextLive};
 ghost use Rattle.stream.specs.Invariants.{stateOf, Skipped, Ran};
-
-// The positions that can take the first byte of a match, `taken` bytes into the stream.
-fn firsts(words: &[u64], taken: u64) -> [u64; 4]
-    requires { ⌜ tableWords ≤ length (now words) ⌝ }
-    ensures { λ r. ⌜ r ≡ setOf (starts (automaton (now (words .entry))) (stateOf emptySet 0 taken)) ⌝ }
-{
-    if taken == 0 {
-        table::row(words, FIRST_AT_START_AT)
-    } else {
-        table::row(words, FIRST_AT)
-    }
-}
-
-// The positions that take a byte.
-fn takers(words: &[u64], byte: u8) -> [u64; 4]
-    requires { ⌜ tableWords ≤ length (now words) ⌝ }
-    ensures { λ r. ⌜ r ≡ setOf (rowHas (now (words .entry)) (takersAt byte)) ⌝ }
-{
-    table::row(words, TAKERS_AT + byte as usize * SET_WORDS)
-}
-
-// The live set after one more byte, `taken` bytes into the stream.
-fn step(live: [u64; 4], taken: u64, words: &[u64], positions: usize, byte: u8) -> [u64; 4]
-    requires { ⌜ (tableWords ≤ length (now words)) × (positions ≡ positionsOf (now words)) ⌝ }
-    ensures { λ r. ⌜ r ≡ nextLive (automaton (now (words .entry))) (stateOf live 0 taken) byte ⌝ }
-{
-    let walked = walk(live, firsts(words, taken), words);
-    let next = walked.set;
-    sets::below(sets::intersection(next, takers(words, byte)), positions)
-}
 
 // The place of the next byte that has to be looked at. Where nothing is live inside the stream, bytes that start nothing are passed over.
 fn ahead(
@@ -60,7 +24,7 @@ fn ahead(
     block: &[u8],
     from: usize,
 ) -> usize
-    requires { ⌜ (tableWords ≤ length (now words)) × (positions ≡ positionsOf (now words)) × (from ≤ length (now block)) × (taken + length (now block) < 2 ^ 64) ⌝ }
+    requires { ⌜ (positions ≡ automaton (now words) .positions) × (from ≤ length (now block)) × (taken + length (now block) < 2 ^ 64) ⌝ }
     ensures { λ r. ⌜ Skipped (automaton (now (words .entry))) live (now (block .entry)) taken from r ⌝ }
 {
     if !sets::is_empty(live) | (taken + from as u64 == 0) {
@@ -98,10 +62,9 @@ pub(super) fn run(
     requires { ⌜ (isTable (now words) ≡ true) × (taken + length (now block) < 2 ^ 64) ⌝ }
     ensures { λ r. ⌜ Ran (automaton (now (words .entry))) (stateOf live reported taken) (now (block .entry)) (now (ids .entry)) (now (offsets .entry)) (r .live) (r .reported) (r .taken) (r .reports) (now (ids .exit)) (now (offsets .exit)) ⌝ }
 {
-    let rules = words[RULES_AT] as usize;
     let positions = words[POSITIONS_AT] as usize;
-    let last = lasts(words, rules);
-    let single = singles(words, rules);
+    let last = lasts(words);
+    let single = singles(words);
     let mut count: usize = 0;
     let mut at: usize = 0;
     loop {

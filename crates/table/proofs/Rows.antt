@@ -1,7 +1,7 @@
 -- Sets and records in a list of words: each depends on its own words alone, so a write elsewhere leaves it (`row-below`, `row-above`, `record-below`,
 -- `record-above`), and a write to its own words is read back digit by digit.
 use mathlib.Core.Path.{_≡_, refl, sym, ap, _∙_}
-use mathlib.Core.Bool.{Bool, true, false, cond, _&&_, _||_}
+use mathlib.Core.Bool.{Bool, true, false, _&&_, _||_}
 use mathlib.Core.List.{List, [], _∷_}
 use Prim.Native.Nat.{ℕ, _+_, _/_, _%_, _≤_, _<_}
 use native.Mathlib.Nat.{zero-add, add-zero}
@@ -9,13 +9,13 @@ use native.Mathlib.Decide.{decLt}
 use native.Mathlib.Omega.{arith}
 use lib.Bits.{bitOr}
 use lib.Dec.{ltb}
-use lib.ListN.{length, getD}
-use borrow.Author.Tests.{lt-ltb, le-ltb, ltb-true, le-leb, lt-leb}
+use lib.ListN.{length, getD, List·getD-eq-default}
+use borrow.Author.Tests.{lt-ltb, le-ltb, ltb-true}
 use mir.Syntax.{w64}
 use mir.Val.{Fits}
 use Rattle.sets.specs.Set.{on, has, setOf, emptySet}
-use Rattle.sets.proofs.Laws.{fourOf, getD-fourOf, on-zero, on-or, words-fourOf, by-members}
-use Rattle.table.specs.Layout.{maxPositions, recordAt, recordWord, rowHas, rowAt}
+use Rattle.sets.proofs.Laws.{fourOf, getD-fourOf, on-zero, on-or, words-fourOf, by-members, setOf-ext}
+use Rattle.table.specs.Layout.{maxPositions, recordAt, recordWord, rowHas}
 use Rattle.table.proofs.Over.{over, over-in, over-below, over-above}
 
 -- what is asked below a limit only is settled there
@@ -71,14 +71,15 @@ row-words t at small =
     ap (λ (i : ℕ). getD t i 0 ∷ getD t (at + 1) 0 ∷ getD t (at + 2) 0 ∷ getD t (at + 3) 0 ∷ []) (sym (add-zero at))
     ∙ by-members (row t at) (words-fourOf (λ i. getD t (at + i) 0) (λ i h. small (at + i) .fits)) (rowHas t at) (has-row t at)
 
--- what `row` reads
-pub row-there : (t : List ℕ) (at : ℕ) → at + 4 ≤ length t → rowAt t at ≡ setOf (rowHas t at)
-unfolding rowAt
-row-there t at h = ap (λ (b : Bool). cond b (setOf (rowHas t at)) emptySet) (le-leb (at + 4) (length t) h)
+-- a set past the end has no members, and one that the end cuts off has words 0 there
+pub row-past-end : (t : List ℕ) (at : ℕ) → length t ≤ at → emptySet ≡ setOf (rowHas t at)
+unfolding emptySet
+row-past-end t at h = setOf-ext (λ q. false) (rowHas t at) (λ q l. sym (row-empty t at (λ i m. List·getD-eq-default t 0 (omega arith)) q))
 
-pub row-short : (t : List ℕ) (at : ℕ) → length t < at + 4 → rowAt t at ≡ emptySet
-unfolding rowAt
-row-short t at h = ap (λ (b : Bool). cond b (setOf (rowHas t at)) emptySet) (lt-leb (at + 4) (length t) h)
+pub row-cut : (t : List ℕ) (at b c : ℕ) → ((i : ℕ) → Fits w64 (getD t i 0)) → length t ≤ at + 3 → b ≡ getD t (at + 1) 0 → c ≡ getD t (at + 2) 0
+    → (getD t at 0 ∷ b ∷ c ∷ 0 ∷ []) ≡ setOf (rowHas t at)
+row-cut t at b c small h eb ec =
+    (λ i. getD t at 0 ∷ eb i ∷ ec i ∷ sym (List·getD-eq-default t 0 h) i ∷ []) ∙ row-words t at small
 
 -- a list of four words is the set in its front
 pub row-whole : (s : List ℕ) (q : ℕ) → q < maxPositions → rowHas s 0 q ≡ has s q

@@ -1,10 +1,10 @@
 -- The words of a rule table, by name; docs/TABLE.md lists them. Assumes nothing: these are definitions.
-use mathlib.Core.Bool.{Bool, cond, _&&_}
+use mathlib.Core.Bool.{Bool, _&&_}
 use mathlib.Core.List.{List}
 use Prim.Native.Nat.{ℕ, _+_, _*_, _/_, _%_}
 use lib.Dec.{leb, ltb}
-use lib.ListN.{length, getD}
-use Rattle.sets.specs.Set.{on, setOf, emptySet}
+use lib.ListN.{getD}
+use Rattle.sets.specs.Set.{on}
 
 -- "Table: 4,096 64-bit words; words beyond are never touched." "Rules in a table: 32." "Positions in a table: 256."
 abbrev pub tableWords : ℕ
@@ -60,13 +60,9 @@ takersAt x = 2048 + x * 4
 abbrev pub recordWord : List ℕ → ℕ → ℕ → ℕ
 recordWord t a i = getD t (recordAt a + i) 0
 
--- q is in the set whose four words stand at `at`
+-- q is in the set whose four words stand at `at`; a list reads as 0 past its end
 unfoldable pub rowHas : List ℕ → ℕ → ℕ → Bool
 rowHas t at q = ltb q maxPositions && on (getD t (at + q / 64) 0) (q % 64)
-
--- the set at `at`; where the list has not four words from there on, the empty one
-unfoldable pub rowAt : List ℕ → ℕ → List ℕ
-rowAt t at = cond (leb (at + 4) (length t)) (setOf (rowHas t at)) emptySet
 
 -- w is one of lo, lo + 1, .. below hi
 abbrev pub from-to : (lo hi w : ℕ) → Bool

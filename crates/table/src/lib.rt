@@ -1,4 +1,4 @@
-// The rule table: 4,096 words that the caller lends. This crate has its layout, the yes-or-no test for any words, emptying, and the reading of a set.
+// The rule table: 4,096 words that the caller lends. This crate has its layout, the yes-or-no test for any words, emptying, and the reading of a word and of a set.
 // Nothing is required of a caller. docs/TABLE.md lists the words; specs/Layout.antt names them, specs/Table.antt is the test, specs/Automaton.antt says what
 // passing words describe.
 pub mod layout;
@@ -22,20 +22,39 @@ use layout::SET_WORDS;
 use layout::TABLE_WORDS;
 use layout::TO;
 ghost use mathlib.Core.Path.{_≡_};
-ghost use Prim.Native.Nat.{_<_, _≤_};
-ghost use lib.ListN.{length};
-ghost use Rattle.table.specs.Layout.{tableWords, maxRules, positionsOf, rowAt};
+ghost use Prim.Native.Nat.{_+_, _<_, _≤_};
+ghost use lib.ListN.{length, getD};
+ghost use Rattle.sets.specs.Set.{setOf};
+ghost use Rattle.table.specs.Layout.{tableWords, maxRules, positionsOf, rowHas};
 ghost use Rattle.table.specs.Table.{leastId, recordOk, all, isTable, emptyNumber, emptied};
 
-// The set whose four words stand at `at`; the empty set where there are not four words from there on.
-pub fn row(words: &[u64], at: usize) -> [u64; 4]
-    ensures { λ r. ⌜ r ≡ rowAt (now (words .entry)) at ⌝ }
+// The word at `at`; past the end there are zeros.
+pub fn word(words: &[u64], at: usize) -> u64
+    ensures { λ r. ⌜ r ≡ getD (now (words .entry)) at 0 ⌝ }
 {
-    if words.len() < SET_WORDS {
+    if at < words.len() { words[at] } else { 0 }
+}
+
+// The set whose words stand at `at`, where the list ends before the fourth.
+fn cut_row(words: &[u64], at: usize) -> [u64; 4]
+    requires { ⌜ length (now words) < at + 4 ⌝ }
+    ensures { λ r. ⌜ r ≡ setOf (rowHas (now (words .entry)) at) ⌝ }
+{
+    if words.len() <= at {
         return sets::empty();
     }
+    [words[at], word(words, at + 1), word(words, at + 2), 0]
+}
+
+// The set whose four words stand at `at`; past the end there are zeros.
+pub fn row(words: &[u64], at: usize) -> [u64; 4]
+    ensures { λ r. ⌜ r ≡ setOf (rowHas (now (words .entry)) at) ⌝ }
+{
+    if words.len() < SET_WORDS {
+        return cut_row(words, at);
+    }
     if words.len() - SET_WORDS < at {
-        return sets::empty();
+        return cut_row(words, at);
     }
     [words[at], words[at + 1], words[at + 2], words[at + 3]]
 }

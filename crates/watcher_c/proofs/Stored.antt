@@ -12,11 +12,12 @@ use Rattle.sets.proofs.Laws.{words-setOf, below-four}
 use Rattle.table.specs.Layout.{rulesOf, positionsOf}
 use Rattle.table.specs.Table.{isTable}
 use Rattle.table.specs.Automaton.{Automaton, automaton}
+use Rattle.steps.specs.Step.{stepped}
 use Rattle.stream.specs.declared.Stream.{Stream}
 use Rattle.stream.specs.declared.Opened.{Opened}
 use Rattle.stream.specs.declared.Scanned.{Scanned}
 use Rattle.stream.specs.declared.Closed.{Closed}
-use Rattle.stream.specs.Byte.{nextLive, byteState, stateAfter, idsOf, closeIds}
+use Rattle.stream.specs.Byte.{byteState, stateAfter, idsOf, closeIds}
 use Rattle.stream.specs.Calls.{fresh, space, opened, takenBy, scanNumber, scanned, closeNumber, closed, shut}
 use Rattle.watcher_c.specs.State.{stateWords, short, stateOf, wordsOf, stored}
 use Rattle.watcher_c.specs.Interface.{shortState, openState, scanAnswer, scanState, closeAnswer, closeState}
@@ -57,7 +58,7 @@ module _ (s : Stream) (t : List ℕ) where
 
 -- the live set after some bytes is four words again
 after-four : (w : Automaton) (s : Stream) (block : List ℕ) (k : ℕ) → FourWords s → FourWords (stateAfter w s block k)
-unfolding stateAfter byteState nextLive
+unfolding stateAfter byteState stepped
 after-four w s block zero e = e
 after-four w s block (suc k) e = words-setOf _ .four
 

@@ -1,29 +1,28 @@
--- `table::row` meets its contract: four words that are there are the set of their members, and otherwise the set is the empty one.
-use mathlib.Core.Path.{sym, _∙_}
+-- `table::row` meets its contract: four words that are there are the set of their members, and otherwise the end cuts the set off.
 use native.Mathlib.Omega.{arith}
 use denote.Ref.{now}
-use Rattle.table.proofs.Rows.{row-words, row-there, row-short}
+use Rattle.table.proofs.Rows.{row-words}
 use Rattle.table.proofs.row.Statement.{statement}
 use Rattle.table.proofs.row.Tie as tie
 
-empty-requires : tie.Need-empty-requires
-empty-requires c κs = tt
+cut-row-requires : tie.Need-cut-row-requires
+cut-row-requires c κs = omega arith
 
 returns : tie.Need-returns
 returns c =
-    let c-start = c .before .before .before in
-    c .empty .ensures ∙ sym (row-short (now (c-start .args .words)) (c-start .args .at) (omega arith))
+    let c-cut-row = c .cut-row in
+    c-cut-row .ensures
 
 sub-if2 : tie.Need-sub-if2
 sub-if2 c = omega arith
 
-empty-requires-2 : tie.Need-empty-requires-2
-empty-requires-2 c κs = tt
+cut-row-requires-2 : tie.Need-cut-row-requires-2
+cut-row-requires-2 c κs = omega arith
 
 returns-2 : tie.Need-returns-2
 returns-2 c =
-    let c-start = c .before .before .before .before in
-    c .empty2 .ensures ∙ sym (row-short (now (c-start .args .words)) (c-start .args .at) (omega arith))
+    let c-cut-row2 = c .cut-row2 in
+    c-cut-row2 .ensures
 
 mul-t3 : tie.Need-mul-t3
 mul-t3 c = omega arith
@@ -61,19 +60,17 @@ shared-slice-read-t18 c = omega arith
 returns-3 : tie.Need-returns-3
 returns-3 c =
     let c-start = c .before .before .before .before .before .before .before in
-    let c-shared-slice-known = c .shared-slice-known5 in
-    let t = now (c-start .args .words) in
-    let at = c-start .args .at in
-    row-words t at (λ i. c-shared-slice-known .given i) ∙ sym (row-there t at (omega arith))
+    let c-shared-slice-known = c .before .before .before .before .before .before .shared-slice-known in
+    row-words (now (c-start .args .words)) (c-start .args .at) (λ i. c-shared-slice-known .given i)
 
 pub row-spec : {M : Type 1} → statement M
 row-spec =
     tie.close
     (tie.spec
-    empty-requires
+    cut-row-requires
     returns
     sub-if2
-    empty-requires-2
+    cut-row-requires-2
     returns-2
     mul-t3
     shared-slice-read-t7

@@ -1,8 +1,6 @@
 -- `rules::write::merge_row` meets its contract: what it reads, masks and joins is put back in one piece.
-use mathlib.Core.Path.{_∙_}
 use native.Mathlib.Omega.{arith}
 use denote.Ref.{now}
-use Rattle.table.proofs.Rows.{row-there}
 use Rattle.rules.proofs.Steps.{merge-is}
 use Rattle.rules.proofs.write.merge_row.Statement.{statement}
 use Rattle.rules.proofs.write.merge_row.Tie as tie
@@ -33,7 +31,7 @@ returns c =
     let c-below = c .before .before .before .before .before .before .below in
     let c-union = c .before .before .before .before .before .union in
     merge-is (now (c-start .args .words)) (c-put-words .last .0) (c-row .result) (c-below .result) (c-union .result) (c-start .args .new) (c-start .args .at) (c-start .args .n)
-    (c-row .ensures ∙ row-there (now (c-start .args .words)) (c-start .args .at) (omega arith)) (c-below .ensures) (c-union .ensures) (c-put-words .ensures)
+    (c-row .ensures) (c-below .ensures) (c-union .ensures) (c-put-words .ensures)
 
 pub merge-row-spec : {M : Type 1} → statement M
 merge-row-spec =

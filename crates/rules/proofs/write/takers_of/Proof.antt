@@ -8,7 +8,6 @@ use denote.Ref.{now}
 use Rattle.sets.specs.Set.{inserted, has}
 use Rattle.sets.proofs.Laws.{has-setOf}
 use Rattle.table.specs.Layout.{rowHas}
-use Rattle.table.proofs.Rows.{row-there}
 use Rattle.rules.specs.Invariants.{newTakers}
 use Rattle.rules.proofs.Steps.{takers-none, takers-hit, takers-miss}
 use Rattle.rules.proofs.write.takers_of.Statement.{statement}
@@ -64,7 +63,7 @@ loop-again c =
     let n = c-start .args .n in
     let x = c-start .args .x in
     let i = c-loop .i in
-    let test = sym (c-contains .ensures ∙ ap (λ (l : List ℕ). has l x) (c-row .ensures ∙ row-there takes (i * 4) (omega arith)) ∙ has-setOf (rowHas takes (i * 4)) x (omega arith)) in
+    let test = sym (c-contains .ensures ∙ ap (λ (l : List ℕ). has l x) (c-row .ensures) ∙ has-setOf (rowHas takes (i * 4)) x (omega arith)) in
     ⊎-elim
     (λ w. (omega arith, w .2 ∙ w .1 .ensures ∙ ap (λ (r : List ℕ). inserted r (n + i)) (c-loop .inv .1) ∙ takers-hit takes n x i (test ∙ w .0 .taken)))
     (λ w. (omega arith, w .1 ∙ c-loop .inv .1 ∙ takers-miss takes n x i (test ∙ w .0 .left)))

@@ -1,5 +1,4 @@
 -- `stream::checks::marks_single` meets its contract: no digit is left of the marks without the single-match rules.
-use borrow.Author.Needs.{needs}
 use mathlib.Core.Bool.{_&&_}
 use native.Mathlib.Omega.{arith}
 use denote.Ref.{now}
@@ -10,14 +9,14 @@ use Rattle.stream.proofs.checks.marks_single.Statement.{statement}
 use Rattle.stream.proofs.checks.marks_single.Tie as tie
 
 singles-requires : tie.Need-singles-requires
-singles-requires c κs = search needs
+singles-requires c κs = tt
 
 returns : tie.Need-returns
 returns c =
     let c-start = c .before .before in
     let c-singles = c .singles in
     let a = c-start .args in
-    marks-test (a .reported) (c-singles .result) (λ k. ltb k (a .rules) && single (automaton (now (a .words))) k) (omega arith) (c-singles .ensures)
+    marks-test (a .reported) (c-singles .result) (λ k. ltb k (automaton (now (a .words)) .rules) && single (automaton (now (a .words))) k) (omega arith) (c-singles .ensures)
 
 pub marks-single-spec : {M : Type 1} → statement M
 marks-single-spec = tie.close (tie.spec singles-requires returns)

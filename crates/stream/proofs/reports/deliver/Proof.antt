@@ -1,17 +1,14 @@
 -- `stream::reports::deliver` meets its contract: each of its three ways has one law, and the run is written where the count of what is due fits.
 use mathlib.Core.Path.{sym, _∙_}
 use native.Mathlib.Nat.{le-of-eq}
-use native.Mathlib.Omega.{arith}
 use denote.Ref.{now}
-use lib.Dec.{lit≤}
 use lib.ListN.{length}
 use borrow.Author.Tests.{not-true}
 use Rattle.sets.specs.Set.{on}
-use Rattle.table.specs.Layout.{rulesOf}
 use Rattle.table.specs.Automaton.{automaton}
 use Rattle.table.proofs.Test.{passes}
 use Rattle.stream.specs.Byte.{runIds}
-use Rattle.stream.proofs.Bounds.{rules-word, enough-left, enough-right}
+use Rattle.stream.proofs.Bounds.{rules-few, enough-left, enough-right}
 use Rattle.stream.proofs.Turns.{delivered-none, found-due, delivered-full, delivered-run}
 use Rattle.stream.proofs.reports.deliver.Statement.{statement}
 use Rattle.stream.proofs.reports.deliver.Tie as tie
@@ -26,19 +23,11 @@ returns c =
     let c-if1 = c .if1 in
     let a = c-start .args in
     let t = now (a .words) in
-    delivered-none t (a .live) (a .reported) (a .end) (now (a .ids)) (now (a .offsets)) (passes t (c-start .pre .0) .rules) (c-start .fits .reported .fits)
+    delivered-none (automaton t) (a .live) (a .reported) (a .end) (now (a .ids)) (now (a .offsets)) (rules-few t (passes t (c-start .pre .0) .rules)) (c-start .fits .reported .fits)
     (a .last) (c-start .pre .1) (sym (c-meets .ensures) ∙ not-true (c-meets .result) (c-if1 .taken))
 
-shared-slice-read-rules : tie.Need-shared-slice-read-rules
-shared-slice-read-rules c =
-    let c-start = c .before .before .before .before .before .before in
-    rules-word (length (now (c-start .args .words))) (passes (now (c-start .args .words)) (c-start .pre .0) .long)
-
 ending-requires : tie.Need-ending-requires
-ending-requires c κs =
-    let c-start = c .before .before .before .before .before .before in
-    let p = passes (now (c-start .args .words)) (c-start .pre .0) in
-    (p .long, omega (arith, p .rules), lit≤ tt)
+ending-requires c κs = tt
 
 least-requires : tie.Need-least-requires
 least-requires c κs = tt
@@ -48,28 +37,28 @@ due-requires c κs = tt
 
 returns-2 : tie.Need-returns-2
 returns-2 c =
-    let c-start = c .before .before .before .before .before .before .before .before .before .before in
+    let c-start = c .before .before .before .before .before .before .before .before .before in
     let c-ending = c .before .before .before .ending in
-    let c-least = c .before .before .least in
     let c-due = c .before .due in
+    let c-least = c .before .before .least in
     let c-if2 = c .if2 in
     let a = c-start .args in
     let t = now (a .words) in
-    delivered-full t (a .live) (a .reported) (a .end) (now (a .ids)) (now (a .offsets)) (passes t (c-start .pre .0) .rules) (c-start .fits .reported .fits)
+    delivered-full (automaton t) (a .live) (a .reported) (a .end) (now (a .ids)) (now (a .offsets)) (rules-few t (passes t (c-start .pre .0) .rules)) (c-start .fits .reported .fits)
     (c-ending .result) (c-due .result) (c-least .result) (c-ending .ensures) (c-due .ensures) (c-least .ensures) (c-if2 .taken)
 
 write-run-requires : tie.Need-write-run-requires
 write-run-requires c κs =
-    let c-start = c .before .before .before .before .before .before .before .before .before .before .before .before in
+    let c-start = c .before .before .before .before .before .before .before .before .before .before .before in
     let c-ending = c .before .before .before .before .before .ending in
-    let c-least = c .before .before .before .before .least in
     let c-due = c .before .before .before .due in
+    let c-least = c .before .before .before .before .least in
     let c-if2 = c .before .before .if2 in
     let a = c-start .args in
     let t = now (a .words) in
-    let n = found-due t (a .live) (a .reported) (a .end) (now (a .ids)) (now (a .offsets)) (passes t (c-start .pre .0) .rules) (c-start .fits .reported .fits)
+    let n = found-due (automaton t) (a .live) (a .reported) (a .end) (now (a .ids)) (now (a .offsets)) (rules-few t (passes t (c-start .pre .0) .rules)) (c-start .fits .reported .fits)
     (c-ending .result) (c-due .result) (c-least .result) (c-ending .ensures) (c-due .ensures) (c-least .ensures) in
-    let run = length (runIds (automaton t) (on (c-ending .result)) (a .reported) (rulesOf t)) in (
+    let run = length (runIds (automaton t) (on (c-ending .result)) (a .reported) (automaton t .rules)) in (
       c-start .pre .0,
       c-start .pre .2,
       enough-left run (c-due .result) (c-least .result) (length (now (a .ids))) (length (now (a .offsets))) (le-of-eq (sym n)) (c-if2 .left) (c-least .ensures),
@@ -88,16 +77,16 @@ same-length-2 c =
 
 returns-3 : tie.Need-returns-3
 returns-3 c =
-    let c-start = c .before .before .before .before .before .before .before .before .before .before .before .before .before .before .before .before .before in
-    let c-ending = c .before .before .before .before .before .before .before .before .before .before .ending in
-    let c-least = c .before .before .before .before .before .before .before .before .before .least in
-    let c-due = c .before .before .before .before .before .before .before .before .due in
-    let c-if2 = c .before .before .before .before .before .before .before .if2 in
+    let c-start = c .before .before .before .before .before .before .before .before .before .before .before .before .before .before .before .before in
     let c-write-run = c .before .before .before .before .write-run in
+    let c-ending = c .before .before .before .before .before .before .before .before .before .before .ending in
+    let c-due = c .before .before .before .before .before .before .before .before .due in
+    let c-least = c .before .before .before .before .before .before .before .before .before .least in
+    let c-if2 = c .before .before .before .before .before .before .before .if2 in
     let a = c-start .args in
     let t = now (a .words) in
     let r = c-write-run .result in
-    delivered-run t (a .live) (a .reported) (a .end) (now (a .ids)) (now (a .offsets)) (passes t (c-start .pre .0) .rules) (c-start .fits .reported .fits)
+    delivered-run (automaton t) (a .live) (a .reported) (a .end) (now (a .ids)) (now (a .offsets)) (rules-few t (passes t (c-start .pre .0) .rules)) (c-start .fits .reported .fits)
     (c-ending .result) (c-due .result) (c-least .result) (c-ending .ensures) (c-due .ensures) (c-least .ensures) (c-if2 .left)
     (r .reports) (r .reported) (c-write-run .last .1 .1 .1 .1 .1 .0) (c-write-run .last .1 .1 .1 .1 .1 .1 .0) (c-write-run .ensures)
 
@@ -107,7 +96,6 @@ deliver-spec =
     (tie.spec
     meets-requires
     returns
-    shared-slice-read-rules
     ending-requires
     least-requires
     due-requires

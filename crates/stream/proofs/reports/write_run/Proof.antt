@@ -5,14 +5,14 @@ use Prim.Native.Nat.{ℕ, _-_, _^_, _<_}
 use native.Mathlib.Nat.{le-refl, lt-of-lt-of-le}
 use denote.Ref.{now}
 use lib.Bits.{bitAnd, bitOr}
-use lib.Dec.{lit<}
 use lib.ListN.{length, set}
 use Rattle.table.specs.Layout.{rulesOf}
 use Rattle.table.specs.Automaton.{automaton}
 use Rattle.table.proofs.Test.{Passes, passes}
-use Rattle.stream.proofs.Bounds.{rules-word, less-left, digits, place-digit, next-place-fits, few-fit, few-ids-fit, few-offsets-fit}
+use Rattle.steps.proofs.Bounds.{less-left, place-digit, next-place-fits}
+use Rattle.steps.proofs.TableSets.{id-word}
+use Rattle.stream.proofs.Bounds.{rules-word, rules-few, few-fit, few-ids-fit, few-offsets-fit}
 use Rattle.stream.proofs.Runs.{Writing, writing-start, writing-room, writing-hit, writing-miss, writing-done, marks-words}
-use Rattle.stream.proofs.TableSets.{id-word}
 use Rattle.stream.proofs.reports.write_run.Statement.{statement}
 use Rattle.stream.proofs.reports.write_run.Tie as tie
 
@@ -44,13 +44,13 @@ loop-again c =
     let a = c-start .args in
     let l = c-loop in
     let t = now (a .words) in
-    let room = writing-room (automaton t) (a .ending) (a .reported) (a .end) (now (a .ids)) (now (a .offsets)) (l .ids) (l .offsets) (l .n) (l .a) (l .inv .2) (c-loop-test .taken) (digits (rulesOf t) (l .inv .0 .rules)) (c-start .fits .reported .fits) (bitAnd (a .ending) (2 ^ 64 - 1 - a .reported)) refl in (
+    let room = writing-room (automaton t) (a .ending) (a .reported) (a .end) (now (a .ids)) (now (a .offsets)) (l .ids) (l .offsets) (l .n) (l .a) (l .inv .2) (c-loop-test .taken) (rules-few t (l .inv .0 .rules)) (c-start .fits .reported .fits) (bitAnd (a .ending) (2 ^ 64 - 1 - a .reported)) refl in (
       l .inv .0,
       l .inv .1,
       ⊎-elim
-          (λ w. writing-hit (automaton t) (a .ending) (a .reported) (a .end) (now (a .ids)) (now (a .offsets)) (l .ids) (l .offsets) (l .n) (l .a) (l .inv .2) (c-loop-test .taken) (digits (rulesOf t) (l .inv .0 .rules)) (c-start .fits .reported .fits) (bitAnd (a .ending) (2 ^ 64 - 1 - a .reported)) refl (c-if1 .ids) (c-if1 .offsets) (c-if1 .n) (w .0 .taken) (room (length (now (a .ids))) (w .0 .taken) (c-start .pre .2)) (room (length (now (a .offsets))) (w .0 .taken) (c-start .pre .3))
-          (w .2 ∙ ap (set (l .ids) (l .n)) (w .1 .ensures ∙ id-word t (l .a) (lt-of-lt-of-le (c-loop-test .taken) (c-loop .inv .0 .rules)))) (w .3) (w .4))
-          (λ w. writing-miss (automaton t) (a .ending) (a .reported) (a .end) (now (a .ids)) (now (a .offsets)) (l .ids) (l .offsets) (l .n) (l .a) (l .inv .2) (c-loop-test .taken) (digits (rulesOf t) (l .inv .0 .rules)) (c-start .fits .reported .fits) (bitAnd (a .ending) (2 ^ 64 - 1 - a .reported)) refl (c-if1 .ids) (c-if1 .offsets) (c-if1 .n) (w .0 .left) (w .1) (w .2) (w .3))
+          (λ w. writing-hit (automaton t) (a .ending) (a .reported) (a .end) (now (a .ids)) (now (a .offsets)) (l .ids) (l .offsets) (l .n) (l .a) (l .inv .2) (c-loop-test .taken) (rules-few t (l .inv .0 .rules)) (c-start .fits .reported .fits) (bitAnd (a .ending) (2 ^ 64 - 1 - a .reported)) refl (c-if1 .ids) (c-if1 .offsets) (c-if1 .n) (w .0 .taken) (room (length (now (a .ids))) (w .0 .taken) (c-start .pre .2)) (room (length (now (a .offsets))) (w .0 .taken) (c-start .pre .3))
+          (w .2 ∙ ap (set (l .ids) (l .n)) (w .1 .ensures)) (w .3) (w .4))
+          (λ w. writing-miss (automaton t) (a .ending) (a .reported) (a .end) (now (a .ids)) (now (a .offsets)) (l .ids) (l .offsets) (l .n) (l .a) (l .inv .2) (c-loop-test .taken) (rules-few t (l .inv .0 .rules)) (c-start .fits .reported .fits) (bitAnd (a .ending) (2 ^ 64 - 1 - a .reported)) refl (c-if1 .ids) (c-if1 .offsets) (c-if1 .n) (w .0 .left) (w .1) (w .2) (w .3))
           (c-if1 .came),
     )
 
@@ -60,18 +60,17 @@ shr-if1 c =
     let c-loop-test = c .loop-test in
     place-digit (c-loop .a) (lt-of-lt-of-le (c-loop-test .taken) (c-loop .inv .0 .rules))
 
-record-word-requires : tie.Need-record-word-requires Inv-loop μ-loop
-record-word-requires c κs =
-    let c-loop = c .before .before .loop in
-    let c-loop-test = c .before .loop-test in
-    (c-loop .inv .0 .long, lt-of-lt-of-le (c-loop-test .taken) (c-loop .inv .0 .rules), lit< tt)
+rule-id-requires : tie.Need-rule-id-requires Inv-loop μ-loop
+rule-id-requires c κs = tt
 
 cast-ids : tie.Need-cast-ids Inv-loop μ-loop
 cast-ids c =
-    let c-record-word = c .record-word in
+    let c-rule-id = c .rule-id in
+    let c-start = c .before .before .before .before .before .before .before .before in
     let c-loop = c .before .before .before .loop in
     let c-loop-test = c .before .before .loop-test in
-    record { fits = subst (λ (x : ℕ). x < 2 ^ 32) (sym (c-record-word .ensures)) (c-loop .inv .0 .small (c-loop .a) (c-loop-test .taken)) }
+    let id = c-rule-id .ensures ∙ sym (id-word (now (c-start .args .words)) (c-loop .a) (lt-of-lt-of-le (c-loop-test .taken) (c-loop .inv .0 .rules))) in
+    record { fits = subst (λ (x : ℕ). x < 2 ^ 32) (sym id) (c-loop .inv .0 .small (c-loop .a) (c-loop-test .taken)) }
 
 mul-ids : tie.Need-mul-ids Inv-loop μ-loop
 mul-ids c =
@@ -89,7 +88,7 @@ slice-write-ids c =
     let a = c-start .args in
     let l = c-loop in
     let t = now (a .words) in
-    let room = writing-room (automaton t) (a .ending) (a .reported) (a .end) (now (a .ids)) (now (a .offsets)) (l .ids) (l .offsets) (l .n) (l .a) (l .inv .2) (c-loop-test .taken) (digits (rulesOf t) (l .inv .0 .rules)) (c-start .fits .reported .fits) (bitAnd (a .ending) (2 ^ 64 - 1 - a .reported)) refl in
+    let room = writing-room (automaton t) (a .ending) (a .reported) (a .end) (now (a .ids)) (now (a .offsets)) (l .ids) (l .offsets) (l .n) (l .a) (l .inv .2) (c-loop-test .taken) (rules-few t (l .inv .0 .rules)) (c-start .fits .reported .fits) (bitAnd (a .ending) (2 ^ 64 - 1 - a .reported)) refl in
     subst (λ (x : ℕ). l .n < x) (sym (l .inv .2 .ids-long)) (room (length (now (a .ids))) (c-if1 .taken) (c-start .pre .2))
 
 mul-offsets : tie.Need-mul-offsets Inv-loop μ-loop
@@ -108,7 +107,7 @@ slice-write-offsets c =
     let a = c-start .args in
     let l = c-loop in
     let t = now (a .words) in
-    let room = writing-room (automaton t) (a .ending) (a .reported) (a .end) (now (a .ids)) (now (a .offsets)) (l .ids) (l .offsets) (l .n) (l .a) (l .inv .2) (c-loop-test .taken) (digits (rulesOf t) (l .inv .0 .rules)) (c-start .fits .reported .fits) (bitAnd (a .ending) (2 ^ 64 - 1 - a .reported)) refl in
+    let room = writing-room (automaton t) (a .ending) (a .reported) (a .end) (now (a .ids)) (now (a .offsets)) (l .ids) (l .offsets) (l .n) (l .a) (l .inv .2) (c-loop-test .taken) (rules-few t (l .inv .0 .rules)) (c-start .fits .reported .fits) (bitAnd (a .ending) (2 ^ 64 - 1 - a .reported)) refl in
     subst (λ (x : ℕ). l .n < x) (sym (l .inv .2 .offsets-long)) (room (length (now (a .offsets))) (c-if1 .taken) (c-start .pre .3))
 
 add-n : tie.Need-add-n Inv-loop μ-loop
@@ -162,7 +161,7 @@ write-run-spec =
     shared-slice-read-rules
     loop-holds
     shr-if1
-    record-word-requires
+    rule-id-requires
     cast-ids
     mul-ids
     slice-write-ids

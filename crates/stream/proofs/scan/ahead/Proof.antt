@@ -12,18 +12,18 @@ use lib.ListN.{length, getD}
 use borrow.Author.Tests.{not-false, eqb-false}
 use Rattle.sets.specs.Set.{has, any, setOf, keptBelow, emptySet}
 use Rattle.sets.proofs.Laws.{empty-is}
-use Rattle.table.specs.Layout.{tableWords, maxPositions, firstAt, positionsOf, rowHas}
+use Rattle.table.specs.Layout.{maxPositions}
 use Rattle.table.specs.Automaton.{automaton}
-use Rattle.table.proofs.Rows.{row-there}
+use Rattle.steps.proofs.Bounds.{words-good, less-left}
+use Rattle.steps.proofs.Steps.{first-row, next-quiet}
 use Rattle.stream.specs.Invariants.{Skipped}
-use Rattle.stream.proofs.Bounds.{words-good, less-left, sum-fits, after-fits}
-use Rattle.stream.proofs.Steps.{next-quiet}
+use Rattle.stream.proofs.Bounds.{sum-fits, after-fits}
 use Rattle.stream.proofs.Turns.{skipped-none, skipped-more, skipped-live}
 use Rattle.stream.proofs.scan.ahead.Statement.{statement}
 use Rattle.stream.proofs.scan.ahead.Tie as tie
 
 abbrev Inv-loop : tie.InvT-loop
-Inv-loop taken words positions block from first at₀ at = (0 < taken + from) × (first ≡ keptBelow (setOf (rowHas words firstAt)) (positionsOf words)) × Skipped (automaton words) emptySet block taken from at
+Inv-loop taken words positions block from first at₀ at = (0 < taken + from) × (first ≡ keptBelow (setOf (automaton words .first)) (automaton words .positions)) × Skipped (automaton words) emptySet block taken from at
 
 abbrev μ-loop : tie.MeasureT-loop
 μ-loop taken words positions block from first at₀ at = length block - at
@@ -38,22 +38,19 @@ positive n e = omega (arith, eqb-false n 0 e)
 positive-more : (a b n : ℕ) → 0 < a + b → b ≤ n → 0 < a + n
 positive-more a b n h l = omega arith
 
-first-inside : (n : ℕ) → tableWords ≤ n → firstAt + 4 ≤ n
-first-inside n h = omega arith
-
 is-empty-requires : tie.Need-is-empty-requires Inv-loop μ-loop
 is-empty-requires c κs = tt
 
 add-if1 : tie.Need-add-if1 Inv-loop μ-loop
 add-if1 c =
     let c-start = c .before .before .before in
-    sum-fits (c-start .args .taken) (c-start .args .from) (length (now (c-start .args .block))) (c-start .pre .3) (c-start .pre .2)
+    sum-fits (c-start .args .taken) (c-start .args .from) (length (now (c-start .args .block))) (c-start .pre .2) (c-start .pre .1)
 
 returns : tie.Need-returns Inv-loop μ-loop
 returns c =
     let c-start = c .before .before .before .before in
     let a = c-start .args in
-    skipped-none (automaton (now (a .words))) (now (a .block)) (a .taken) (a .from) (a .live) (c-start .pre .2)
+    skipped-none (automaton (now (a .words))) (now (a .block)) (a .taken) (a .from) (a .live) (c-start .pre .1)
 
 row-requires : tie.Need-row-requires Inv-loop μ-loop
 row-requires c κs = tt
@@ -70,8 +67,8 @@ loop-holds c =
     let c-row = c .before .row in
     let a = c-start .args in (
       positive (a .taken + a .from) (either (not (c-is-empty .result)) (eqb (a .taken + a .from) 0) (c-if1 .left) .1),
-      c-below .ensures ∙ ap₂ keptBelow (c-row .ensures ∙ row-there (now (a .words)) firstAt (first-inside (length (now (a .words))) (c-start .pre .0))) (c-start .pre .1),
-      skipped-none (automaton (now (a .words))) (now (a .block)) (a .taken) (a .from) emptySet (c-start .pre .2),
+      c-below .ensures ∙ ap₂ keptBelow (c-row .ensures ∙ first-row (now (a .words))) (c-start .pre .0),
+      skipped-none (automaton (now (a .words))) (now (a .block)) (a .taken) (a .from) emptySet (c-start .pre .1),
     )
 
 shared-slice-read-takers : tie.Need-shared-slice-read-takers Inv-loop μ-loop
@@ -80,9 +77,7 @@ shared-slice-read-takers c =
     c-loop-test .taken
 
 takers-requires : tie.Need-takers-requires Inv-loop μ-loop
-takers-requires c κs =
-    let c-start = c .before .before .before .before .before .before .before .before .before in
-    c-start .pre .0
+takers-requires c κs = tt
 
 meets-requires : tie.Need-meets-requires Inv-loop μ-loop
 meets-requires c κs = tt
@@ -102,7 +97,7 @@ add-at c =
     let c-start = c .before .before .before .before .before .before .before .before .before .before .before .before in
     let c-loop = c .before .before .before .before .before .loop in
     let c-loop-test = c .before .before .before .before .loop-test in
-    after-fits (c-start .args .taken) (c-loop .at) (length (now (c-start .args .block))) (c-start .pre .3) (c-loop-test .taken)
+    after-fits (c-start .args .taken) (c-loop .at) (length (now (c-start .args .block))) (c-start .pre .2) (c-loop-test .taken)
 
 loop-less : tie.Need-loop-less Inv-loop μ-loop
 loop-less c =
@@ -119,7 +114,6 @@ loop-again c =
     let c-takers = c .before .before .takers in
     let c-if2 = c .if2 in
     let c-loop-test = c .before .before .before .before .loop-test in
-    let c-shared-slice-known3 = c .before .before .before .shared-slice-known3 in
     let a = c-start .args in
     let l = c-loop in
     let t = now (a .words) in
@@ -128,7 +122,7 @@ loop-again c =
       l .inv .0,
       l .inv .1,
       skipped-more (automaton t) (now (a .block)) (a .taken) (a .from) (l .at) (l .inv .2) (c-loop-test .taken)
-          (next-quiet t (a .taken + l .at) byte (positive-more (a .taken) (a .from) (l .at) (l .inv .0) (l .inv .2 .rises)) (c-shared-slice-known3 .given (l .at) .fits) apart),
+          (next-quiet (automaton t) (automaton t .positions) (a .taken + l .at) byte (positive-more (a .taken) (a .from) (l .at) (l .inv .0) (l .inv .2 .rises)) apart),
     )
 
 returns-3 : tie.Need-returns-3 Inv-loop μ-loop

@@ -1,57 +1,54 @@
 -- `stream::scan::run` meets its contract: each turn passes over the bytes that change nothing and takes one more (`Running`), or leaves the loop where its
 -- reports do not fit.
-use mathlib.Core.Path.{refl, sym, _∙_}
-use Prim.Native.Nat.{_+_, _-_}
+use mathlib.Core.Path.{_≡_, refl, sym, _∙_}
+use mathlib.Core.List.{List}
+use Prim.Native.Nat.{ℕ, _+_, _-_}
 use native.Mathlib.Nat.{add-assoc, le-refl, le-of-eq}
 use denote.Ref.{now}
-use lib.ListN.{length}
+use lib.ListN.{length, getD}
+use Rattle.table.specs.Layout.{positionsOf}
 use Rattle.table.specs.Automaton.{automaton}
 use Rattle.table.proofs.Test.{passes}
+use Rattle.steps.specs.Step.{stepped}
+use Rattle.steps.proofs.Bounds.{less-left}
 use Rattle.stream.specs.Invariants.{stateOf}
-use Rattle.stream.proofs.Bounds.{rules-word, positions-word, inside, not-both, less-left, sum-fits, next-fits, after-fits, count-fits, ids-fit, offsets-fit}
+use Rattle.stream.proofs.Bounds.{positions-word, inside, not-both, sum-fits, next-fits, after-fits, count-fits, ids-fit, offsets-fit}
 use Rattle.stream.proofs.Turns.{Running, running-start, ids-hold, offsets-hold, running-skip, running-room, running-run, running-stop, running-done}
 use Rattle.stream.proofs.scan.run.Statement.{statement}
 use Rattle.stream.proofs.scan.run.Tie as tie
 
+-- the number of positions is the automaton's
+stepping : (t live next : List ℕ) (taken x : ℕ) → next ≡ stepped (automaton t) (positionsOf t) live taken x → next ≡ stepped (automaton t) (automaton t .positions) live taken x
+unfolding automaton
+stepping t live next taken x e = e
+
 abbrev Inv-loop : tie.InvT-loop
-Inv-loop live₀ reported₀ taken words block ids₀ offsets₀ rules positions last single count₀ at₀ live reported ids offsets count at = Running (automaton words) (stateOf live₀ reported₀ taken) block ids₀ offsets₀ live reported ids offsets count at
+Inv-loop live₀ reported₀ taken words block ids₀ offsets₀ positions last single count₀ at₀ live reported ids offsets count at = Running (automaton words) (stateOf live₀ reported₀ taken) block ids₀ offsets₀ live reported ids offsets count at
 
 abbrev μ-loop : tie.MeasureT-loop
-μ-loop live₀ reported₀ taken words block ids₀ offsets₀ rules positions last single count₀ at₀ live reported ids offsets count at = length block - at
-
-shared-slice-read-rules : tie.Need-shared-slice-read-rules Inv-loop μ-loop
-shared-slice-read-rules c =
-    let c-start = c .before .before .before .before .before in
-    let t = now (c-start .args .words) in
-    rules-word (length t) (passes t (c-start .pre .0) .long)
+μ-loop live₀ reported₀ taken words block ids₀ offsets₀ positions last single count₀ at₀ live reported ids offsets count at = length block - at
 
 shared-slice-read-positions : tie.Need-shared-slice-read-positions Inv-loop μ-loop
 shared-slice-read-positions c =
-    let c-start = c .before .before .before .before .before .before in
+    let c-start = c .before .before .before .before .before in
     let t = now (c-start .args .words) in
     positions-word (length t) (passes t (c-start .pre .0) .long)
 
 lasts-requires : tie.Need-lasts-requires Inv-loop μ-loop
-lasts-requires c κs =
-    let c-start = c .before .before .before .before .before .before in
-    let p = passes (now (c-start .args .words)) (c-start .pre .0) in
-    (p .long, p .rules)
+lasts-requires c κs = tt
 
 singles-requires : tie.Need-singles-requires Inv-loop μ-loop
-singles-requires c κs =
-    let c-start = c .before .before .before .before .before .before .before in
-    let p = passes (now (c-start .args .words)) (c-start .pre .0) in
-    (p .long, p .rules)
+singles-requires c κs = tt
 
 loop-holds : tie.Need-loop-holds Inv-loop μ-loop
 loop-holds c =
-    let c-start = c .before .before .before .before .before .before .before .before in
+    let c-start = c .before .before .before .before .before .before .before in
     let a = c-start .args in
     running-start (automaton (now (a .words))) (stateOf (a .live) (a .reported) (a .taken)) (now (a .block)) (now (a .ids)) (now (a .offsets)) (c-start .fits .reported .fits)
 
 returns : tie.Need-returns Inv-loop μ-loop
 returns c =
-    let c-start = c .before .before .before .before .before .before .before .before .before .before .before in
+    let c-start = c .before .before .before .before .before .before .before .before .before .before in
     let c-loop = c .before .before .loop in
     let c-ahead = c .before .ahead in
     let c-if1 = c .if1 in
@@ -62,32 +59,31 @@ returns c =
     running-done (automaton t) s (now (a .block)) (now (a .ids)) (now (a .offsets)) (l .live) (l .reported) (l .ids) (l .offsets) (l .count) (c-ahead .result) (running-skip (automaton t) s (now (a .block)) (now (a .ids)) (now (a .offsets)) (l .live) (l .reported) (l .ids) (l .offsets) (l .count) (l .at) (c-ahead .result) (l .inv) (c-ahead .ensures)) (λ b. not-both (c-ahead .result) (length (now (a .block))) b (le-of-eq (sym (c-if1 .taken))))
 
 ahead-requires : tie.Need-ahead-requires Inv-loop μ-loop
+unfolding automaton
 ahead-requires c κs =
-    let c-start = c .before .before .before .before .before .before .before .before .before in
     let c-loop = c .loop in
-    (passes (now (c-start .args .words)) (c-start .pre .0) .long, refl, c-loop .inv .inside, c-start .pre .1)
+    let c-start = c .before .before .before .before .before .before .before .before in
+    (refl, c-loop .inv .inside, c-start .pre .1)
 
 add-before : tie.Need-add-before Inv-loop μ-loop
 add-before c =
-    let c-start = c .before .before .before .before .before .before .before .before .before .before .before in
+    let c-start = c .before .before .before .before .before .before .before .before .before .before in
     let c-ahead = c .before .ahead in
     sum-fits (c-start .args .taken) (c-ahead .result) (length (now (c-start .args .block))) (c-start .pre .1) (c-ahead .ensures .inside)
 
 shared-slice-read-step : tie.Need-shared-slice-read-step Inv-loop μ-loop
 shared-slice-read-step c =
     let c-ahead = c .before .before .ahead in
-    let c-start = c .before .before .before .before .before .before .before .before .before .before .before .before in
+    let c-start = c .before .before .before .before .before .before .before .before .before .before .before in
     let c-if1 = c .before .if1 in
     inside (c-ahead .result) (length (now (c-start .args .block))) (c-ahead .ensures .inside) (c-if1 .left)
 
 step-requires : tie.Need-step-requires Inv-loop μ-loop
-step-requires c κs =
-    let c-start = c .before .before .before .before .before .before .before .before .before .before .before .before in
-    (passes (now (c-start .args .words)) (c-start .pre .0) .long, refl)
+step-requires c κs = tt
 
 add-deliver : tie.Need-add-deliver Inv-loop μ-loop
 add-deliver c =
-    let c-start = c .before .before .before .before .before .before .before .before .before .before .before .before .before in
+    let c-start = c .before .before .before .before .before .before .before .before .before .before .before .before in
     let c-ahead = c .before .before .before .ahead in
     let c-if1 = c .before .before .if1 in
     let n = length (now (c-start .args .block)) in
@@ -96,12 +92,12 @@ add-deliver c =
 mul-deliver : tie.Need-mul-deliver Inv-loop μ-loop
 mul-deliver c =
     let c-loop = c .before .before .before .before .loop in
-    let c-start = c .before .before .before .before .before .before .before .before .before .before .before .before .before in
+    let c-start = c .before .before .before .before .before .before .before .before .before .before .before .before in
     ids-fit (c-loop .count) (length (now (c-start .args .ids))) (length (now (c-start .args .offsets))) (c-loop .inv .room) (c-start .good .1 .1 .1 .1 .1 .0 .1)
 
 sub-deliver : tie.Need-sub-deliver Inv-loop μ-loop
 sub-deliver c =
-    let c-start = c .before .before .before .before .before .before .before .before .before .before .before .before .before in
+    let c-start = c .before .before .before .before .before .before .before .before .before .before .before .before in
     let c-loop = c .before .before .before .before .loop in
     let a = c-start .args in
     let l = c-loop in
@@ -111,7 +107,7 @@ sub-deliver c =
 
 part-deliver-start : tie.Need-part-deliver-start Inv-loop μ-loop
 part-deliver-start c =
-    let c-start = c .before .before .before .before .before .before .before .before .before .before .before .before .before in
+    let c-start = c .before .before .before .before .before .before .before .before .before .before .before .before in
     let c-loop = c .before .before .before .before .loop in
     let a = c-start .args in
     let l = c-loop in
@@ -127,12 +123,12 @@ part-deliver-end c =
 mul-deliver-2 : tie.Need-mul-deliver-2 Inv-loop μ-loop
 mul-deliver-2 c =
     let c-loop = c .before .before .before .before .before .loop in
-    let c-start = c .before .before .before .before .before .before .before .before .before .before .before .before .before .before in
+    let c-start = c .before .before .before .before .before .before .before .before .before .before .before .before .before in
     offsets-fit (c-loop .count) (length (now (c-start .args .ids))) (length (now (c-start .args .offsets))) (c-loop .inv .room) (c-start .good .1 .1 .1 .1 .1 .1 .0 .1)
 
 sub-deliver-2 : tie.Need-sub-deliver-2 Inv-loop μ-loop
 sub-deliver-2 c =
-    let c-start = c .before .before .before .before .before .before .before .before .before .before .before .before .before .before in
+    let c-start = c .before .before .before .before .before .before .before .before .before .before .before .before .before in
     let c-loop = c .before .before .before .before .before .loop in
     let a = c-start .args in
     let l = c-loop in
@@ -142,7 +138,7 @@ sub-deliver-2 c =
 
 part-deliver-start-2 : tie.Need-part-deliver-start-2 Inv-loop μ-loop
 part-deliver-start-2 c =
-    let c-start = c .before .before .before .before .before .before .before .before .before .before .before .before .before .before in
+    let c-start = c .before .before .before .before .before .before .before .before .before .before .before .before .before in
     let c-loop = c .before .before .before .before .before .loop in
     let a = c-start .args in
     let l = c-loop in
@@ -157,14 +153,14 @@ part-deliver-end-2 c =
 
 deliver-requires : tie.Need-deliver-requires Inv-loop μ-loop
 deliver-requires c κs =
-    let c-start = c .before .before .before .before .before .before .before .before .before .before .before .before .before .before .before in
+    let c-start = c .before .before .before .before .before .before .before .before .before .before .before .before .before .before in
     let c-lasts = c .before .before .before .before .before .before .before .before .lasts in
     let c-singles = c .before .before .before .before .before .before .before .singles in
     (c-start .pre .0, c-lasts .ensures, c-singles .ensures)
 
 add-count : tie.Need-add-count Inv-loop μ-loop
 add-count c =
-    let c-start = c .before .before .before .before .before .before .before .before .before .before .before .before .before .before .before .before .before .before .before .before .before .before in
+    let c-start = c .before .before .before .before .before .before .before .before .before .before .before .before .before .before .before .before .before .before .before .before .before in
     let c-loop = c .before .before .before .before .before .before .before .before .before .before .before .before .before .loop in
     let c-ahead = c .before .before .before .before .before .before .before .before .before .before .before .before .ahead in
     let c-deliver = c .before .before .before .before .before .before .deliver in
@@ -179,11 +175,11 @@ add-count c =
     let ilast = c-deliver .last .1 .1 .1 .1 .1 .1 .0 in
     let olast = c-deliver .last .1 .1 .1 .1 .1 .1 .1 .0 in
     let moved = running-skip (automaton t) s (now (a .block)) (now (a .ids)) (now (a .offsets)) (l .live) (l .reported) (l .ids) (l .offsets) (l .count) (l .at) (c-ahead .result) (l .inv) (c-ahead .ensures) in
-    count-fits (l .count + r .reports) (length (now (a .ids))) (length (now (a .offsets))) (running-room (automaton t) s (now (a .block)) (now (a .ids)) (now (a .offsets)) (l .live) (l .reported) (l .ids) (l .offsets) (l .count) at moved (c-step .result) (c-step .ensures) (r .full) (r .reports) (r .reported) (a .taken + at + 1) ilast olast (c-deliver .ensures) (c-if2 .left)) (c-start .good .1 .1 .1 .1 .1 .0 .1)
+    count-fits (l .count + r .reports) (length (now (a .ids))) (length (now (a .offsets))) (running-room (automaton t) s (now (a .block)) (now (a .ids)) (now (a .offsets)) (l .live) (l .reported) (l .ids) (l .offsets) (l .count) at moved (c-step .result) (stepping t (l .live) (c-step .result) (a .taken + at) (getD (now (a .block)) at 0) (c-step .ensures)) (r .full) (r .reports) (r .reported) (a .taken + at + 1) ilast olast (c-deliver .ensures) (c-if2 .left)) (c-start .good .1 .1 .1 .1 .1 .0 .1)
 
 add-at : tie.Need-add-at Inv-loop μ-loop
 add-at c =
-    let c-start = c .before .before .before .before .before .before .before .before .before .before .before .before .before .before .before .before .before .before .before .before .before .before in
+    let c-start = c .before .before .before .before .before .before .before .before .before .before .before .before .before .before .before .before .before .before .before .before .before in
     let c-ahead = c .before .before .before .before .before .before .before .before .before .before .before .before .ahead in
     let c-if1 = c .before .before .before .before .before .before .before .before .before .before .before .if1 in
     let n = length (now (c-start .args .block)) in
@@ -191,7 +187,7 @@ add-at c =
 
 loop-less : tie.Need-loop-less Inv-loop μ-loop
 loop-less c =
-    let c-start = c .before .before .before .before .before .before .before .before .before .before .before .before .before .before .before .before .before .before .before .before .before .before in
+    let c-start = c .before .before .before .before .before .before .before .before .before .before .before .before .before .before .before .before .before .before .before .before .before in
     let c-loop = c .before .before .before .before .before .before .before .before .before .before .before .before .before .loop in
     let c-ahead = c .before .before .before .before .before .before .before .before .before .before .before .before .ahead in
     let c-if1 = c .before .before .before .before .before .before .before .before .before .before .before .if1 in
@@ -200,7 +196,7 @@ loop-less c =
 
 loop-again : tie.Need-loop-again Inv-loop μ-loop
 loop-again c =
-    let c-start = c .before .before .before .before .before .before .before .before .before .before .before .before .before .before .before .before .before .before .before .before .before .before in
+    let c-start = c .before .before .before .before .before .before .before .before .before .before .before .before .before .before .before .before .before .before .before .before .before in
     let c-loop = c .before .before .before .before .before .before .before .before .before .before .before .before .before .loop in
     let c-ahead = c .before .before .before .before .before .before .before .before .before .before .before .before .ahead in
     let c-deliver = c .before .before .before .before .before .before .deliver in
@@ -218,7 +214,7 @@ loop-again c =
     let ilast = c-deliver .last .1 .1 .1 .1 .1 .1 .0 in
     let olast = c-deliver .last .1 .1 .1 .1 .1 .1 .1 .0 in
     let moved = running-skip (automaton t) s (now (a .block)) (now (a .ids)) (now (a .offsets)) (l .live) (l .reported) (l .ids) (l .offsets) (l .count) (l .at) (c-ahead .result) (l .inv) (c-ahead .ensures) in
-    running-run (automaton t) s (now (a .block)) (now (a .ids)) (now (a .offsets)) (l .live) (l .reported) (l .ids) (l .offsets) (l .count) at moved (c-step .result) (c-step .ensures) (r .full) (r .reports) (r .reported) (a .taken + at + 1) ilast olast (c-deliver .ensures) (c-if2 .left) (inside at (length (now (a .block))) (moved .inside) (c-if1 .left)) (add-assoc (a .taken) at 1) (c-ids .given .1) (c-offsets .given .1)
+    running-run (automaton t) s (now (a .block)) (now (a .ids)) (now (a .offsets)) (l .live) (l .reported) (l .ids) (l .offsets) (l .count) at moved (c-step .result) (stepping t (l .live) (c-step .result) (a .taken + at) (getD (now (a .block)) at 0) (c-step .ensures)) (r .full) (r .reports) (r .reported) (a .taken + at + 1) ilast olast (c-deliver .ensures) (c-if2 .left) (inside at (length (now (a .block))) (moved .inside) (c-if1 .left)) (add-assoc (a .taken) at 1) (c-ids .given .1) (c-offsets .given .1)
 
 same-length : tie.Need-same-length Inv-loop μ-loop
 same-length c =
@@ -244,7 +240,7 @@ same-length-4 c =
 
 returns-2 : tie.Need-returns-2 Inv-loop μ-loop
 returns-2 c =
-    let c-start = c .before .before .before .before .before .before .before .before .before .before .before .before .before .before .before .before .before .before .before .before .before in
+    let c-start = c .before .before .before .before .before .before .before .before .before .before .before .before .before .before .before .before .before .before .before .before in
     let c-loop = c .before .before .before .before .before .before .before .before .before .before .before .before .loop in
     let c-ahead = c .before .before .before .before .before .before .before .before .before .before .before .ahead in
     let c-deliver = c .before .before .before .before .before .deliver in
@@ -261,7 +257,7 @@ returns-2 c =
     let ilast = c-deliver .last .1 .1 .1 .1 .1 .1 .0 in
     let olast = c-deliver .last .1 .1 .1 .1 .1 .1 .1 .0 in
     let moved = running-skip (automaton t) s (now (a .block)) (now (a .ids)) (now (a .offsets)) (l .live) (l .reported) (l .ids) (l .offsets) (l .count) (l .at) (c-ahead .result) (l .inv) (c-ahead .ensures) in
-    running-stop (automaton t) s (now (a .block)) (now (a .ids)) (now (a .offsets)) (l .live) (l .reported) (l .ids) (l .offsets) (l .count) at moved (c-step .result) (c-step .ensures) (r .full) (r .reports) (r .reported) (a .taken + at + 1) ilast olast (c-deliver .ensures) (c-if2 .taken) (c-ids .given .1) (c-offsets .given .1)
+    running-stop (automaton t) s (now (a .block)) (now (a .ids)) (now (a .offsets)) (l .live) (l .reported) (l .ids) (l .offsets) (l .count) at moved (c-step .result) (stepping t (l .live) (c-step .result) (a .taken + at) (getD (now (a .block)) at 0) (c-step .ensures)) (r .full) (r .reports) (r .reported) (a .taken + at + 1) ilast olast (c-deliver .ensures) (c-if2 .taken) (c-ids .given .1) (c-offsets .given .1)
 
 pub run-spec : {M : Type 1} → statement M
 run-spec =
@@ -269,7 +265,6 @@ run-spec =
     (tie.spec
     Inv-loop
     μ-loop
-    shared-slice-read-rules
     shared-slice-read-positions
     lasts-requires
     singles-requires

@@ -1,0 +1,63 @@
+-- What the code asks of numbers: sums and products that fit a word, measures that fall. Each is stated over plain numbers, since `omega` is dear where all that
+-- is known of a call is in reach.
+use mathlib.Core.Path.{_≡_}
+use Prim.Native.Nat.{ℕ, _+_, _*_, _-_, _<_, _≤_, min}
+use native.Mathlib.Omega.{arith}
+use mathlib.Core.List.{List}
+use mir.Syntax.{w32, w64}
+use mir.Val.{Val, Fits}
+use denote.Laws.{Is}
+use denote.Plain.{UInt}
+use denote.Array.{Array}
+use borrow.Author.Needs.{needs}
+use borrow.Kind.Array.{eInt, good-length}
+use Rattle.sets.proofs.Laws.{Words, words-owned}
+use Rattle.table.specs.Layout.{maxRules, recordAt}
+
+-- a place is one more, or has reached the end
+pub up : (a n : ℕ) → a < n → a + 1 ≤ n
+up a n h = omega arith
+
+pub reached : (a n : ℕ) → a ≤ n → n ≤ a → a ≡ n
+reached a n h l = omega arith
+
+-- what is left falls
+pub less-left : (n from at : ℕ) → from ≤ at → at < n → n - (at + 1) < n - from
+less-left n from at h l = omega arith
+
+-- ---- the records of a table's rules
+
+-- the rules that are looked at are no more than a table can have
+pub few-rules : (n rules : ℕ) → n ≡ min rules maxRules → n ≤ maxRules
+few-rules n rules e = omega arith
+
+module _ (a : ℕ) (h : a < maxRules) where
+  pub place-digit : a < 64
+  place-digit = omega arith
+
+  pub place-fits : Fits w64 (a * 16)
+  place-fits = record { fits = omega arith }
+
+  pub record-fits : Fits w64 (recordAt a)
+  record-fits = record { fits = omega arith }
+
+  pub field-fits : (i : ℕ) → i ≤ 12 → Fits w64 (recordAt a + i)
+  field-fits i l = record { fits = omega arith }
+
+  pub next-place-fits : Fits w64 (a + 1)
+  next-place-fits = record { fits = omega arith }
+
+-- ---- a set's four words
+
+pub words-good : (s : List ℕ) (vs : List Val) → Is (Array (UInt w64) 4) s vs → Words s
+words-good s vs p = words-owned s (good-length (eInt w64) 4 s vs p) (λ i. search needs)
+
+-- the turns of the walks over them
+pub two-turns : (a b : ℕ) → a ≤ 64 → b ≤ 64 → Fits w32 (a + b)
+two-turns a b h i = record { fits = omega arith }
+
+pub three-turns : (a b c : ℕ) → a ≤ 64 → b ≤ 64 → c ≤ 64 → Fits w32 (a + b + c)
+three-turns a b c h i j = record { fits = omega arith }
+
+pub four-turns : (a b c d : ℕ) → a ≤ 64 → b ≤ 64 → c ≤ 64 → d ≤ 64 → Fits w32 (a + b + c + d)
+four-turns a b c d h i j k = record { fits = omega arith }

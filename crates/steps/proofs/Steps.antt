@@ -1,0 +1,148 @@
+-- One byte's step in words: the first positions joined with the follow row of each live one, met with the byte's row and kept below the count, are
+-- `stepped`.
+use mathlib.Core.Path.{_≡_, refl, sym, ap, ap₂, _∙_}
+use mathlib.Core.Bool.{Bool, true, false, cond, _||_, _&&_, or-false, or-assoc, and-comm}
+use mathlib.Core.List.{List}
+use Prim.Native.Nat.{ℕ, zero, suc, _+_, _-_, _<_, _≤_}
+use native.Mathlib.Nat.{add-zero, add-suc}
+use native.Mathlib.Numerals.{add-one}
+use native.Mathlib.Omega.{arith}
+use lib.Dec.{eqb, ltb}
+use borrow.Author.Tests.{lt-ltb, eq-eqb, ne-eqb}
+use Rattle.sets.specs.Set.{has, setOf, any, unionOf, intersectionOf, keptBelow, emptySet}
+use Rattle.sets.proofs.Laws.{has-setOf, has-empty, has-below, setOf-ext, union-setOf, intersection-setOf, below-setOf, any-none, any-ext, any-never}
+use Rattle.table.specs.Layout.{maxPositions, bytes, firstAt, firstAtStartAt, followAt, takersAt, rowHas}
+use Rattle.table.specs.Automaton.{Automaton, automaton}
+use Rattle.steps.specs.Step.{starts, stepped}
+
+-- ---- the first positions
+
+pub starts-first : (t : List ℕ) (taken : ℕ) → taken ≡ 0 → setOf (rowHas t firstAtStartAt) ≡ setOf (starts (automaton t) taken)
+unfolding starts automaton
+starts-first t taken e = ap (λ (b : Bool). setOf (λ q. cond b (rowHas t firstAtStartAt q) (rowHas t firstAt q))) (sym (eq-eqb taken 0 e))
+
+pub starts-later : (t : List ℕ) (taken : ℕ) → (taken ≡ 0 → ⊥) → setOf (rowHas t firstAt) ≡ setOf (starts (automaton t) taken)
+unfolding starts automaton
+starts-later t taken e = ap (λ (b : Bool). setOf (λ q. cond b (rowHas t firstAtStartAt q) (rowHas t firstAt q))) (sym (ne-eqb taken 0 e))
+
+-- ---- the live positions are asked one a turn
+
+module _ (t live : List ℕ) (from : ℕ → Bool) where
+  -- a set, with what follows the live positions below n
+  abbrev pub reached : ℕ → List ℕ
+  reached n = setOf (λ q. from q || any n (λ p. has live p && rowHas t (followAt p) q))
+
+  module _ (n : ℕ) where
+    more : (ℕ → Bool) → ℕ → Bool
+    more row q = from q || (any n (λ p. has live p && rowHas t (followAt p) q) || row q)
+
+    one-more : (b : Bool) → has live n ≡ b → setOf (more (λ q. b && rowHas t (followAt n) q)) ≡ reached (n + 1)
+    unfolding more any
+    one-more b e = ap (λ (x : Bool). setOf (more (λ q. x && rowHas t (followAt n) q))) (sym e) ∙ ap reached (sym (add-one n))
+
+    pub reached-hit : has live n ≡ true → unionOf (reached n) (setOf (rowHas t (followAt n))) ≡ reached (n + 1)
+    unfolding more
+    reached-hit e =
+        union-setOf (λ q. from q || any n (λ p. has live p && rowHas t (followAt p) q)) (rowHas t (followAt n))
+        ∙ setOf-ext (λ q. (from q || any n (λ p. has live p && rowHas t (followAt p) q)) || rowHas t (followAt n) q) (more (rowHas t (followAt n)))
+        (λ q h. or-assoc (from q) (any n (λ p. has live p && rowHas t (followAt p) q)) (rowHas t (followAt n) q))
+        ∙ one-more true e
+
+    reached-miss : has live n ≡ false → reached n ≡ reached (n + 1)
+    unfolding more
+    reached-miss e =
+        setOf-ext (λ q. from q || any n (λ p. has live p && rowHas t (followAt p) q)) (more (λ q. false))
+        (λ q h. ap (λ (x : Bool). from q || x) (sym (or-false (any n (λ p. has live p && rowHas t (followAt p) q)))))
+        ∙ one-more false e
+
+  -- positions that are not live need not be asked
+  reached-on : (n d : ℕ) → ((p : ℕ) → n ≤ p → p < n + d → has live p ≡ false) → reached n ≡ reached (n + d)
+  reached-on n zero e = ap reached (sym (add-zero n))
+  reached-on n (suc d) e =
+      reached-on n d (λ p h l. e p h (omega arith)) ∙ reached-miss (n + d) (e (n + d) (omega arith) (omega arith))
+      ∙ ap reached (add-one (n + d) ∙ sym (add-suc n d))
+
+  pub reached-skip : (m n : ℕ) → m ≤ n → ((p : ℕ) → m ≤ p → p < n → has live p ≡ false) → reached m ≡ reached n
+  reached-skip m n h e =
+      let whole : m + (n - m) ≡ n = omega arith in
+      reached-on m (n - m) (λ p g l. e p g (omega arith)) ∙ ap reached whole
+
+-- ---- the step
+
+module _ (t live : List ℕ) (taken : ℕ) where
+  -- from the set of the first positions
+  pub reached-starts : (first : List ℕ) → first ≡ setOf (starts (automaton t) taken)
+      → reached t live (has first) maxPositions ≡ reached t live (starts (automaton t) taken) maxPositions
+  unfolding starts
+  reached-starts first e =
+      setOf-ext (λ q. has first q || follows q) (λ q. starts (automaton t) taken q || follows q)
+      (λ q h. ap (λ (b : Bool). b || follows q) (ap (λ (s : List ℕ). has s q) e ∙ has-setOf (starts (automaton t) taken) q h))
+    where
+      follows : ℕ → Bool
+      follows q = any maxPositions (λ p. has live p && rowHas t (followAt p) q)
+
+  -- met with the byte's row and kept below the count
+  pub next-words : (n x : ℕ)
+      → keptBelow (intersectionOf (reached t live (starts (automaton t) taken) maxPositions) (setOf (automaton t .takes x))) n ≡ stepped (automaton t) n live taken x
+  unfolding stepped automaton
+  next-words n x =
+      ap (λ (s : List ℕ). keptBelow s n) (intersection-setOf from takes)
+      ∙ below-setOf (λ q. from q && takes q) n
+      ∙ setOf-ext (λ q. (from q && takes q) && ltb q n) (λ q. ltb q n && (takes q && from′ q))
+      (λ q l. and-comm (from q && takes q) (ltb q n)
+      ∙ ap (λ (b : Bool). ltb q n && b)
+      (and-comm (from q) (takes q) ∙ ap (λ (b : Bool). takes q && (starts (automaton t) taken q || b)) (follows q)))
+    where
+      from : ℕ → Bool
+      from q = starts (automaton t) taken q || any maxPositions (λ p. has live p && rowHas t (followAt p) q)
+
+      from′ : ℕ → Bool
+      from′ q = starts (automaton t) taken q || any maxPositions (λ p. has live p && automaton t .follow p q)
+
+      takes : ℕ → Bool
+      takes q = automaton t .takes x q
+
+      follows : (q : ℕ) → any maxPositions (λ p. has live p && rowHas t (followAt p) q) ≡ any maxPositions (λ p. has live p && automaton t .follow p q)
+      follows q =
+          any-ext maxPositions (λ p. has live p && rowHas t (followAt p) q) (λ p. has live p && automaton t .follow p q)
+          (λ p l. ap (λ (b : Bool). has live p && (b && rowHas t (followAt p) q)) (sym (lt-ltb p maxPositions l)))
+
+-- a byte's row
+pub takers-row : (t : List ℕ) (x : ℕ) → x < bytes → setOf (rowHas t (takersAt x)) ≡ setOf (automaton t .takes x)
+unfolding automaton
+takers-row t x h = ap (λ (b : Bool). setOf (λ q. b && rowHas t (takersAt x) q)) (sym (lt-ltb x bytes h))
+
+-- ---- a byte that starts nothing
+
+pub first-row : (t : List ℕ) → setOf (rowHas t firstAt) ≡ setOf (automaton t .first)
+unfolding automaton
+first-row t = refl
+
+-- inside the stream, an empty live set stays empty where no first position below the count takes the byte
+pub next-quiet : (w : Automaton) (n taken x : ℕ) → 0 < taken
+    → any maxPositions (λ q. has (keptBelow (setOf (w .first)) n) q && has (setOf (w .takes x)) q) ≡ false
+    → stepped w n emptySet taken x ≡ emptySet
+unfolding stepped starts emptySet
+next-quiet w n taken x h e =
+    setOf-ext (λ q. ltb q n && (w .takes x q && (first q || any maxPositions (follows q)))) (λ q. false)
+    (λ q m.
+    ap₂ (λ (b c : Bool). ltb q n && (w .takes x q && (cond b (w .firstAtStart q) (w .first q) || c))) (ne-eqb taken 0 (λ z. omega arith)) (any-never maxPositions (follows q) (none q))
+    ∙ turned (w .first q) (ltb q n) (w .takes x q)
+    (sym (ap₂ (λ (b c : Bool). b && c) (has-below (setOf (w .first)) n q m ∙ ap (λ (b : Bool). b && ltb q n) (has-setOf (w .first) q m)) (has-setOf (w .takes x) q m))
+    ∙ any-none maxPositions (λ q. has (keptBelow (setOf (w .first)) n) q && has (setOf (w .takes x)) q) e q m))
+  where
+    first : ℕ → Bool
+    first q = cond (eqb taken 0) (w .firstAtStart q) (w .first q)
+
+    follows : ℕ → ℕ → Bool
+    follows q p = has emptySet p && w .follow p q
+
+    none : (q p : ℕ) → p < maxPositions → follows q p ≡ false
+    none q p h = ap (λ (b : Bool). b && w .follow p q) (has-empty p h)
+
+    turned : (a b c : Bool) → ((a && b) && c) ≡ false → (b && (c && (a || false))) ≡ false
+    turned true true c f = ap (λ (b : Bool). b && true) f
+    turned true false c f = refl
+    turned false true true f = refl
+    turned false true false f = refl
+    turned false false c f = refl

@@ -1,0 +1,35 @@
+-- What one byte does to a live set, and which rules a live set ends. Over the automaton that the words describe, not over words. Assumes nothing: these are
+-- definitions.
+use mathlib.Core.Bool.{Bool, cond, _&&_, _||_}
+use mathlib.Core.List.{List}
+use Prim.Native.Nat.{ℕ}
+use lib.Dec.{eqb, ltb}
+use Rattle.sets.specs.Set.{has, setOf, wordOf, any}
+use Rattle.table.specs.Layout.{maxPositions}
+use Rattle.table.specs.Automaton.{Automaton}
+
+module _ (w : Automaton) where
+  -- the positions at which a match can start with the next byte, `taken` bytes into the stream; `^` and `\A` "hold at offset 0 only"
+  unfoldable pub starts : (taken : ℕ) → ℕ → Bool
+  starts taken q = cond (eqb taken 0) (w .firstAtStart q) (w .first q)
+
+  -- The live set after byte x: the positions below n, the number that there are, that take x, and are first or follow a live one. A match may start at every
+  -- byte.
+  unfoldable pub stepped : (n : ℕ) → (live : List ℕ) → (taken x : ℕ) → List ℕ
+  stepped n live taken x =
+      setOf (λ q. ltb q n && (w .takes x q && (starts taken q || any maxPositions (λ p. has live p && w .follow p q))))
+
+  -- some live position ends a match of the rule in place a: plainly, or if the stream ends here
+  unfoldable pub ends : List ℕ → ℕ → Bool
+  ends live a = any maxPositions (λ p. has live p && w .last a p)
+
+  unfoldable pub endsAtEnd : List ℕ → ℕ → Bool
+  endsAtEnd live a = any maxPositions (λ p. has live p && w .lastAtEnd a p)
+
+  -- the positions with which a match of some rule can end plainly
+  unfoldable pub lastsOf : List ℕ
+  lastsOf = setOf (λ p. any (w .rules) (λ a. w .last a p))
+
+  -- the rules that pass a test, as a word: digit a is the rule in place a
+  abbrev pub rulesWhere : (ℕ → Bool) → ℕ
+  rulesWhere test = wordOf 64 (λ a. ltb a (w .rules) && test a)

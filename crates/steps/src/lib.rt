@@ -1,0 +1,15 @@
+// One byte's work over the words of a table: the live set after it, the rules that end there, and what a call reads of the rules before its first byte. The
+// state, the reports and the calls are above, in the crate `stream`. Nothing is required of a caller: each promise holds for any words. specs/Step.antt says
+// what each function gives.
+mod byte;
+mod rows;
+mod walk;
+
+pub use byte::step;
+pub use byte::takers;
+pub use rows::closing;
+pub use rows::ending;
+pub use rows::lasts;
+pub use rows::meets;
+pub use rows::rule_id;
+pub use rows::singles;
