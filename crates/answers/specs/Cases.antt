@@ -40,9 +40,9 @@ wrong (c ∷ l) = cond (right c) (wrong l) (c ∷ wrong l)
 abbrev row : ℕ → String → ℕ → ℕ → Case
 row flags text n at = record { flags = flags; pattern = bytes text; number = n; place = at }
 
--- so many times `a`
-abbrev ofLength : ℕ → ℕ → ℕ → Case
-ofLength k n at = record { flags = 0; pattern = replicate k 97; number = n; place = at }
+-- so many times `a`, and bytes before and after them
+abbrev long : String → ℕ → String → ℕ → ℕ → Case
+long front k back n at = record { flags = 0; pattern = bytes front ++ (replicate k 97 ++ bytes back); number = n; place = at }
 
 unfoldable pub cases : List Case
 cases =
@@ -71,9 +71,15 @@ cases =
     ∷ row 0 "" 15 0
     ∷ row 0 "((((((((((((((((a))))))))))))))))" 0 0
     ∷ row 0 "(((((((((((((((((a)))))))))))))))))" 13 16
-    -- "Pattern: 256 bytes"
-    ∷ ofLength 256 0 0
-    ∷ ofLength 257 5 0
+    -- "Raise .. the pattern to 1,024 bytes": 256 positions, and 257 at the pattern's length; 1,024 bytes and 1,025; a place beyond 255
+    ∷ long "" 256 "" 0 0
+    ∷ long "" 257 "" 16 257
+    ∷ long "" 1024 "" 16 1024
+    ∷ long "" 1025 "" 5 0
+    ∷ long "(?#" 1019 ")a" 0 0
+    ∷ long "[" 1022 "]" 0 0
+    ∷ long "[" 1023 "]" 5 0
+    ∷ long "[" 999 "z-a]" 9 1000
     -- the corners of escapes, classes, quantifiers, groups and options
     ∷ row 0 "\\" 6 0
     ∷ row 0 "a\\" 6 1

@@ -96,7 +96,7 @@ fn repeat(
     follow: &mut [u64; 1024],
     takes: &mut [u64; 1024],
 ) -> Fragment
-    requires { ⌜ (n < 131072) × (j < 8589934592) × Room (repeated (childForm (now a) k x) n (extra endless j)) b ⌝ }
+    requires { ⌜ (n < 131072) × (j < 2147483648) × Room (repeated (childForm (now a) k x) n (extra endless j)) b ⌝ }
     ensures { λ r. ⌜ Built (repeated (childForm (now (a .entry)) k x) n (extra endless j)) b (now (follow .entry)) (now (follow .exit)) (now (takes .entry)) (now (takes .exit)) r ⌝ }
 {
     if n == 0 {
@@ -130,9 +130,9 @@ pub(super) fn node(
 {
     let w = layout::word(a, k);
     let op = w % 8;
-    let x = w / 8 % 2048;
-    let y = w / 16384 % 131072;
-    let z = w / 2147483648;
+    let x = w / 8 % 8192;
+    let y = w / 65536 % 131072;
+    let z = w / 8589934592;
     if op == layout::ITEM {
         rows::put(takes, b, items::set_of(a, k));
         return fragments::one(b);

@@ -6,11 +6,11 @@ use show::add;
 use show::empty;
 use show::log;
 
-// 32 rules are a full table. There an id that is taken comes first.
+// 64 rules are a full table. There an id that is taken comes first.
 fn rules(words: &mut [u64]) {
     empty(words);
     let mut id: u32 = 1;
-    while id <= 33 {
+    while id <= 65 {
         add(words, id, b"a");
         id += 1;
     }
@@ -40,10 +40,23 @@ fn positions_in_all(words: &mut [u64]) {
 }
 
 // 256 bytes of a pattern, one position each.
-fn bytes(words: &mut [u64]) {
+fn bytes_with_positions(words: &mut [u64]) {
     empty(words);
     add(words, 1, &[b'a'; 257]);
     add(words, 1, &[b'a'; 256]);
+    log(words, &[b'a'; 257]);
+}
+
+// 1,024 bytes of a pattern: a comment of 768, and 256 that have a position each.
+fn bytes(words: &mut [u64]) {
+    let mut pattern = [b'a'; 1025];
+    pattern[0] = b'(';
+    pattern[1] = b'?';
+    pattern[2] = b'#';
+    pattern[767] = b')';
+    empty(words);
+    add(words, 1, &pattern);
+    add(words, 1, &pattern[..1024]);
     log(words, &[b'a'; 257]);
 }
 
@@ -72,6 +85,7 @@ fn main() {
     rules(table);
     positions(table);
     positions_in_all(table);
+    bytes_with_positions(table);
     bytes(table);
     groups(table);
     repeats(table);

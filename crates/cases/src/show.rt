@@ -1,6 +1,10 @@
 // One line for each call that a case makes.
 use libc::STDOUT_FILENO;
 use stream::Stream;
+use table::layout::MAX_RULES;
+
+// Report space: a slot for each rule that a table may have.
+const SLOTS: usize = MAX_RULES as usize;
 
 // Writes a text. A write that fails is not looked at: the comparison with the expected output finds it.
 fn say(text: &[u8]) {
@@ -54,8 +58,8 @@ fn reports(ids: &[u32], offsets: &[u64], count: usize) {
 
 // Scans a log as a stream of its own: its length, the bytes taken, and each report as id and end offset; then those of the closing.
 pub fn log(words: &[u64], bytes: &[u8]) {
-    let mut ids = [0u32; 64];
-    let mut offsets = [0u64; 64];
+    let mut ids = [0u32; SLOTS];
+    let mut offsets = [0u64; SLOTS];
     let opened = Stream::open(words);
     let scanned = opened.stream.scan(words, bytes, &mut ids, &mut offsets);
     say(b"log of ");

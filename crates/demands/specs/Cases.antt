@@ -46,7 +46,8 @@ unfoldable pub expected : List (String × List Pair) → List Pair → List Outc
 expected [] closing = by-close 0 closing ∷ []
 expected (b ∷ bs) closing = by-scan 0 (length (bytes (b .0))) (b .1) ∷ expected bs closing
 
--- the opening on a table is accepted, and the calls after it give this, whatever the lists hold before, if both have 32 slots
+-- the opening on a table is accepted, and the calls after it give this, whatever the lists hold before, if both have a slot for each rule that a table may
+-- have
 abbrev pub Gives : List ℕ → Log → Type 0
 Gives t log = (opened t .number ≡ 0)
     × ((lent : ℕ → List ℕ × List ℕ) → ((i : ℕ) → maxRules ≤ space (lent i .0) (lent i .1))

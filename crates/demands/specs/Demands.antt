@@ -86,9 +86,8 @@ pub data Refusal (rules : List Accepted) (a : Addition) : Type 0 where
   unknown-flag : ¬ (bitAnd (a .flags) knownFlags ≡ a .flags) → Refusal rules a
   -- 3: "id already in the table"
   id-there : (r : Accepted) → List·Memᴰ r rules → r .id ≡ a .id → Refusal rules a
-  -- 4: "32 rules there"
+  -- 4 and 5: "Raise the rules in a table to 64 and the pattern to 1,024 bytes; refusals 4 and 5 move with them."
   all-there : maxRules ≤ length rules → Refusal rules a
-  -- 5: "pattern over 256 bytes"
   too-long : longest < length (a .pattern) → Refusal rules a
   -- 6 to 16 and 23, each a predicate of its own: crates/pattern/specs/Reasons.antt
   in-pattern : (number place : ℕ) → Reason (a .pattern) (optionsOf (a .flags)) number place → Refusal rules a

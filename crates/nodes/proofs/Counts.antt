@@ -41,9 +41,9 @@ unfolding nullable
 nullable-repeat t zero j h = absurd (h refl)
 nullable-repeat t (suc n) j h = refl
 
-pub copied-small : (y z : ℕ) → y < 2 ^ 17 → z < 2 ^ 33 → copied y (extraOf z) ≤ 2 ^ 34
+pub copied-small : (y z : ℕ) → y < 2 ^ 17 → z < 2 ^ 31 → copied y (extraOf z) ≤ 2 ^ 32
 unfolding copied
-copied-small y z h k = either (λ (e : Extra). copied y e ≤ 2 ^ 34) (eqb z cap) (λ e. omega arith) (λ e. omega arith)
+copied-small y z h k = either (λ (e : Extra). copied y e ≤ 2 ^ 32) (eqb z cap) (λ e. omega arith) (λ e. omega arith)
 
 -- where w is the word of node k
 module _ (a : List ℕ) (k w : ℕ) (ew : w ≡ getD a k 0) where

@@ -20,18 +20,18 @@ use Rattle.nodes.proofs.Base.{sets-append}
 
 -- ---- the fields of a word
 
-module _ (op x y z : ℕ) (ho : op < 8) (hx : x < 2048) (hy : y < 2 ^ 17) where
+module _ (op x y z : ℕ) (ho : op < 8) (hx : x < 2 ^ 13) (hy : y < 2 ^ 17) where
   op-word : opOf (word op x y z) ≡ op
   op-word = omega arith
 
   x-word : xOf (word op x y z) ≡ x
   x-word =
-      let q : word op x y z / 8 ≡ x + 2 ^ 11 * y + 2 ^ 28 * z = omega arith in
+      let q : word op x y z / 8 ≡ x + 2 ^ 13 * y + 2 ^ 30 * z = omega arith in
       rw q (omega arith)
 
   y-word : yOf (word op x y z) ≡ y
   y-word =
-      let q : word op x y z / 2 ^ 14 ≡ y + 2 ^ 17 * z = omega arith in
+      let q : word op x y z / 2 ^ 16 ≡ y + 2 ^ 17 * z = omega arith in
       rw q (omega arith)
 
   z-word : zOf (word op x y z) ≡ z
@@ -113,7 +113,7 @@ module _ (d : ℕ) (a : List ℕ) (k : ℕ) where
   unfolding nodeOf
   read-item c r h e l = rw l (ap item (take-at c r 4 e))
 
-  module _ (x y : ℕ) (hx : x < 2048) (hy : y < 2048) (lx : x < k) (ly : y < k) (t u : Syntax) (ex : treeWithin d a x ≡ t) (ey : treeWithin d a y ≡ u) where
+  module _ (x y : ℕ) (hx : x < 2 ^ 13) (hy : y < 2 ^ 13) (lx : x < k) (ly : y < k) (t u : Syntax) (ex : treeWithin d a x ≡ t) (ey : treeWithin d a y ≡ u) where
     read-then : node-at d a k (word 3 x y 0) ≡ then t u
     unfolding nodeOf
     read-then = rw (op-word 3 x y 0 (omega arith) hx (omega arith), x-word 3 x y 0 (omega arith) hx (omega arith), y-word 3 x y 0 (omega arith) hx (omega arith), lt-ltb x k lx, lt-ltb y k ly, ex, ey)
@@ -122,14 +122,14 @@ module _ (d : ℕ) (a : List ℕ) (k : ℕ) where
     unfolding nodeOf
     read-or = rw (op-word 4 x y 0 (omega arith) hx (omega arith), x-word 4 x y 0 (omega arith) hx (omega arith), y-word 4 x y 0 (omega arith) hx (omega arith), lt-ltb x k lx, lt-ltb y k ly, ex, ey)
 
-  read-repeat : (x m : ℕ) (j : Extra) → x < 2048 → m < cap → extraOf (numberOf j) ≡ j → x < k → (t : Syntax) → treeWithin d a x ≡ t → node-at d a k (word 5 x m (numberOf j)) ≡ repeat t m j
+  read-repeat : (x m : ℕ) (j : Extra) → x < 2 ^ 13 → m < cap → extraOf (numberOf j) ≡ j → x < k → (t : Syntax) → treeWithin d a x ≡ t → node-at d a k (word 5 x m (numberOf j)) ≡ repeat t m j
   unfolding nodeOf
   read-repeat x m j hx hm hj lx t ex =
       let z : ℕ = numberOf j in
       rw (op-word 5 x m z (omega arith) hx (omega arith), x-word 5 x m z (omega arith) hx (omega arith), y-word 5 x m z (omega arith) hx (omega arith), z-word 5 x m z (omega arith) hx (omega arith), lt-ltb x k lx, ex, hj)
 
 -- a node with two children, whose words stand in front of its own
-module _ (f : ℕ) (a : List ℕ) (n : ℕ) (r : List ℕ) (x y : Syntax) (op : ℕ) (dx : Tidy x) (dy : Tidy y) (small : n + (width x + width y) < 2048) where
+module _ (f : ℕ) (a : List ℕ) (n : ℕ) (r : List ℕ) (x y : Syntax) (op : ℕ) (dx : Tidy x) (dy : Tidy y) (small : n + (width x + width y) < 2 ^ 13) where
   read-two : (k : ℕ) (node : Syntax)
       → k ≡ n + (width x + width y)
       → Stands a n ((lay n x ++ lay (n + width x) y) ++ (word op (n + width x - 1) (n + width x + width y - 1) 0 ∷ [])) r
@@ -147,7 +147,7 @@ module _ (f : ℕ) (a : List ℕ) (n : ℕ) (r : List ℕ) (x y : Syntax) (op : 
       (ix (ahead a n (lay n x) (lay (n + width x) y) ((w ∷ []) ++ r) both))
       (iy (behind a n (width x) (lay n x) (lay (n + width x) y) ((w ∷ []) ++ r) both (lay-length x n dx)))
 
-read-laid : (t : Syntax) (d : ℕ) (a : List ℕ) (n k : ℕ) (r : List ℕ) → width t ≤ d → k + 1 ≡ n + width t → n + width t ≤ 2048 → Tidy t → Stands a n (lay n t) r → treeWithin d a k ≡ t
+read-laid : (t : Syntax) (d : ℕ) (a : List ℕ) (n k : ℕ) (r : List ℕ) → width t ≤ d → k + 1 ≡ n + width t → n + width t ≤ 2 ^ 13 → Tidy t → Stands a n (lay n t) r → treeWithin d a k ≡ t
 unfolding width lay Tidy
 read-laid t zero a n k r hd e h d s = absurd (omega (arith, width-pos t))
 read-laid empty (suc f) a n k r hd e h d s = step f a n k _ r (omega arith) s ∙ read-empty f a n
@@ -180,7 +180,7 @@ read-laid (repeat x m j) (suc f) a n k r hd e h d s =
     (read-laid x f a n (n + width x - 1) ((w ∷ []) ++ r) (omega arith) (omega arith) (omega arith) (d .0) (ahead a n (lay n x) (w ∷ []) r s))
 
 -- a tidy tree written from n on is the tree of its last word
-pub laid-tree : (t : Syntax) (a b : List ℕ) (n k : ℕ) → k + 1 ≡ n + width t → n + width t ≤ 2048 → n + width t ≤ length a → Tidy t → b ≡ sets a n (lay n t) → treeAt b k ≡ t
+pub laid-tree : (t : Syntax) (a b : List ℕ) (n k : ℕ) → k + 1 ≡ n + width t → n + width t ≤ 2 ^ 13 → n + width t ≤ length a → Tidy t → b ≡ sets a n (lay n t) → treeAt b k ≡ t
 unfolding treeAt
 laid-tree t a b n k e h l d s =
     let i : n + length (lay n t) ≤ length a = rw (lay-length t n d) l in
@@ -190,7 +190,7 @@ laid-tree t a b n k e h l d s =
     read-laid t (suc k) b n k (drop (n + length (lay n t)) a) (omega arith) e h d q
 
 -- a tidy tree in front of any words
-pub front-tree : (t : Syntax) (r : List ℕ) → width t ≤ 2048 → Tidy t → treeAt (lay 0 t ++ r) (width t - 1) ≡ t
+pub front-tree : (t : Syntax) (r : List ℕ) → width t ≤ 2 ^ 13 → Tidy t → treeAt (lay 0 t ++ r) (width t - 1) ≡ t
 unfolding treeAt
 front-tree t r h d =
     let p = width-pos t in

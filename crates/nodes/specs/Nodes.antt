@@ -14,19 +14,19 @@ Syntax = Tree ByteSet Assertion
 
 -- a node's word: what it is, and three numbers
 abbrev pub word : (op x y z : ℕ) → ℕ
-word op x y z = op + 8 * x + 2 ^ 14 * y + 2 ^ 31 * z
+word op x y z = op + 8 * x + 2 ^ 16 * y + 2 ^ 33 * z
 
 abbrev pub opOf : ℕ → ℕ
 opOf w = w % 8
 
 abbrev pub xOf : ℕ → ℕ
-xOf w = w / 8 % 2048
+xOf w = w / 8 % 2 ^ 13
 
 abbrev pub yOf : ℕ → ℕ
-yOf w = w / 2 ^ 14 % 2 ^ 17
+yOf w = w / 2 ^ 16 % 2 ^ 17
 
 abbrev pub zOf : ℕ → ℕ
-zOf w = w / 2 ^ 31
+zOf w = w / 2 ^ 33
 
 -- how many copies more, as a number: `cap` stands for any number more
 abbrev pub extraOf : ℕ → Extra

@@ -21,7 +21,7 @@ fn cap(x: u64) -> u64
 
 // How many copies a repeat has in the written-out form.
 fn copies(least: u64, extra: u64) -> u64
-    requires { ⌜ (least < 131072) × (extra < 8589934592) ⌝ }
+    requires { ⌜ (least < 131072) × (extra < 2147483648) ⌝ }
     ensures { λ r. ⌜ r ≡ copied least (extraOf extra) ⌝ }
 {
     if extra != ENDLESS {
@@ -47,8 +47,8 @@ pub fn count(a: &[u64], k: usize) -> u64
 {
     let w = word(a, k);
     let op = w % 8;
-    let x = w / 8 % 2048;
-    let y = w / 16384 % 131072;
+    let x = w / 8 % 8192;
+    let y = w / 65536 % 131072;
     if op == ITEM {
         return 1;
     }
@@ -56,7 +56,7 @@ pub fn count(a: &[u64], k: usize) -> u64
         return cap(count_child(a, k, x) + count_child(a, k, y));
     }
     if op == REPEAT {
-        return cap(copies(y, w / 2147483648) * count_child(a, k, x));
+        return cap(copies(y, w / 8589934592) * count_child(a, k, x));
     }
     0
 }
@@ -78,8 +78,8 @@ pub fn nullable(a: &[u64], k: usize) -> bool
 {
     let w = word(a, k);
     let op = w % 8;
-    let x = w / 8 % 2048;
-    let y = w / 16384 % 131072;
+    let x = w / 8 % 8192;
+    let y = w / 65536 % 131072;
     if op == ITEM {
         return false;
     }

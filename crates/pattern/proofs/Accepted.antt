@@ -1,4 +1,4 @@
--- A pattern of at most 256 bytes is refused with a number and place exactly if they are those of the reasons 6 to 16 and 23 that decide, and accepted exactly
+-- A pattern of at most 1,024 bytes is refused with a number and place exactly if they are those of the reasons 6 to 16 and 23 that decide, and accepted exactly
 -- if no reason holds. Where a token stands, the walk from the pattern's start is the walk from there. There it goes on or stops with the lowest row that
 -- holds of the token; so a refusal has its reason, and a reason refuses there, by its own number or a lower one. Assumes nothing.
 use mathlib.Core.Path.{_≡_, refl, sym, ap, ap₂, subst, _∙_}
@@ -473,7 +473,7 @@ module _ (s : List ℕ) (o : Options) (short : length s ≤ longest) where
           e ∙ ap₂ refused same (h .1)
       by-read (tree t) e h = absurd h
 
-  -- A pattern of at most 256 bytes is refused with a number and place exactly if they decide.
+  -- A pattern of at most 1,024 bytes is refused with a number and place exactly if they decide.
   pub decided : (n p : ℕ) → (readOf s o ≡ refused n p) ↔ Decides s o n p
   decided n p = (λ e. record { reason = refusal-reason n p e; lowest = refusal-lowest n p e }, decides-refused n p)
 

@@ -214,7 +214,7 @@ record Judged (t : Syntax) : Type 0 where
 
 Good : Read → Type 0
 Good (refused number place) = number ≡ 0 → ⊥
-Good (tree t) = Tidy t × (width t ≤ 1537) × Judged t
+Good (tree t) = Tidy t × (width t ≤ 6145) × Judged t
 
 judged-good : (n : ℕ) (r : Read) → n ≤ longest → Fine n r → Good (judged n r)
 unfolding judged Fine Good
@@ -235,7 +235,7 @@ pub record Accepted (r : Reading) (t : Syntax) : Type 0 where
   pub tree : treeAt (r .nodes) (r .root) ≡ t
   pub tidy : Tidy t
   pub root : r .root < r .size
-  pub size : r .size ≤ 1537
+  pub size : r .size ≤ 6145
   pub positions : r .positions ≡ saturating t
   pub some : nullable t ≡ false
   pub few : saturating t ≤ limit

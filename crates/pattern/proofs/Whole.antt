@@ -19,7 +19,7 @@ use Rattle.nodes.proofs.Trees.{lay-length}
 use Rattle.pattern.proofs.Steps.{group-closes, group-open}
 use Rattle.pattern.proofs.Returns.{on-ok, on-no}
 
-pub too-long : (s : List ℕ) (o : Options) → 256 < length s → readOf s o ≡ refused 5 0
+pub too-long : (s : List ℕ) (o : Options) → longest < length s → readOf s o ≡ refused 5 0
 unfolding readOf
 too-long s o h = rw (lt-ltb longest (length s) h)
 

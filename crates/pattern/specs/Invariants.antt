@@ -23,7 +23,7 @@ use Rattle.pattern.specs.declared.items.Got.{Got}
 
 -- how many words the readers are lent
 abbrev pub lent : ℕ
-lent = 2048
+lent = 8192
 
 -- words for six nodes a byte that is unread at place `at`, and `more`; n is the first free one
 pub record Room (s a : List ℕ) (at n more : ℕ) : Type 0 where

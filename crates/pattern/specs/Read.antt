@@ -10,9 +10,9 @@ use Rattle.nodes.specs.Nodes.{width, lay}
 use Rattle.pattern.specs.Walk.{Read, tree, refused, walk, begin}
 use Rattle.pattern.specs.declared.Reading.{Reading}
 
--- "Pattern: 256 bytes"
+-- "Raise .. the pattern to 1,024 bytes"
 abbrev pub longest : ℕ
-longest = 256
+longest = 1024
 
 -- faults known only at the end, at the pattern's length: 15, "the rule could match no bytes, were all its assertions true"; 16, "over 256 positions in
 -- this rule"
@@ -20,7 +20,7 @@ unfoldable pub judged : ℕ → Read → Read
 judged n (refused number place) = refused number place
 judged n (tree t) = cond (nullable t) (refused 15 n) (cond (ltb limit (saturating t)) (refused 16 n) (tree t))
 
--- reading a pattern: 5 for "pattern over 256 bytes", else the walk
+-- reading a pattern: 5 for a pattern over 1,024 bytes, else the walk
 unfoldable pub readOf : List ℕ → Options → Read
 readOf s o = cond (ltb longest (length s)) (refused 5 0) (judged (length s) (walk s 0 0 (begin o)))
 
@@ -30,7 +30,7 @@ optionsOf flags = record { caseless = eqb (flags % 2) 1; dotall = eqb (flags / 2
 
 -- how many words the nodes of any pattern fit in
 abbrev pub room : ℕ
-room = 2048
+room = 8192
 
 -- the answer: the tree's nodes from the front on, and zeros
 unfoldable pub answerOf : Read → Reading

@@ -24,7 +24,7 @@ pub(super) fn branches(
     at: usize,
     depth: usize,
     options: Options,
-    a: &mut [u64; 2048],
+    a: &mut [u64; 8192],
     n: usize,
 ) -> Got
     requires { ⌜ Room (now s) (now a) at n 1 ⌝ }
@@ -56,7 +56,7 @@ fn sequence(
     at: usize,
     depth: usize,
     options: Options,
-    a: &mut [u64; 2048],
+    a: &mut [u64; 8192],
     n: usize,
 ) -> Got
     requires { ⌜ Room (now s) (now a) at n 1 ⌝ }
@@ -91,7 +91,7 @@ fn item(
     depth: usize,
     options: Options,
     l: Lexeme,
-    a: &mut [u64; 2048],
+    a: &mut [u64; 8192],
     n: usize,
 ) -> Got
     requires { ⌜ Room (now s) (now a) at n 0 ⌝ }

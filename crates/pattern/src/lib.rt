@@ -23,8 +23,11 @@ pub struct Reading {
     pub root: usize,
     pub size: usize,
     pub positions: u32,
-    pub nodes: [u64; 2048],
+    pub nodes: [u64; 8192],
 }
+
+// The longest pattern that is read, in bytes.
+const LONGEST: usize = 1024;
 
 // The answer that refuses.
 fn refused(number: u32, place: usize) -> Reading
@@ -36,7 +39,7 @@ fn refused(number: u32, place: usize) -> Reading
         root: 0,
         size: 0,
         positions: 0,
-        nodes: [0; 2048],
+        nodes: [0; 8192],
     }
 }
 
@@ -56,10 +59,10 @@ fn read_all(pattern: &[u8], flags: u32) -> Reading
     ensures { λ r. ⌜ r ≡ answerOf (readOf (now (pattern .entry)) (optionsOf flags)) ⌝ }
 {
     let length = pattern.len();
-    if length > 256 {
+    if length > LONGEST {
         return refused(5, 0);
     }
-    let mut nodes = [0u64; 2048];
+    let mut nodes = [0u64; 8192];
     let g = branches(pattern, 0, 0, options_of(flags), &mut nodes, 0);
     if g.fault != 0 {
         return refused(g.fault, g.at);

@@ -10,15 +10,15 @@ ghost use Rattle.nodes.specs.Nodes.{word};
 ghost use Rattle.pattern.specs.Invariants.{lent};
 
 // Writes a node's word.
-pub(super) fn put(a: &mut [u64; 2048], n: usize, op: u64, x: u64, y: u64, z: u64)
-    requires { ⌜ (n < lent) × (op < 8) × (x < 2048) × (y < 2 ^ 17) × (z ≤ cap) ⌝ }
+pub(super) fn put(a: &mut [u64; 8192], n: usize, op: u64, x: u64, y: u64, z: u64)
+    requires { ⌜ (n < lent) × (op < 8) × (x < 8192) × (y < 2 ^ 17) × (z ≤ cap) ⌝ }
     ensures { λ _. ⌜ now (a .exit) ≡ set (now (a .entry)) n (word op x y z) ⌝ }
 {
-    a[n] = op + 8 * x + 16384 * y + 2147483648 * z;
+    a[n] = op + 8 * x + 65536 * y + 8589934592 * z;
 }
 
 // Writes an item: its set, and its word.
-pub(super) fn put_item(a: &mut [u64; 2048], n: usize, bytes: [u64; 4])
+pub(super) fn put_item(a: &mut [u64; 8192], n: usize, bytes: [u64; 4])
     requires { ⌜ n + 5 ≤ lent ⌝ }
     ensures { λ _. ⌜ now (a .exit) ≡ sets (now (a .entry)) n (bytes ++ (word 1 0 0 0 ∷ [])) ⌝ }
 {

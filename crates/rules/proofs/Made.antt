@@ -446,36 +446,36 @@ module _ (t : List ℕ) (id flags : ℕ) (parts : Parts) (long : tableWords ≤ 
       ∙ ap (λ (r : List ℕ). getD r (w - firstAtStartAt) 0) (starts-row firstAtStartAt (parts .start) (omega arith)) ∙ sym (word-start t id flags parts w h l)
 
   -- a word of no region stays
-  plain : (w : ℕ) → 3 ≤ w → from-to 4 8 w ≡ false → from-to 8 12 w ≡ false → from-to 64 576 w ≡ false → from-to 1024 2048 w ≡ false → from-to 2048 3072 w ≡ false
+  plain : (w : ℕ) → 3 ≤ w → from-to firstAt (firstAt + 4) w ≡ false → from-to firstAtStartAt (firstAtStartAt + 4) w ≡ false → from-to (recordAt 0) (recordAt maxRules) w ≡ false → from-to (followAt 0) (followAt maxPositions) w ≡ false → from-to (takersAt 0) (takersAt bytes) w ≡ false
       → getD t w 0 ≡ addedWord t id flags parts w
   plain w h a b c d e = sym (word-other t id flags parts w (ne-eqb w 1 (λ z. omega arith)) (ne-eqb w 2 (λ z. omega arith)) a b c d e)
 
   word-is : (w : ℕ) → getD s5 w 0 ≡ addedWord t id flags parts w
-  word-is w = go (decLt w 3) (decLt w 4) (decLt w 8) (decLt w 12) (decLt w 64) (decLt w 576) (decLt w 1024) (decLt w 2048) (decLt w 3072)
+  word-is w = go (decLt w 3) (decLt w firstAt) (decLt w (firstAt + 4)) (decLt w (firstAtStartAt + 4)) (decLt w (recordAt 0)) (decLt w (recordAt maxRules)) (decLt w (followAt 0)) (decLt w (takersAt 0)) (decLt w (takersAt bytes))
     where
-      go : Dec (w < 3) → Dec (w < 4) → Dec (w < 8) → Dec (w < 12) → Dec (w < 64) → Dec (w < 576) → Dec (w < 1024) → Dec (w < 2048) → Dec (w < 3072)
+      go : Dec (w < 3) → Dec (w < firstAt) → Dec (w < firstAt + 4) → Dec (w < firstAtStartAt + 4) → Dec (w < recordAt 0) → Dec (w < recordAt maxRules) → Dec (w < followAt 0) → Dec (w < takersAt 0) → Dec (w < takersAt bytes)
           → getD s5 w 0 ≡ addedWord t id flags parts w
       go (yes a) _ _ _ _ _ _ _ _ = header-word w a
       go (no a) (yes b) _ _ _ _ _ _ _ =
           under-2 w (omega arith) (omega arith) ∙ starts-low n (parts .first) (parts .start) s1 w b ∙ put-before t id flags parts long few w (omega arith)
-          ∙ plain w (omega arith) (from-to-below 4 8 w b) (from-to-below 8 12 w (omega arith)) (from-to-below 64 576 w (omega arith)) (from-to-below 1024 2048 w (omega arith)) (from-to-below 2048 3072 w (omega arith))
+          ∙ plain w (omega arith) (from-to-below firstAt (firstAt + 4) w b) (from-to-below firstAtStartAt (firstAtStartAt + 4) w (omega arith)) (from-to-below (recordAt 0) (recordAt maxRules) w (omega arith)) (from-to-below (followAt 0) (followAt maxPositions) w (omega arith)) (from-to-below (takersAt 0) (takersAt bytes) w (omega arith))
       go (no a) (no b) (yes c) _ _ _ _ _ _ = first-word w (omega arith) c
       go (no a) (no b) (no c) (yes d) _ _ _ _ _ = start-word w (omega arith) d
       go (no a) (no b) (no c) (no d) (yes e) _ _ _ _ =
           under-2 w (omega arith) (omega arith) ∙ starts-high n (parts .first) (parts .start) s1 w (omega arith) ∙ put-before t id flags parts long few w e
-          ∙ plain w (omega arith) (from-to-above 4 8 w (omega arith)) (from-to-above 8 12 w (omega arith)) (from-to-below 64 576 w e) (from-to-below 1024 2048 w (omega arith)) (from-to-below 2048 3072 w (omega arith))
+          ∙ plain w (omega arith) (from-to-above firstAt (firstAt + 4) w (omega arith)) (from-to-above firstAtStartAt (firstAtStartAt + 4) w (omega arith)) (from-to-below (recordAt 0) (recordAt maxRules) w e) (from-to-below (followAt 0) (followAt maxPositions) w (omega arith)) (from-to-below (takersAt 0) (takersAt bytes) w (omega arith))
       go (no a) (no b) (no c) (no d) (no e) (yes f) _ _ _ =
           under-2 w (omega arith) (omega arith) ∙ starts-high n (parts .first) (parts .start) s1 w (omega arith) ∙ put-word w (omega arith) f
       go (no a) (no b) (no c) (no d) (no e) (no f) (yes g) _ _ =
           under-2 w (omega arith) g ∙ above-2 w (omega arith)
-          ∙ plain w (omega arith) (from-to-above 4 8 w (omega arith)) (from-to-above 8 12 w (omega arith)) (from-to-above 64 576 w (omega arith)) (from-to-below 1024 2048 w g) (from-to-below 2048 3072 w (omega arith))
+          ∙ plain w (omega arith) (from-to-above firstAt (firstAt + 4) w (omega arith)) (from-to-above firstAtStartAt (firstAtStartAt + 4) w (omega arith)) (from-to-above (recordAt 0) (recordAt maxRules) w (omega arith)) (from-to-below (followAt 0) (followAt maxPositions) w g) (from-to-below (takersAt 0) (takersAt bytes) w (omega arith))
       go (no a) (no b) (no c) (no d) (no e) (no f) (no g) (yes h) _ =
           counts-high (rulesOf t + 1) (n + more) s4 w (omega arith) ∙ takers-low n (parts .takes) more s3 w h ∙ follow-word w (omega arith) h
       go (no a) (no b) (no c) (no d) (no e) (no f) (no g) (no h) (yes i) =
           counts-high (rulesOf t + 1) (n + more) s4 w (omega arith) ∙ takers-word w (omega arith) i
       go (no a) (no b) (no c) (no d) (no e) (no f) (no g) (no h) (no i) =
           counts-high (rulesOf t + 1) (n + more) s4 w (omega arith) ∙ takers-high n (parts .takes) more s3 w (omega arith) ∙ above-3 w (omega arith)
-          ∙ plain w (omega arith) (from-to-above 4 8 w (omega arith)) (from-to-above 8 12 w (omega arith)) (from-to-above 64 576 w (omega arith)) (from-to-above 1024 2048 w (omega arith)) (from-to-above 2048 3072 w (omega arith))
+          ∙ plain w (omega arith) (from-to-above firstAt (firstAt + 4) w (omega arith)) (from-to-above firstAtStartAt (firstAtStartAt + 4) w (omega arith)) (from-to-above (recordAt 0) (recordAt maxRules) w (omega arith)) (from-to-above (followAt 0) (followAt maxPositions) w (omega arith)) (from-to-above (takersAt 0) (takersAt bytes) w (omega arith))
 
   made : s5 ≡ added t id flags parts
   made =
@@ -485,7 +485,7 @@ module _ (t : List ℕ) (id flags : ℕ) (parts : Parts) (long : tableWords ≤ 
       go w (yes h) = word-is w ∙ sym (added-word t id flags parts long w h)
       go w (no h) =
           word-is w
-          ∙ sym (plain w (omega arith) (from-to-above 4 8 w (omega arith)) (from-to-above 8 12 w (omega arith)) (from-to-above 64 576 w (omega arith)) (from-to-above 1024 2048 w (omega arith)) (from-to-above 2048 3072 w (omega arith)))
+          ∙ sym (plain w (omega arith) (from-to-above firstAt (firstAt + 4) w (omega arith)) (from-to-above firstAtStartAt (firstAtStartAt + 4) w (omega arith)) (from-to-above (recordAt 0) (recordAt maxRules) w (omega arith)) (from-to-above (followAt 0) (followAt maxPositions) w (omega arith)) (from-to-above (takersAt 0) (takersAt bytes) w (omega arith)))
           ∙ sym (added-beyond t id flags parts long w (omega arith))
 
   -- what `add_rule` leaves, call by call

@@ -40,37 +40,37 @@ getD-wordsOf (suc n) f w h = go (getD-wordsOf n f w) (decLt w n)
 module _ (t : List ℕ) (id flags : ℕ) (parts : Parts) where
   -- ---- a word by the region it lies in
 
-  pub word-other : (w : ℕ) → eqb w 1 ≡ false → eqb w 2 ≡ false → from-to 4 8 w ≡ false → from-to 8 12 w ≡ false → from-to 64 576 w ≡ false
-      → from-to 1024 2048 w ≡ false → from-to 2048 3072 w ≡ false → addedWord t id flags parts w ≡ getD t w 0
+  pub word-other : (w : ℕ) → eqb w 1 ≡ false → eqb w 2 ≡ false → from-to firstAt (firstAt + 4) w ≡ false → from-to firstAtStartAt (firstAtStartAt + 4) w ≡ false → from-to (recordAt 0) (recordAt maxRules) w ≡ false
+      → from-to (followAt 0) (followAt maxPositions) w ≡ false → from-to (takersAt 0) (takersAt bytes) w ≡ false → addedWord t id flags parts w ≡ getD t w 0
   unfolding addedWord
   word-other w a b c d e f g = rw (a, b, c, d, e, f, g)
 
   pub word-first : (w : ℕ) → firstAt ≤ w → w < firstAt + 4 → addedWord t id flags parts w ≡ getD (joinedRow t firstAt (parts .first)) (w - firstAt) 0
   unfolding addedWord
-  word-first w h l = rw (ne-eqb w 1 (λ z. omega arith), ne-eqb w 2 (λ z. omega arith), from-to-in 4 8 w h l)
+  word-first w h l = rw (ne-eqb w 1 (λ z. omega arith), ne-eqb w 2 (λ z. omega arith), from-to-in firstAt (firstAt + 4) w h l)
 
   pub word-start : (w : ℕ) → firstAtStartAt ≤ w → w < firstAtStartAt + 4
       → addedWord t id flags parts w ≡ getD (joinedRow t firstAtStartAt (parts .start)) (w - firstAtStartAt) 0
   unfolding addedWord
-  word-start w h l = rw (ne-eqb w 1 (λ z. omega arith), ne-eqb w 2 (λ z. omega arith), from-to-above 4 8 w h, from-to-in 8 12 w h l)
+  word-start w h l = rw (ne-eqb w 1 (λ z. omega arith), ne-eqb w 2 (λ z. omega arith), from-to-above firstAt (firstAt + 4) w h, from-to-in firstAtStartAt (firstAtStartAt + 4) w h l)
 
   pub word-record : (w : ℕ) → recordAt 0 ≤ w → w < recordAt maxRules
       → addedWord t id flags parts w ≡ recordWords t id flags parts ((w - recordAt 0) / 16) ((w - recordAt 0) % 16)
   unfolding addedWord
   word-record w h l =
-      rw (ne-eqb w 1 (λ z. omega arith), ne-eqb w 2 (λ z. omega arith), from-to-above 4 8 w (omega arith), from-to-above 8 12 w (omega arith), from-to-in 64 576 w h l)
+      rw (ne-eqb w 1 (λ z. omega arith), ne-eqb w 2 (λ z. omega arith), from-to-above firstAt (firstAt + 4) w (omega arith), from-to-above firstAtStartAt (firstAtStartAt + 4) w (omega arith), from-to-in (recordAt 0) (recordAt maxRules) w h l)
 
   pub word-follow : (w : ℕ) → followAt 0 ≤ w → w < followAt maxPositions
       → addedWord t id flags parts w ≡ followWords t id flags parts ((w - followAt 0) / 4) ((w - followAt 0) % 4)
   unfolding addedWord
   word-follow w h l =
-      rw (ne-eqb w 1 (λ z. omega arith), ne-eqb w 2 (λ z. omega arith), from-to-above 4 8 w (omega arith), from-to-above 8 12 w (omega arith), from-to-above 64 576 w (omega arith), from-to-in 1024 2048 w h l)
+      rw (ne-eqb w 1 (λ z. omega arith), ne-eqb w 2 (λ z. omega arith), from-to-above firstAt (firstAt + 4) w (omega arith), from-to-above firstAtStartAt (firstAtStartAt + 4) w (omega arith), from-to-above (recordAt 0) (recordAt maxRules) w (omega arith), from-to-in (followAt 0) (followAt maxPositions) w h l)
 
   pub word-takers : (w : ℕ) → takersAt 0 ≤ w → w < takersAt bytes
       → addedWord t id flags parts w ≡ takersWords t id flags parts ((w - takersAt 0) / 4) ((w - takersAt 0) % 4)
   unfolding addedWord
   word-takers w h l =
-      rw (ne-eqb w 1 (λ z. omega arith), ne-eqb w 2 (λ z. omega arith), from-to-above 4 8 w (omega arith), from-to-above 8 12 w (omega arith), from-to-above 64 576 w (omega arith), from-to-above 1024 2048 w h, from-to-in 2048 3072 w h l)
+      rw (ne-eqb w 1 (λ z. omega arith), ne-eqb w 2 (λ z. omega arith), from-to-above firstAt (firstAt + 4) w (omega arith), from-to-above firstAtStartAt (firstAtStartAt + 4) w (omega arith), from-to-above (recordAt 0) (recordAt maxRules) w (omega arith), from-to-above (followAt 0) (followAt maxPositions) w h, from-to-in (takersAt 0) (takersAt bytes) w h l)
 
   module _ (long : tableWords ≤ length t) where
     -- ---- the list of words

@@ -12,7 +12,7 @@ use lib.ListN.{length, getD}
 use borrow.Author.Tests.{lt-ltb, le-ltb, eq-eqb, ne-eqb}
 use Rattle.sets.specs.Set.{setOf, emptySet, inserted, unionOf, keptBelow, count, asOne}
 use Rattle.sets.proofs.Laws.{setOf-ext, inserted-setOf}
-use Rattle.table.specs.Layout.{recordAt, recordWord, rowHas, from-to}
+use Rattle.table.specs.Layout.{tableWords, maxRules, recordAt, recordWord, rowHas, from-to}
 use Rattle.table.proofs.Over.{from-to-in, from-to-below, from-to-above, over, length-over, over-in, over-below, over-above, over-is, Written, written-none, written-above, written-block, written-all}
 use Rattle.table.proofs.Writes.{copied, movedUp}
 use Rattle.rules.specs.Invariants.{merged, mergedRow, rowsWord, mergedRows, maskedRows, maskedWord, recordsWord, maskedRecords, smaller, newTakers, recordAtPlace, recordPut}
@@ -62,7 +62,7 @@ MaskedTo a n t s = Written (recordAt 0) (recordAt a) (recordsWord n t) t s
 pub records-none : (n : ℕ) (t : List ℕ) → MaskedTo 0 n t t
 records-none n t = written-none (omega arith)
 
-pub records-turn : (a n : ℕ) (t s s' : List ℕ) → a < 32 → 4096 ≤ length t → MaskedTo a n t s → s' ≡ maskedRows (recordAt a + 4) 2 n s → MaskedTo (a + 1) n t s'
+pub records-turn : (a n : ℕ) (t s s' : List ℕ) → a < maxRules → tableWords ≤ length t → MaskedTo a n t s → s' ≡ maskedRows (recordAt a + 4) 2 n s → MaskedTo (a + 1) n t s'
 unfolding maskedRows mergedRows rowsWord maskedWord recordsWord
 records-turn a n t s s' few long r e =
     subst (λ (l : List ℕ). Written (recordAt 0) (recordAt (a + 1)) (recordsWord n t) t l) (sym whole)

@@ -20,7 +20,8 @@ use Rattle.rules.specs.declared.Added.{Added}
 abbrev pub answer : (number place : ℕ) → Added
 answer number place = record { number = number; place = place }
 
--- 2: "a flag bit other than 1, 2, 8"; 3: "id already in the table"; 4: "32 rules there"
+-- 2: "a flag bit other than 1, 2, 8"; 3: "id already in the table"; 4: "Raise the rules in a table to 64 .. refusals 4 and 5 move with
+-- them"
 unfoldable pub unknownFlag : ℕ → Bool
 unknownFlag flags = not (eqb (bitAnd flags knownFlags) flags)
 

@@ -6,12 +6,12 @@ use lib.Dec.{leb, ltb}
 use lib.ListN.{getD}
 use Rattle.sets.specs.Set.{on}
 
--- "Table: 4,096 64-bit words; words beyond are never touched." "Rules in a table: 32." "Positions in a table: 256."
+-- "Table: 4,096 64-bit words; words beyond are never touched." "Raise the rules in a table to 64"; "Positions in a table: 256."
 abbrev pub tableWords : ℕ
 tableWords = 4096
 
 abbrev pub maxRules : ℕ
-maxRules = 32
+maxRules = 64
 
 abbrev pub maxPositions : ℕ
 maxPositions = 256
@@ -51,10 +51,10 @@ lastAtEndAt a = recordAt a + 8
 
 -- for each position the set of those that can follow it, and for each byte the set of those that take it
 abbrev pub followAt : ℕ → ℕ
-followAt p = 1024 + p * 4
+followAt p = 1088 + p * 4
 
 abbrev pub takersAt : ℕ → ℕ
-takersAt x = 2048 + x * 4
+takersAt x = 2112 + x * 4
 
 -- word i of record a
 abbrev pub recordWord : List ℕ → ℕ → ℕ → ℕ

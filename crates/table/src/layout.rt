@@ -3,7 +3,7 @@
 // How many words a table has, and the limits.
 pub const TABLE_WORDS: usize = 4096;
 
-pub const MAX_RULES: u64 = 32;
+pub const MAX_RULES: u64 = 64;
 
 pub const MAX_POSITIONS: u64 = 256;
 
@@ -41,9 +41,9 @@ pub const LAST_AT_END: usize = 8;
 // Sets of positions, of four words each: for each position those that can follow it, for each byte those that take it.
 pub const SET_WORDS: usize = 4;
 
-pub const FOLLOW_AT: usize = 1024;
+pub const FOLLOW_AT: usize = 1088;
 
-pub const TAKERS_AT: usize = 2048;
+pub const TAKERS_AT: usize = 2112;
 
 // An id has 32 bits. The flags are 1, 2 and 8: caseless, dot matches all, single match.
 pub const ID_LIMIT: u64 = 0x1_0000_0000;

@@ -8,10 +8,10 @@ use Rattle.cases.proofs.rules.Statement.{statement}
 use Rattle.cases.proofs.rules.Tie as tie
 
 abbrev Inv-loop : tie.InvT-loop
-Inv-loop words₀ id₀ t3 t4 t5 words id = (id ≤ 34) × (length words ≡ length words₀)
+Inv-loop words₀ id₀ t3 t4 t5 words id = (id ≤ 66) × (length words ≡ length words₀)
 
 abbrev μ-loop : tie.MeasureT-loop
-μ-loop words₀ id₀ t3 t4 t5 words id = 34 - id
+μ-loop words₀ id₀ t3 t4 t5 words id = 66 - id
 
 empty-requires : tie.Need-empty-requires Inv-loop μ-loop
 empty-requires c κs = search needs

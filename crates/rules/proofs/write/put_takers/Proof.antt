@@ -4,6 +4,7 @@ use mathlib.Core.List.{List}
 use Prim.Native.Nat.{ℕ, _+_, _-_, _*_, _≤_}
 use native.Mathlib.Omega.{arith}
 use denote.Ref.{now}
+use Rattle.table.specs.Layout.{takersAt}
 use Rattle.rules.specs.Invariants.{takersPut, newTakers, merged, rowsWord}
 use Rattle.table.proofs.Over.{Written}
 use Rattle.rules.proofs.Steps.{rows-none, rows-turn, rows-whole}
@@ -11,7 +12,7 @@ use Rattle.rules.proofs.write.put_takers.Statement.{statement}
 use Rattle.rules.proofs.write.put_takers.Tie as tie
 
 abbrev Inv-loop : tie.InvT-loop
-Inv-loop words₀ n takes more x₀ words x = (x ≤ 256) × Written 2048 (2048 + x * 4) (rowsWord 2048 n (newTakers takes n more) words₀) words₀ words
+Inv-loop words₀ n takes more x₀ words x = (x ≤ 256) × Written (takersAt 0) (takersAt x) (rowsWord (takersAt 0) n (newTakers takes n more) words₀) words₀ words
 
 abbrev μ-loop : tie.MeasureT-loop
 μ-loop words₀ n takes more x₀ words x = 256 - x
@@ -19,7 +20,7 @@ abbrev μ-loop : tie.MeasureT-loop
 loop-holds : tie.Need-loop-holds Inv-loop μ-loop
 loop-holds c =
     let c-start = c .before in
-    (omega arith, rows-none 2048 (c-start .args .n) (newTakers (now (c-start .args .takes)) (c-start .args .n) (c-start .args .more)) (now (c-start .args .words)))
+    (omega arith, rows-none (takersAt 0) (c-start .args .n) (newTakers (now (c-start .args .takes)) (c-start .args .n) (c-start .args .more)) (now (c-start .args .words)))
 
 cast-takers-of : tie.Need-cast-takers-of Inv-loop μ-loop
 cast-takers-of c = omega arith
@@ -51,8 +52,8 @@ loop-again c =
     let n = c-start .args .n in
     let x = c-loop .x in (
       omega arith,
-      rows-turn 2048 x n (newTakers (now (c-start .args .takes)) n (c-start .args .more)) (now (c-start .args .words)) (c-loop .words) (c-merge-row .last .0) (c-loop .inv .1)
-          (c-merge-row .ensures ∙ ap (λ (l : List ℕ). merged (2048 + x * 4) n l (c-loop .words)) (c-takers-of .ensures)),
+      rows-turn (takersAt 0) x n (newTakers (now (c-start .args .takes)) n (c-start .args .more)) (now (c-start .args .words)) (c-loop .words) (c-merge-row .last .0) (c-loop .inv .1)
+          (c-merge-row .ensures ∙ ap (λ (l : List ℕ). merged (takersAt x) n l (c-loop .words)) (c-takers-of .ensures)),
     )
 
 same-length : tie.Need-same-length Inv-loop μ-loop
@@ -65,7 +66,7 @@ unfolding takersPut
 returns c =
     let c-loop = c .before .loop in
     let c-start = c .before .before .before in
-    rows-whole 2048 256 (c-loop .x) (c-start .args .n) (newTakers (now (c-start .args .takes)) (c-start .args .n) (c-start .args .more)) (now (c-start .args .words)) (c-loop .words) (c-loop .inv .1) (omega arith)
+    rows-whole (takersAt 0) 256 (c-loop .x) (c-start .args .n) (newTakers (now (c-start .args .takes)) (c-start .args .n) (c-start .args .more)) (now (c-start .args .words)) (c-loop .words) (c-loop .inv .1) (omega arith)
 
 pub put-takers-spec : {M : Type 1} → statement M
 put-takers-spec =
