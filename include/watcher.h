@@ -39,6 +39,10 @@ extern "C" {
 /* A table holds at most so many rules, so a scan needs no more report slots. */
 #define WATCHER_MAX_RULES 32
 
+/* On a card a table takes so many blocks, each of so many bytes. */
+#define WATCHER_BLOCK_BYTES 512
+#define WATCHER_BLOCKS ((WATCHER_TABLE_WORDS + 62) / 63)
+
 /* How many bytes a stream may have. */
 #define WATCHER_MAX_STREAM UINT64_C(1099511627775)
 
@@ -73,6 +77,7 @@ typedef uint32_t watcher_error_t;
 #define WATCHER_SMALL_SPACE 20u     /* fewer report slots than the table has rules */
 #define WATCHER_LONG_STREAM 21u     /* the bytes taken and this block are over WATCHER_MAX_STREAM */
 #define WATCHER_RAW_BYTE 23u        /* a raw byte below 32, or 127, in the pattern */
+#define WATCHER_NO_BLOCK 27u        /* not the block of a table that was asked for */
 /* Numbers from 100 on are this interface's own. */
 #define WATCHER_SHORT_STATE 100u    /* fewer than 9 words for the state */
 
@@ -125,6 +130,26 @@ watcher_error_t watcher_close(const uint64_t *table, size_t table_words,
 
 /* The busy figure: how many positions are live. 0 for too few words. */
 uint32_t watcher_busy(const uint64_t *state, size_t state_words);
+
+/*
+ * Writes block `number` of the table, from 0 to WATCHER_BLOCKS - 1, into
+ * WATCHER_BLOCK_BYTES bytes. Refuses words that are no table, and with
+ * WATCHER_NO_BLOCK another length or number. *place is the number asked for with
+ * WATCHER_NO_BLOCK, else 0.
+ */
+watcher_error_t watcher_write_block(const uint64_t *table, size_t table_words,
+                                    uint64_t number, uint8_t *block,
+                                    size_t block_length, uint64_t *place);
+
+/*
+ * Reads block `number` of a table into its words and leaves all others. Refuses
+ * too few words, and with WATCHER_NO_BLOCK bytes that are not that block of any
+ * table. Blocks may come in any order; once all are read, watcher_test tells
+ * whether the words are a table.
+ */
+watcher_error_t watcher_read_block(uint64_t *table, size_t table_words,
+                                   uint64_t number, const uint8_t *block,
+                                   size_t block_length, uint64_t *place);
 
 #ifdef __cplusplus
 }

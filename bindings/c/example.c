@@ -1,10 +1,14 @@
-/* Two rules, a stream in two blocks with a match across the border, and what was reported. */
+/*
+ * Two rules, their table to a card and back, a stream in two blocks with a match across the border, and what was
+ * reported.
+ */
 #include <stdio.h>
 #include <string.h>
 
 #include "watcher.h"
 
 static uint64_t table[WATCHER_TABLE_WORDS];
+static uint8_t card[WATCHER_BLOCKS][WATCHER_BLOCK_BYTES];
 static uint64_t state[WATCHER_STATE_WORDS];
 static uint32_t ids[WATCHER_MAX_RULES];
 static uint64_t offsets[WATCHER_MAX_RULES];
@@ -49,6 +53,25 @@ static int scan(const char *block) {
   return 0;
 }
 
+/* Writes the table to the card block by block, clears its words, and reads them back. */
+static int to_card_and_back(void) {
+  uint64_t place;
+  for (uint64_t i = 0; i < WATCHER_BLOCKS; i++) {
+    watcher_error_t number = watcher_write_block(table, WATCHER_TABLE_WORDS, i, card[i], WATCHER_BLOCK_BYTES, &place);
+    if (number != WATCHER_SUCCESS) {
+      return refused("writing", number);
+    }
+  }
+  memset(table, 0, sizeof table);
+  for (uint64_t i = 0; i < WATCHER_BLOCKS; i++) {
+    watcher_error_t number = watcher_read_block(table, WATCHER_TABLE_WORDS, i, card[i], WATCHER_BLOCK_BYTES, &place);
+    if (number != WATCHER_SUCCESS) {
+      return refused("reading", number);
+    }
+  }
+  return 0;
+}
+
 int main(void) {
   size_t reports;
   watcher_error_t number = watcher_empty(table, WATCHER_TABLE_WORDS);
@@ -59,6 +82,9 @@ int main(void) {
     return 1;
   }
   if (!add(8, 0, "a**")) {
+    return 1;
+  }
+  if (to_card_and_back()) {
     return 1;
   }
   number = watcher_open(table, WATCHER_TABLE_WORDS, state, WATCHER_STATE_WORDS);

@@ -53,6 +53,10 @@ pub enum Error {
     RawByte {
         place: usize,
     },
+    /// Bytes that are not block `place` of a table.
+    NoBlock {
+        place: usize,
+    },
     ShortState,
     /// A number that this wrapper does not know.
     Other {
@@ -88,6 +92,7 @@ impl Error {
             20 => Error::SmallSpace,
             21 => Error::LongStream,
             23 => Error::RawByte { place },
+            27 => Error::NoBlock { place },
             100 => Error::ShortState,
             _ => Error::Other { number, place },
         })
@@ -117,13 +122,15 @@ impl Error {
             Error::SmallSpace => 20,
             Error::LongStream => 21,
             Error::RawByte { .. } => 23,
+            Error::NoBlock { .. } => 27,
             Error::ShortState => 100,
             Error::Other { number, .. } => *number,
         }
     }
 
     /// Where the fault lies in the pattern: the first byte of the faulty token, or the pattern's
-    /// length for a fault known only at its end. 0 for refusals that are not about the pattern.
+    /// length for a fault known only at its end; of a block that is none, its number. 0 for all other
+    /// refusals.
     pub fn place(&self) -> usize {
         match self {
             Error::BadEscape { place }
@@ -139,6 +146,7 @@ impl Error {
             | Error::LargeRule { place }
             | Error::LargeTable { place }
             | Error::RawByte { place }
+            | Error::NoBlock { place }
             | Error::Other { place, .. } => *place,
             _ => 0,
         }
@@ -168,6 +176,7 @@ impl Error {
             Error::SmallSpace => "fewer report slots than rules",
             Error::LongStream => "over the stream limit",
             Error::RawByte { .. } => "raw control byte",
+            Error::NoBlock { .. } => "not this block of a table",
             Error::ShortState => "too few words for a state",
             Error::Other { .. } => "refused",
         }

@@ -29,6 +29,10 @@ pub const STATE_WORDS: usize = 9;
 /// A table has at most so many rules.
 pub const MAX_RULES: usize = 32;
 
+/// The bytes of a block of a table on a card, and how many blocks a table takes.
+pub const BLOCK_BYTES: usize = 512;
+pub const BLOCKS: usize = TABLE_WORDS.div_ceil(63);
+
 /// Flags of a rule, combined with `|`.
 #[derive(Clone, Copy, Debug, Default, PartialEq, Eq)]
 pub struct Flags(pub u32);
@@ -83,6 +87,24 @@ impl Table {
 
     pub fn words(&self) -> &[u64; TABLE_WORDS] {
         &self.words
+    }
+
+    /// Block `number` of the table, from 0 to `BLOCKS - 1`, for a card.
+    pub fn block(&self, number: usize) -> Result<[u8; BLOCK_BYTES], Error> {
+        let mut block = [0; BLOCK_BYTES];
+        let (answer, place) = raw::write_block(&self.words, number as u64, &mut block);
+        Error::check(answer, place as usize)?;
+        Ok(block)
+    }
+
+    /// The table whose blocks these are, from the first to the last.
+    pub fn from_blocks(blocks: &[[u8; BLOCK_BYTES]; BLOCKS]) -> Result<Table, Error> {
+        let mut words = [0; TABLE_WORDS];
+        for (number, block) in blocks.iter().enumerate() {
+            let (answer, place) = raw::read_block(&mut words, number as u64, block);
+            Error::check(answer, place as usize)?;
+        }
+        Table::from_words(&words)
     }
 
     /// Adds a rule; a refused one leaves the table as it was.

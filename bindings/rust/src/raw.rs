@@ -89,3 +89,35 @@ pub fn close(table: &[u64], state: &mut [u64], ids: &mut [u32], offsets: &mut [u
 pub fn busy(state: &[u64]) -> u32 {
     unsafe { sys::watcher_busy(state.as_ptr(), state.len()) }
 }
+
+/// The number and the place.
+pub fn write_block(table: &[u64], number: u64, block: &mut [u8]) -> (u32, u64) {
+    let mut place = 0;
+    let answer = unsafe {
+        sys::watcher_write_block(
+            table.as_ptr(),
+            table.len(),
+            number,
+            block.as_mut_ptr(),
+            block.len(),
+            &mut place,
+        )
+    };
+    (answer, place)
+}
+
+/// The number and the place.
+pub fn read_block(table: &mut [u64], number: u64, block: &[u8]) -> (u32, u64) {
+    let mut place = 0;
+    let answer = unsafe {
+        sys::watcher_read_block(
+            table.as_mut_ptr(),
+            table.len(),
+            number,
+            block.as_ptr(),
+            block.len(),
+            &mut place,
+        )
+    };
+    (answer, place)
+}

@@ -51,4 +51,22 @@ extern "C" {
     ) -> u32;
 
     pub fn watcher_busy(state: *const u64, state_words: usize) -> u32;
+
+    pub fn watcher_write_block(
+        table: *const u64,
+        table_words: usize,
+        number: u64,
+        block: *mut u8,
+        block_length: usize,
+        place: *mut u64,
+    ) -> u32;
+
+    pub fn watcher_read_block(
+        table: *mut u64,
+        table_words: usize,
+        number: u64,
+        block: *const u8,
+        block_length: usize,
+        place: *mut u64,
+    ) -> u32;
 }

@@ -11,6 +11,10 @@ use Rattle.table.proofs.empty.Met.{met as empty-met}
 use Rattle.table.proofs.is_table.Met.{met as is_table-met}
 use Rattle.rules.proofs.Checks.{accepted-place}
 use Rattle.rules.proofs.add.Met.{met as add-met}
+use Rattle.card.specs.declared.Stored.{Stored}
+use Rattle.card.proofs.Theorems.{write-kept, read-kept}
+use Rattle.card.proofs.write_block.Met.{met as card-write-met}
+use Rattle.card.proofs.read_block.Met.{met as card-read-met}
 use Rattle.stream.specs.declared.Stream.{Stream}
 use Rattle.stream.specs.declared.Opened.{Opened}
 use Rattle.stream.specs.declared.Scanned.{Scanned}
@@ -34,6 +38,8 @@ answers = record {
   scanning = scan-met;
   closing = close-met;
   busy = busy-met;
+  writing-block = card-write-met;
+  reading-block = card-read-met;
 }
 
 open-refused : (t : List ℕ) → ¬ (opened t .number ≡ 0) → opened t .stream ≡ fresh 0 0 true
@@ -88,6 +94,8 @@ refusals = record {
   opening = open-refused;
   scanning = scan-refused;
   closing = close-refused;
+  writing-block = λ t i b bad. write-kept t i b (λ e. bad (ap (λ (a : Stored). a .number) e));
+  reading-block = λ t i b bad. read-kept t i b (λ e. bad (ap (λ (a : Stored). a .number) e));
 }
 
 pub demand1 : Demand1

@@ -12,6 +12,9 @@ use Rattle.table.proofs.empty.Statement.{statement as empty}
 use Rattle.table.proofs.is_table.Statement.{statement as is_table}
 use Rattle.rules.specs.Add.{addAnswer, addWords}
 use Rattle.rules.proofs.add.Statement.{statement as add}
+use Rattle.card.specs.Calls.{writeAnswer, writtenBlock, readAnswer, readWords}
+use Rattle.card.proofs.write_block.Statement.{statement as card-write}
+use Rattle.card.proofs.read_block.Statement.{statement as card-read}
 use Rattle.stream.specs.declared.Stream.{Stream}
 use Rattle.stream.specs.Calls.{fresh, opened, scanned, scannedIds, scannedOffsets, closed, closedIds, closedOffsets}
 use Rattle.stream.proofs.Stream.«open».Statement.{statement as stream-open}
@@ -36,6 +39,10 @@ pub record Answers : Type 2 where
   pub closing : {M : Type 1} → stream-close M
   -- the busy figure: `busyOf`
   pub busy : {M : Type 1} → stream-busy M
+  -- writing a block of the table (crates/card/src/lib.rt): number and place are `writeAnswer`, the block is `writtenBlock`
+  pub writing-block : {M : Type 1} → card-write M
+  -- reading one: number and place are `readAnswer`, the words are `readWords`
+  pub reading-block : {M : Type 1} → card-read M
 
 -- "Other refusals return the number, no bytes taken, no reports, the state unchanged", and both lists keep every word
 pub record ScanRefused (t : List ℕ) (s : Stream) (block ids offsets : List ℕ) : Type 0 where
@@ -61,6 +68,9 @@ pub record Refusals : Type 0 where
   pub opening : (t : List ℕ) → ¬ (opened t .number ≡ 0) → opened t .stream ≡ fresh 0 0 true
   pub scanning : (t : List ℕ) (s : Stream) (block ids offsets : List ℕ) → ¬ (scanned t s block ids offsets .number ≡ 0) → ScanRefused t s block ids offsets
   pub closing : (t : List ℕ) (s : Stream) (ids offsets : List ℕ) → ¬ (closed t s ids offsets .number ≡ 0) → CloseRefused t s ids offsets
+  -- "A refused call leaves the lent table as it found it", and the writer's the lent block
+  pub writing-block : (t : List ℕ) (i : ℕ) (b : List ℕ) → ¬ (writeAnswer t i b .number ≡ 0) → writtenBlock t i b ≡ b
+  pub reading-block : (t : List ℕ) (i : ℕ) (b : List ℕ) → ¬ (readAnswer t i b .number ≡ 0) → readWords t i b ≡ t
 
 pub record Demand1 : Type 2 where
   pub answers : Answers

@@ -9,6 +9,7 @@ use stream::Stream;
 ghost use mathlib.Core.Path.{_≡_};
 ghost use Rattle.table.specs.Table.{emptyNumber, emptied};
 ghost use Rattle.rules.specs.Add.{addAnswer, addWords};
+ghost use Rattle.card.specs.Calls.{writeAnswer, writtenBlock, readAnswer, readWords};
 ghost use Rattle.watcher_c.specs.Interface.{testNumber, openNumber, openState, scanAnswer, scanState, scanIds, scanOffsets, closeAnswer, closeState, closeIds, closeOffsets, busyFigure};
 
 // The number for a state of fewer than nine words. Numbers from 100 on are the interface's own, not the rules'.
@@ -137,4 +138,38 @@ pub extern "C" fn watcher_busy(state: &[u64]) -> u32
     }
     let s = load(state);
     s.busy()
+}
+
+// Writes a block of a table, and says at which place it was refused.
+#[no_mangle]
+pub extern "C" fn watcher_write_block(
+    table: &[u64],
+    number: u64,
+    block: &mut [u8],
+    place: &mut u64,
+) -> u32
+    ensures answer { λ r. ⌜ r ≡ writeAnswer (now (table .entry)) number (now (block .entry)) .number ⌝ }
+    ensures block { λ r. ⌜ now (block .exit) ≡ writtenBlock (now (table .entry)) number (now (block .entry)) ⌝ }
+    ensures place { λ r. ⌜ now (place .exit) ≡ writeAnswer (now (table .entry)) number (now (block .entry)) .place ⌝ }
+{
+    let r = card::write_block(table, number, block);
+    *place = r.place;
+    r.number
+}
+
+// Reads a block of a table, and says at which place it was refused.
+#[no_mangle]
+pub extern "C" fn watcher_read_block(
+    table: &mut [u64],
+    number: u64,
+    block: &[u8],
+    place: &mut u64,
+) -> u32
+    ensures answer { λ r. ⌜ r ≡ readAnswer (now (table .entry)) number (now (block .entry)) .number ⌝ }
+    ensures table { λ r. ⌜ now (table .exit) ≡ readWords (now (table .entry)) number (now (block .entry)) ⌝ }
+    ensures place { λ r. ⌜ now (place .exit) ≡ readAnswer (now (table .entry)) number (now (block .entry)) .place ⌝ }
+{
+    let r = card::read_block(table, number, block);
+    *place = r.place;
+    r.number
 }

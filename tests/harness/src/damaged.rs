@@ -132,7 +132,7 @@ fn byte(rng: &mut Rng) -> u8 {
 }
 
 /// A table of a few rules, or of made-up sets, and then damaged.
-fn table(rng: &mut Rng) -> Vec<u64> {
+pub fn table(rng: &mut Rng) -> Vec<u64> {
     let mut words = vec![0; TABLE_WORDS + rng.below(3)];
     Interpreter.empty(&mut words);
     for _ in 0..rng.below(5) {

@@ -7,8 +7,9 @@
 //! make scenarios, `shrink` makes a failing one small. `readings` compares the reader alone.
 //! `over_words` is a watcher made of calls over lent words, be they the interpreter's of `words` or
 //! the library's (`library`), and `damaged` compares such calls where the words are of any content.
-//! `process` is the built program.
+//! `card` does so for the blocks of a table on the card. `process` is the built program.
 
+pub mod card;
 pub mod corpus_run;
 pub mod damaged;
 pub mod definition;

@@ -2,6 +2,7 @@
 
 use watcher::raw;
 use words::calls::{Answer, Calls};
+use words::card::Card;
 
 pub struct Library;
 
@@ -45,6 +46,16 @@ impl Calls for Library {
 
     fn busy(&self, state: &[u64]) -> u32 {
         raw::busy(state)
+    }
+}
+
+impl Card for Library {
+    fn write_block(&self, table: &[u64], number: u64, block: &mut [u8]) -> (u32, u64) {
+        raw::write_block(table, number, block)
+    }
+
+    fn read_block(&self, table: &mut [u64], number: u64, block: &[u8]) -> (u32, u64) {
+        raw::read_block(table, number, block)
     }
 }
 

@@ -12,8 +12,9 @@ use harness::model::Model;
 use harness::over_words::OverWords;
 use harness::process::Process;
 use harness::watcher::{PatternReader, Watcher};
-use harness::{damaged, random, readings};
+use harness::{card, damaged, random, readings};
 use words::calls::Calls;
+use words::card::Card;
 use words::interpreter::Interpreter;
 
 const USAGE: &str = "usage:
@@ -25,6 +26,7 @@ const USAGE: &str = "usage:
   harness [WATCHER] readings LENGTH
   harness [WATCHER] random SEED COUNT [FIRST]
   harness library damaged SEED COUNT [FIRST]
+  harness library card SEED COUNT [FIRST]
   harness program PATH
 WATCHER is model (the reference's calls, also if none is given), words (the interpreter of table
 words) or library; PATH is the built program.";
@@ -53,12 +55,19 @@ fn numbers(words: &[&str]) -> Result<Vec<u64>, String> {
     words.iter().map(|word| word.parse().map_err(|_| USAGE.to_string())).collect()
 }
 
-/// The commands on calls over words, one of which no other watcher has.
-fn over_words<C: Calls>(calls: C, words: &[&str]) -> Result<(), String> {
+/// The commands on calls over words, two of which no other watcher has.
+fn over_words<C: Calls + Card>(calls: C, words: &[&str]) -> Result<(), String> {
     if let ["damaged", rest @ ..] = words {
         return match numbers(rest)?[..] {
             [seed, count] => many_damaged(&calls, seed, 0, count),
             [seed, count, first] => many_damaged(&calls, seed, first, count),
+            _ => Err(USAGE.to_string()),
+        };
+    }
+    if let ["card", rest @ ..] = words {
+        return match numbers(rest)?[..] {
+            [seed, count] => many_cards(&calls, seed, 0, count),
+            [seed, count, first] => many_cards(&calls, seed, first, count),
             _ => Err(USAGE.to_string()),
         };
     }
@@ -149,5 +158,12 @@ fn many_damaged<C: Calls>(calls: &C, seed: u64, first: u64, cases: u64) -> Resul
         count.cases, count.calls, count.taken, count.reports
     );
     println!("damaged: calls by number {:?}", count.by_number);
+    Ok(())
+}
+
+fn many_cards<C: Card>(calls: &C, seed: u64, first: u64, cases: u64) -> Result<(), String> {
+    let count = card::run(calls, seed, first, cases)?;
+    println!("card: seed {seed}, {} cases, {} of them tables", count.cases, count.tables);
+    println!("card: written by number {:?}, read by number {:?}", count.written, count.read);
     Ok(())
 }
