@@ -37,7 +37,7 @@ extern "C" {
 #define WATCHER_STATE_WORDS 9
 
 /* A table holds at most so many rules, so a scan needs no more report slots. */
-#define WATCHER_MAX_RULES 32
+#define WATCHER_MAX_RULES 64
 
 /* On a card a table takes so many blocks, each of so many bytes. */
 #define WATCHER_BLOCK_BYTES 512
@@ -58,8 +58,8 @@ typedef uint32_t watcher_error_t;
 #define WATCHER_NO_TABLE 1u         /* fewer than 4096 words, or the words are no table */
 #define WATCHER_BAD_FLAG 2u         /* a flag other than the three above */
 #define WATCHER_ID_TAKEN 3u         /* a rule of the table has this id */
-#define WATCHER_TABLE_FULL 4u       /* 32 rules are there */
-#define WATCHER_LONG_PATTERN 5u     /* a pattern of more than 256 bytes */
+#define WATCHER_TABLE_FULL 4u       /* 64 rules are there */
+#define WATCHER_LONG_PATTERN 5u     /* a pattern of more than 1024 bytes */
 #define WATCHER_BAD_ESCAPE 6u       /* an escape that is cut off, or \c before a byte it does not take */
 #define WATCHER_BIG_ESCAPE 7u       /* a number escape over 255 */
 #define WATCHER_OPEN_CLASS 8u       /* a class that is not closed */
@@ -92,7 +92,7 @@ watcher_error_t watcher_test(const uint64_t *table, size_t table_words);
  * the pattern: the first byte of the faulty token, or the pattern's length for a
  * fault known only at its end. An accepted rule ends all open streams of the
  * table: a state is refused with WATCHER_BAD_STATE while the counts of rules and
- * positions differ, its own and the table's.
+ * positions differ, its own and the table's. An addition may need 2 MiB of stack.
  */
 watcher_error_t watcher_add(uint64_t *table, size_t table_words, uint32_t id,
                             uint32_t flags, const uint8_t *pattern,

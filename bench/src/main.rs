@@ -169,9 +169,9 @@ fn additions() {
         }
     });
     println!("ns for one addition: {:.0} (the mean over the rules)", all / RULES.len() as f64);
-    println!("ns for adding a pattern of 256 bytes to an empty table, the emptying included:");
+    println!("ns for adding a pattern of 1,024 bytes to an empty table, the emptying included:");
     for (name, flags, pattern, number) in longest::patterns() {
-        assert_eq!(pattern.len(), 256);
+        assert_eq!(pattern.len(), 1_024);
         let mut answer = (0, 0);
         let time = each(100, || {
             raw::empty(&mut words);

@@ -27,7 +27,7 @@ pub const TABLE_WORDS: usize = 4_096;
 /// The words of a stream's state.
 pub const STATE_WORDS: usize = 9;
 /// A table has at most so many rules.
-pub const MAX_RULES: usize = 32;
+pub const MAX_RULES: usize = 64;
 
 /// The bytes of a block of a table on a card, and how many blocks a table takes.
 pub const BLOCK_BYTES: usize = 512;

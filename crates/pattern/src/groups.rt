@@ -1,5 +1,6 @@
 // Groups are read by recursion: branches, a sequence and an item call one another with the unread length falling. Each writes the nodes of what it has
 // read, children first.
+use crate::NODE_WORDS;
 use crate::items::Got;
 use crate::items::class;
 use crate::items::fault_of;
@@ -24,7 +25,7 @@ pub(super) fn branches(
     at: usize,
     depth: usize,
     options: Options,
-    a: &mut [u64; 8192],
+    a: &mut [u64; NODE_WORDS],
     n: usize,
 ) -> Got
     requires { ⌜ Room (now s) (now a) at n 1 ⌝ }
@@ -56,7 +57,7 @@ fn sequence(
     at: usize,
     depth: usize,
     options: Options,
-    a: &mut [u64; 8192],
+    a: &mut [u64; NODE_WORDS],
     n: usize,
 ) -> Got
     requires { ⌜ Room (now s) (now a) at n 1 ⌝ }
@@ -91,7 +92,7 @@ fn item(
     depth: usize,
     options: Options,
     l: Lexeme,
-    a: &mut [u64; 8192],
+    a: &mut [u64; NODE_WORDS],
     n: usize,
 ) -> Got
     requires { ⌜ Room (now s) (now a) at n 0 ⌝ }

@@ -1,4 +1,5 @@
 // What the readers share: their answer, nodes without children and with two, and an item with the quantifier that may follow it.
+use crate::NODE_WORDS;
 use crate::writer::put;
 use crate::writer::put_item;
 use atoms::Atom;
@@ -45,7 +46,7 @@ pub(super) fn refuse(fault: u32, at: usize) -> Got
 
 // A node without children.
 pub(super) fn leaf(
-    a: &mut [u64; 8192],
+    a: &mut [u64; NODE_WORDS],
     n: usize,
     op: u64,
     x: u64,
@@ -66,7 +67,7 @@ pub(super) fn leaf(
 }
 
 // A node with two children, of which h was read after g.
-pub(super) fn join(a: &mut [u64; 8192], op: u64, g: Got, h: Got) -> Got
+pub(super) fn join(a: &mut [u64; NODE_WORDS], op: u64, g: Got, h: Got) -> Got
     requires { ⌜ (h .n < lent) × (op < 8) × (g .root < h .n) × (h .root < h .n) ⌝ }
     ensures { λ r. ⌜ (r ≡ got (h .at) (h .n + 1) (h .n) (h .options)) × (now (a .exit) ≡ set (now (a .entry)) (h .n) (word op (g .root) (h .root) 0)) ⌝ }
 {
@@ -87,7 +88,7 @@ pub(super) fn quantified(
     s: &[u8],
     at: usize,
     options: Options,
-    a: &mut [u64; 8192],
+    a: &mut [u64; NODE_WORDS],
     n: usize,
     root: usize,
 ) -> Got
@@ -128,7 +129,7 @@ pub(super) fn single(
     at: usize,
     options: Options,
     atom: Atom,
-    a: &mut [u64; 8192],
+    a: &mut [u64; NODE_WORDS],
     n: usize,
 ) -> Got
     requires { ⌜ Room (now s) (now a) at n 5 ⌝ }
@@ -146,7 +147,13 @@ pub(super) fn single(
 }
 
 // The class whose members begin at `at`, with the quantifier that may follow it.
-pub(super) fn class(s: &[u8], at: usize, options: Options, a: &mut [u64; 8192], n: usize) -> Got
+pub(super) fn class(
+    s: &[u8],
+    at: usize,
+    options: Options,
+    a: &mut [u64; NODE_WORDS],
+    n: usize,
+) -> Got
     requires { ⌜ Room (now s) (now a) at n 5 ⌝ }
     ensures { λ r. ⌜ SaidClass (now (s .entry)) (now (a .entry)) (now (a .exit)) at options n r ⌝ }
 {

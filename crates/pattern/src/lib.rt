@@ -15,6 +15,9 @@ ghost use lib.ListN.{drop};
 ghost use Rattle.pattern.specs.Read.{readOf, optionsOf, answerOf};
 ghost use Rattle.pattern.specs.Walk.{Read};
 
+// How many words the nodes of any pattern fit in.
+pub const NODE_WORDS: usize = 8192;
+
 // What reading a pattern gives: number 0 with place 0, the tree's root, how many words its nodes take, and its positions; or the refusal's number
 // and place, and zeros.
 pub struct Reading {
@@ -23,7 +26,7 @@ pub struct Reading {
     pub root: usize,
     pub size: usize,
     pub positions: u32,
-    pub nodes: [u64; 8192],
+    pub nodes: [u64; NODE_WORDS],
 }
 
 // The longest pattern that is read, in bytes.
@@ -39,7 +42,7 @@ fn refused(number: u32, place: usize) -> Reading
         root: 0,
         size: 0,
         positions: 0,
-        nodes: [0; 8192],
+        nodes: [0; NODE_WORDS],
     }
 }
 
@@ -62,7 +65,7 @@ fn read_all(pattern: &[u8], flags: u32) -> Reading
     if length > LONGEST {
         return refused(5, 0);
     }
-    let mut nodes = [0u64; 8192];
+    let mut nodes = [0u64; NODE_WORDS];
     let g = branches(pattern, 0, 0, options_of(flags), &mut nodes, 0);
     if g.fault != 0 {
         return refused(g.fault, g.at);

@@ -1,5 +1,5 @@
--- The rules in a table's words: their last sets are joined one a turn, and those that a set meets are a word that gets one digit a turn. No more are asked than a
--- table can have, and the automaton has nothing past these.
+-- What is given of words enough for a table, and of fewer; and the rules in a table's words: their last sets are joined one a turn, and those that a set meets
+-- are a word that gets one digit a turn. No more are asked than a table can have, and the automaton has nothing past these.
 use mathlib.Core.Path.{_≡_, refl, sym, ap, ap₂, _∙_}
 use mathlib.Core.Bool.{Bool, true, false, cond, not, _&&_, and-false, and-eq-true-iff, Bool·not-not}
 use mathlib.Core.List.{List}
@@ -8,15 +8,37 @@ use native.Mathlib.Numerals.{add-one}
 use native.Mathlib.Omega.{arith}
 use lib.Bits.{bitAnd}
 use lib.Dec.{eqb, ltb}
-use borrow.Author.Tests.{lt-ltb, le-ltb, ltb-true}
+use lib.ListN.{length}
+use borrow.Author.Tests.{lt-ltb, le-ltb, ltb-true, le-leb, lt-leb}
 use Rattle.sets.specs.Set.{has, setOf, any, unionOf, intersectionOf, isEmpty, emptySet}
 use Rattle.sets.proofs.Digits.{wordOf-ext}
 use Rattle.sets.proofs.Laws.{has-setOf, has-intersection, union-setOf, setOf-ext, any-at, any-none, any-some, any-never, any-ext}
-use Rattle.table.specs.Layout.{maxRules, maxPositions, rulesOf, recordAt, lastAt, recordWord, rowHas}
+use Rattle.table.specs.Layout.{tableWords, maxRules, maxPositions, rulesOf, recordAt, lastAt, recordWord, rowHas}
 use Rattle.table.specs.Automaton.{automaton, single}
 use Rattle.table.proofs.Rows.{under}
-use Rattle.steps.specs.Step.{ends, endsAtEnd, lastsOf, rulesWhere}
+use Rattle.steps.specs.Step.{setOn, numberOn, ends, endsAtEnd, lastsOf, rulesWhere}
 use Rattle.steps.proofs.Members.{placesBelow, places-capped, places-without}
+
+-- ---- words enough for a table, and fewer
+
+module _ (t : List ℕ) where
+  pub set-on : (s : List ℕ) → tableWords ≤ length t → setOn t s ≡ s
+  unfolding setOn
+  set-on s h = ap (λ (b : Bool). cond b s emptySet) (le-leb tableWords (length t) h)
+
+  pub set-off : (s : List ℕ) → length t < tableWords → setOn t s ≡ emptySet
+  unfolding setOn
+  set-off s h = ap (λ (b : Bool). cond b s emptySet) (lt-leb tableWords (length t) h)
+
+  pub number-on : (n : ℕ) → tableWords ≤ length t → numberOn t n ≡ n
+  unfolding numberOn
+  number-on n h = ap (λ (b : Bool). cond b n 0) (le-leb tableWords (length t) h)
+
+  pub number-off : (n : ℕ) → length t < tableWords → numberOn t n ≡ 0
+  unfolding numberOn
+  number-off n h = ap (λ (b : Bool). cond b n 0) (lt-leb tableWords (length t) h)
+
+-- ---- sets that meet
 
 -- two sets meet where their intersection has a member
 pub meets-test : (s t : List ℕ) → not (isEmpty (intersectionOf s t)) ≡ any maxPositions (λ q. has s q && has t q)

@@ -3,10 +3,18 @@
 use mathlib.Core.Bool.{Bool, cond, _&&_, _||_}
 use mathlib.Core.List.{List}
 use Prim.Native.Nat.{ℕ}
-use lib.Dec.{eqb, ltb}
-use Rattle.sets.specs.Set.{has, setOf, wordOf, any}
-use Rattle.table.specs.Layout.{maxPositions}
+use lib.Dec.{eqb, leb, ltb}
+use lib.ListN.{length}
+use Rattle.sets.specs.Set.{has, setOf, wordOf, any, emptySet}
+use Rattle.table.specs.Layout.{tableWords, maxPositions}
 use Rattle.table.specs.Automaton.{Automaton}
+
+-- a set, and a number, that is given of words enough for a table; of fewer it is empty, and 0
+unfoldable pub setOn : (t s : List ℕ) → List ℕ
+setOn t s = cond (leb tableWords (length t)) s emptySet
+
+unfoldable pub numberOn : (t : List ℕ) → ℕ → ℕ
+numberOn t n = cond (leb tableWords (length t)) n 0
 
 module _ (w : Automaton) where
   -- the positions at which a match can start with the next byte, `taken` bytes into the stream; `^` and `\A` "hold at offset 0 only"

@@ -1,5 +1,6 @@
 // The rules of a table: the union of their last sets, the rules that a live set ends and those that report once, as a word with a digit for each place, and a
-// rule's id. Words that are no table may name any number of rules; no more are looked at than a table can have.
+// rule's id. Words that are no table may name any number of rules; no more are looked at than a table can have. That there are words enough is tested once,
+// before the rules are walked, and not for each of them.
 use table::layout::FLAGS;
 use table::layout::ID;
 use table::layout::LAST;
@@ -8,20 +9,31 @@ use table::layout::MAX_RULES;
 use table::layout::RECORD_WORDS;
 use table::layout::RECORDS_AT;
 use table::layout::RULES_AT;
+use table::layout::TABLE_WORDS;
 ghost use mathlib.Core.Path.{_≡_};
 ghost use mathlib.Core.Bool.{not, _&&_};
 ghost use Prim.Native.Nat.{_+_, _≤_, min};
 ghost use lib.Dec.{ltb};
-ghost use Rattle.sets.specs.Set.{has, wordOf, any};
-ghost use Rattle.table.specs.Layout.{maxRules, maxPositions, rulesOf, recordAt, rowHas};
+ghost use lib.ListN.{length};
+ghost use Rattle.sets.specs.Set.{has, setOf, wordOf, any};
+ghost use Rattle.table.specs.Layout.{tableWords, maxRules, maxPositions, rulesOf, recordAt, rowHas};
 ghost use Rattle.table.specs.Automaton.{automaton, single};
-ghost use Rattle.steps.specs.Step.{ends, endsAtEnd, lastsOf, rulesWhere};
+ghost use Rattle.steps.specs.Step.{setOn, numberOn, ends, endsAtEnd, lastsOf, rulesWhere};
+
+// The set whose four words stand at `at`.
+pub(super) fn row(words: &[u64], at: usize) -> [u64; 4]
+    requires { ⌜ at + 4 ≤ length (now words) ⌝ }
+    ensures { λ r. ⌜ r ≡ setOf (rowHas (now (words .entry)) at) ⌝ }
+{
+    [words[at], words[at + 1], words[at + 2], words[at + 3]]
+}
 
 // How many rules are looked at.
 fn rule_count(words: &[u64]) -> usize
+    requires { ⌜ tableWords ≤ length (now words) ⌝ }
     ensures { λ r. ⌜ r ≡ min (rulesOf (now (words .entry))) maxRules ⌝ }
 {
-    let rules = table::word(words, RULES_AT);
+    let rules = words[RULES_AT];
     if rules < MAX_RULES {
         rules as usize
     } else {
@@ -49,13 +61,16 @@ pub fn meets(s: [u64; 4], t: [u64; 4]) -> bool
 
 // The positions with which a match of some rule can end inside the stream.
 pub fn lasts(words: &[u64]) -> [u64; 4]
-    ensures { λ r. ⌜ r ≡ lastsOf (automaton (now (words .entry))) ⌝ }
+    ensures { λ r. ⌜ r ≡ setOn (now (words .entry)) (lastsOf (automaton (now (words .entry)))) ⌝ }
 {
+    if words.len() < TABLE_WORDS {
+        return sets::empty();
+    }
     let rules = rule_count(words);
     let mut s = sets::empty();
     let mut a: usize = 0;
     while a < rules {
-        let t = sets::union(s, table::row(words, RECORDS_AT + a * RECORD_WORDS + LAST));
+        let t = sets::union(s, row(words, RECORDS_AT + a * RECORD_WORDS + LAST));
         s = t;
         a += 1;
     }
@@ -64,17 +79,14 @@ pub fn lasts(words: &[u64]) -> [u64; 4]
 
 // The rules that have a live position in the set at this word of their record, which is LAST or LAST_AT_END.
 fn meeting(live: [u64; 4], words: &[u64], field: usize) -> u64
-    requires { ⌜ field ≤ 12 ⌝ }
+    requires { ⌜ (tableWords ≤ length (now words)) × (field ≤ 12) ⌝ }
     ensures { λ r. ⌜ r ≡ wordOf 64 (λ a. ltb a (min (rulesOf (now (words .entry))) maxRules) && any maxPositions (λ p. has live p && rowHas (now (words .entry)) (recordAt a + field) p)) ⌝ }
 {
     let rules = rule_count(words);
     let mut found: u64 = 0;
     let mut a: usize = 0;
     while a < rules {
-        if meets(
-            live,
-            table::row(words, RECORDS_AT + a * RECORD_WORDS + field),
-        ) {
+        if meets(live, row(words, RECORDS_AT + a * RECORD_WORDS + field)) {
             found = found | 1 << a;
         }
         a += 1;
@@ -84,15 +96,21 @@ fn meeting(live: [u64; 4], words: &[u64], field: usize) -> u64
 
 // The rules of which a match ends with a live position.
 pub fn ending(live: [u64; 4], words: &[u64]) -> u64
-    ensures { λ r. ⌜ r ≡ rulesWhere (automaton (now (words .entry))) (ends (automaton (now (words .entry))) live) ⌝ }
+    ensures { λ r. ⌜ r ≡ numberOn (now (words .entry)) (rulesWhere (automaton (now (words .entry))) (ends (automaton (now (words .entry))) live)) ⌝ }
 {
+    if words.len() < TABLE_WORDS {
+        return 0;
+    }
     meeting(live, words, LAST)
 }
 
 // The rules of which a match ends with a live position if the stream ends here, and not otherwise.
 pub fn closing(live: [u64; 4], words: &[u64]) -> u64
-    ensures { λ r. ⌜ r ≡ rulesWhere (automaton (now (words .entry))) (λ a. endsAtEnd (automaton (now (words .entry))) live a && not (ends (automaton (now (words .entry))) live a)) ⌝ }
+    ensures { λ r. ⌜ r ≡ numberOn (now (words .entry)) (rulesWhere (automaton (now (words .entry))) (λ a. endsAtEnd (automaton (now (words .entry))) live a && not (ends (automaton (now (words .entry))) live a))) ⌝ }
 {
+    if words.len() < TABLE_WORDS {
+        return 0;
+    }
     let at_end = meeting(live, words, LAST_AT_END);
     let plainly = ending(live, words);
     at_end & !plainly
@@ -103,13 +121,16 @@ const SINGLE: u64 = 8;
 
 // The single-match rules.
 pub fn singles(words: &[u64]) -> u64
-    ensures { λ r. ⌜ r ≡ rulesWhere (automaton (now (words .entry))) (single (automaton (now (words .entry)))) ⌝ }
+    ensures { λ r. ⌜ r ≡ numberOn (now (words .entry)) (rulesWhere (automaton (now (words .entry))) (single (automaton (now (words .entry))))) ⌝ }
 {
+    if words.len() < TABLE_WORDS {
+        return 0;
+    }
     let rules = rule_count(words);
     let mut found: u64 = 0;
     let mut a: usize = 0;
     while a < rules {
-        if table::word(words, RECORDS_AT + a * RECORD_WORDS + FLAGS) / SINGLE % 2 == 1 {
+        if words[RECORDS_AT + a * RECORD_WORDS + FLAGS] / SINGLE % 2 == 1 {
             found = found | 1 << a;
         }
         a += 1;

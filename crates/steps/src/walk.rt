@@ -1,12 +1,14 @@
 // The walk over the live set: what follows the live positions, one turn for each, from the lowest up.
+use super::rows::row;
 use table::layout::FOLLOW_AT;
 use table::layout::SET_WORDS;
 ghost use mathlib.Core.Path.{_≡_};
 ghost use mathlib.Core.Bool.{_||_, _&&_};
 ghost use Prim.Native.Nat.{_≤_};
 ghost use lib.Count.{ones};
+ghost use lib.ListN.{length};
 ghost use Rattle.sets.specs.Set.{has, setOf, any, sizeOf};
-ghost use Rattle.table.specs.Layout.{maxPositions, followAt, rowHas};
+ghost use Rattle.table.specs.Layout.{tableWords, maxPositions, followAt, rowHas};
 ghost use Rattle.steps.specs.Invariants.{joined};
 
 // What a walk leaves: the set that it has joined to, and how many turns it took.
@@ -17,13 +19,13 @@ pub(super) struct Walked {
 
 // Joins what follows the positions of one live word, whose digit k is position base + k.
 fn walk_word(mut word: u64, base: usize, mut set: [u64; 4], words: &[u64]) -> Walked
-    requires { ⌜ base ≤ 192 ⌝ }
+    requires { ⌜ (tableWords ≤ length (now words)) × (base ≤ 192) ⌝ }
     ensures { λ r. ⌜ (r .turns ≡ ones word) × (r .set ≡ joined (now (words .entry)) word base set (ones word)) ⌝ }
 {
     let mut turns: u32 = 0;
     while word != 0 {
         let p = base + u64::trailing_zeros(word) as usize;
-        let after = table::row(words, FOLLOW_AT + p * SET_WORDS);
+        let after = row(words, FOLLOW_AT + p * SET_WORDS);
         let more = sets::union(set, after);
         set = more;
         word = word & (word - 1);
@@ -34,6 +36,7 @@ fn walk_word(mut word: u64, base: usize, mut set: [u64; 4], words: &[u64]) -> Wa
 
 // Joins what follows each live position.
 pub(super) fn walk(live: [u64; 4], from: [u64; 4], words: &[u64]) -> Walked
+    requires { ⌜ tableWords ≤ length (now words) ⌝ }
     ensures turns { λ r. ⌜ r .turns ≡ sizeOf live ⌝ }
     ensures set { λ r. ⌜ r .set ≡ setOf (λ q. has from q || any maxPositions (λ p. has live p && rowHas (now (words .entry)) (followAt p) q)) ⌝ }
 {

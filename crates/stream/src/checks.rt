@@ -6,10 +6,11 @@ use table::layout::POSITIONS_AT;
 use table::layout::RULES_AT;
 ghost use mathlib.Core.Path.{_≡_};
 ghost use mathlib.Core.Bool.{not, _&&_};
-ghost use Prim.Native.Nat.{min};
+ghost use Prim.Native.Nat.{_≤_, min};
 ghost use lib.Dec.{leb, ltb};
+ghost use lib.ListN.{length};
 ghost use Rattle.sets.specs.Set.{on, has, any};
-ghost use Rattle.table.specs.Layout.{maxPositions};
+ghost use Rattle.table.specs.Layout.{tableWords, maxPositions};
 ghost use Rattle.table.specs.Automaton.{automaton, single};
 ghost use Rattle.stream.specs.Valid.{valid};
 ghost use Rattle.stream.specs.Calls.{scanNumber};
@@ -31,6 +32,7 @@ fn live_inside(live: [u64; 4], positions: usize) -> bool
 
 // Whether every mark has a single-match rule.
 fn marks_single(reported: u64, words: &[u64]) -> bool
+    requires { ⌜ tableWords ≤ length (now words) ⌝ }
     ensures { λ r. ⌜ r ≡ not (any 64 (λ a. on reported a && not (ltb a (automaton (now (words .entry)) .rules) && single (automaton (now (words .entry))) a))) ⌝ }
 {
     reported & !singles(words) == 0
@@ -38,10 +40,11 @@ fn marks_single(reported: u64, words: &[u64]) -> bool
 
 // Whether a state fits a table.
 fn is_valid(s: Stream, words: &[u64]) -> bool
+    requires { ⌜ tableWords ≤ length (now words) ⌝ }
     ensures { λ r. ⌜ r ≡ valid (automaton (now (words .entry))) s ⌝ }
 {
-    let rules = table::word(words, RULES_AT);
-    let positions = table::word(words, POSITIONS_AT);
+    let rules = words[RULES_AT];
+    let positions = words[POSITIONS_AT];
     let live = s.live;
     let same = (s.rules == rules) & (s.positions == positions);
     let inside = live_inside(live, positions as usize);

@@ -7,6 +7,7 @@ use steps::step;
 use steps::takers;
 use table::layout::FIRST_AT;
 use table::layout::POSITIONS_AT;
+use table::layout::TABLE_WORDS;
 ghost use mathlib.Core.Path.{_≡_};
 ghost use mathlib.Core.Bool.{true};
 ghost use Prim.Native.Nat.{_+_, _^_, _<_, _≤_};
@@ -15,7 +16,8 @@ ghost use Rattle.table.specs.Table.{isTable};
 ghost use Rattle.table.specs.Automaton.{automaton};
 ghost use Rattle.stream.specs.Invariants.{stateOf, Skipped, Ran};
 
-// The place of the next byte that has to be looked at. Where nothing is live inside the stream, bytes that start nothing are passed over.
+// The place of the next byte that has to be looked at. Where nothing is live inside the stream, bytes that start nothing are passed over. That there are enough
+// words is tested once, before the loop, so that the compiler leaves out the test of each byte's set.
 fn ahead(
     live: [u64; 4],
     taken: u64,
@@ -27,7 +29,7 @@ fn ahead(
     requires { ⌜ (positions ≡ automaton (now words) .positions) × (from ≤ length (now block)) × (taken + length (now block) < 2 ^ 64) ⌝ }
     ensures { λ r. ⌜ Skipped (automaton (now (words .entry))) live (now (block .entry)) taken from r ⌝ }
 {
-    if !sets::is_empty(live) | (taken + from as u64 == 0) {
+    if !sets::is_empty(live) | (taken + from as u64 == 0) | (words.len() < TABLE_WORDS) {
         return from;
     }
     let first = sets::below(table::row(words, FIRST_AT), positions);

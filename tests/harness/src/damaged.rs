@@ -122,8 +122,8 @@ fn same<T: PartialEq + std::fmt::Debug>(what: &str, got: T, wanted: T) -> Result
 fn space(rng: &mut Rng) -> usize {
     match rng.below(6) {
         0 => rng.below(8),
-        1..=3 => 32,
-        _ => 32 + rng.below(300),
+        1..=3 => MAX_RULES,
+        _ => MAX_RULES + rng.below(300),
     }
 }
 
@@ -153,13 +153,13 @@ pub fn table(rng: &mut Rng) -> Vec<u64> {
 
 /// Some counts and records that pass the test, and sets of any content, thick or thin.
 fn made_up(rng: &mut Rng, words: &mut [u64]) {
-    let rules = *rng.pick(&[1, 2, 5, 31, 32]);
+    let rules = *rng.pick(&[1, 2, 5, 32, 33, 63, 64]);
     let positions = *rng.pick(&[0, 1, 63, 64, 65, 128, 255, 256]);
     words[RULES] = rules;
     words[POSITIONS] = positions;
     let mut id = 0;
     for place in 0..rules as usize {
-        id += 1 + rng.word() % 0x0700_0000;
+        id += 1 + rng.word() % 0x0380_0000;
         words[record(place) + ID] = id;
         words[record(place) + FLAGS] = *rng.pick(&[0, 1, 2, 8, 11]);
         words[record(place) + FROM] = 0;
@@ -167,7 +167,7 @@ fn made_up(rng: &mut Rng, words: &mut [u64]) {
     }
     let thin = rng.below(6);
     let word = |rng: &mut Rng| (0..thin).fold(rng.word(), |word, _| word & rng.word());
-    for at in (FIRST..FIRST + 8).chain(1_024..3_072) {
+    for at in (FIRST..FIRST + 8).chain(ROWS) {
         words[at] = word(rng);
     }
     for place in 0..rules as usize {
@@ -181,10 +181,10 @@ fn made_up(rng: &mut Rng, words: &mut [u64]) {
 fn damage(rng: &mut Rng, words: &mut [u64]) {
     let at = match rng.below(6) {
         0 => rng.below(3),
-        1 => record(rng.below(6)) + rng.below(4),
-        2 => record(rng.below(6)) + rng.below(RECORD_WORDS),
+        1 => record(place(rng)) + rng.below(4),
+        2 => record(place(rng)) + rng.below(RECORD_WORDS),
         3 => FIRST + rng.below(8),
-        4 => 1_024 + rng.below(2_048),
+        4 => ROWS.start + rng.below(ROWS.len()),
         _ => rng.below(words.len()),
     };
     words[at] = match rng.below(6) {
@@ -192,9 +192,18 @@ fn damage(rng: &mut Rng, words: &mut [u64]) {
         1 => words[at] ^ 1 << rng.below(64),
         2 => words[at].wrapping_add(1),
         3 => words[at] | 1 << 32,
-        4 => rng.below(40) as u64,
+        4 => rng.below(70) as u64,
         _ => u64::MAX,
     };
+}
+
+/// A rule's place: mostly one of the first, which every table may have.
+fn place(rng: &mut Rng) -> usize {
+    if rng.once_in(3) {
+        rng.below(MAX_RULES)
+    } else {
+        rng.below(6)
+    }
 }
 
 /// A state that was opened on the table, somewhere in its stream, and then perhaps damaged.
@@ -205,6 +214,11 @@ fn state(rng: &mut Rng, table: &[u64]) -> Vec<u64> {
     if positions > 0 {
         for _ in 0..rng.below(6) {
             put(&mut state, 0, rng.below(positions));
+        }
+    }
+    for place in 0..state[STATE_RULES].min(MAX_RULES as u64) as usize {
+        if table[record(place) + FLAGS] & SINGLE_MATCH != 0 && rng.once_in(8) {
+            state[MARKS] |= 1 << place;
         }
     }
     state[TAKEN] = match rng.below(8) {

@@ -200,6 +200,19 @@ const QUANTIFIERS: &[&str] = &[
     "{1 ,2}", "{ 0 ,2 }", "{2, }", "{ 1,}", "{ ,2}", "{, 3 }",
 ];
 
+/// What a long pattern begins with: an opening, something over and over, and the closing.
+const FILLERS: &[(&str, &str, &str)] = &[
+    ("(?#", "x", ")"),
+    ("[", "a", "]"),
+    ("[", "a-c", "]"),
+    ("[", "\\Qb\\E", "]"),
+    ("", "()", ""),
+    ("(", "|", ")"),
+    ("", "(?i)(?-i)", ""),
+    ("", "\\Q\\E", ""),
+    ("(?:", "(?:a{0}|)", ")"),
+];
+
 pub fn pattern(rng: &mut Rng) -> Vec<u8> {
     let mut out = Vec::new();
     let budget = 1 + rng.below(10);
@@ -209,11 +222,25 @@ pub fn pattern(rng: &mut Rng) -> Vec<u8> {
             break_it(rng, &mut out);
         }
     }
-    if rng.once_in(300) {
-        out = out.repeat(1 + 260 / (out.len() + 1));
-        out.truncate(250 + rng.below(10));
+    if rng.once_in(100) {
+        out = long(rng, &out);
     }
     out
+}
+
+/// The pattern made long, up to the limit of 1,024 bytes and past it: written over and over, or put
+/// behind so much of something that has few positions.
+fn long(rng: &mut Rng, pattern: &[u8]) -> Vec<u8> {
+    let length = *rng.pick(&[250, 510, 1_018, 1_018, 1_018]) + rng.below(12);
+    if rng.once_in(4) {
+        return pattern.iter().chain(b"b").copied().cycle().take(length).collect();
+    }
+    let (open, inside, close) = *rng.pick(FILLERS);
+    let room = length.saturating_sub("(?#)".len() + pattern.len());
+    let copies = room.saturating_sub(open.len() + close.len()) / inside.len();
+    let filler = [open, &inside.repeat(copies), close].concat();
+    let rest = "x".repeat(room.saturating_sub(filler.len()));
+    [format!("(?#{rest})").as_bytes(), filler.as_bytes(), pattern].concat()
 }
 
 fn choice(rng: &mut Rng, out: &mut Vec<u8>, budget: usize, depth: usize) {

@@ -3,6 +3,7 @@
 //! as they were.
 
 use corpus::{Call, Case, Line, Lists, Report};
+use reference::refusal::MAX_RULES;
 
 use crate::watcher::{Answer, Change, Watcher};
 
@@ -185,7 +186,8 @@ fn play_whole<W: Watcher>(watcher: &W, case: &Case) -> Result<(), String> {
     let bytes: Vec<Vec<u8>> = joined.iter().map(|&b| vec![b]).collect();
     let wanted = case.reports();
     let pairs: Vec<(u32, u64)> = wanted.iter().map(|r| (r.id, r.offset)).collect();
-    for (blocks, space) in [(&blocks, rules), (&vec![joined.clone()], 40 * joined.len() + 40)] {
+    let much = MAX_RULES * (joined.len() + 1);
+    for (blocks, space) in [(&blocks, rules), (&vec![joined.clone()], much)] {
         let got = whole_stream(&mut player, blocks, space)?;
         let got: Vec<(u32, u64)> = got.reports.iter().map(|r| (r.id, r.offset)).collect();
         expect("reports (id, offset)", &got, &pairs)?;

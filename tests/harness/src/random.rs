@@ -3,6 +3,7 @@
 //! now and then makes a call that is refused. Case i of a run depends on the seed and on i alone.
 
 use corpus::{Case, Line};
+use reference::refusal::MAX_RULES;
 use reference::rule::Rule;
 use reference::tree::Node;
 
@@ -71,8 +72,11 @@ pub fn scenario(rng: &mut Rng) -> Scenario {
         additions.insert(0, Addition { id: 77, flags: 0, pattern });
     }
     if rng.once_in(40) {
-        let small = |id| Addition { id, flags: 0, pattern: vec![b'a' + (id % 3) as u8] };
-        additions.extend((100..100 + 28 + rng.below(8) as u32).map(small));
+        let count = *rng.pick(&[30, 48, 58, 62]) + rng.below(8) as u32;
+        additions.extend((100..100 + count).map(|id| {
+            let pattern = vec![b'a' + (id % 3) as u8];
+            Addition { id, flags: *rng.pick(&[0, 0, 8]), pattern }
+        }));
     }
     let (rules, _) = add_all(additions.iter().map(|a| (a.id, a.flags, &a.pattern[..])));
     let log = log(rng, &rules);
@@ -83,7 +87,7 @@ pub fn scenario(rng: &mut Rng) -> Scenario {
     if rng.once_in(2) {
         steps.push(Step::Offer { bytes: usize::MAX, space: rules.len() });
         steps.push(Step::Figure);
-        steps.push(Step::Close { ids: rules.len().saturating_sub(1), offsets: 40 });
+        steps.push(Step::Close { ids: rules.len().saturating_sub(1), offsets: MAX_RULES + 8 });
     }
     Scenario { additions, log, steps }
 }

@@ -1,5 +1,5 @@
 //! The random patterns hold enough of what is easily missed: named classes, quotes and comments,
-//! blanks in braces and raw control bytes, in all their corners, accepted and refused.
+//! blanks in braces, raw control bytes and long patterns, in all their corners, accepted and refused.
 
 use std::collections::BTreeMap;
 
@@ -24,6 +24,7 @@ fn kinds(pattern: &[u8], number: u32, place: usize) -> Vec<&'static str> {
     let (before, from) = pattern.split_at(place);
     let after_nothing = before.ends_with(b"\\E") || after_comment(before);
     let kind = |name, is| if is { Some(name) } else { None };
+    let long = kind("place beyond 255", place > 255);
     let found = match number {
         0 => vec![
             kind("name", has(pattern, "[:") && has(pattern, "t:]")),
@@ -50,7 +51,9 @@ fn kinds(pattern: &[u8], number: u32, place: usize) -> Vec<&'static str> {
             kind("blank in an escape", has(pattern, "\\x{ 61}") || has(pattern, "\\o{ 7 }")),
             kind("blanks alone", has(pattern, "{ }") || has(pattern, "{ , }")),
             kind("blank between digits", has(pattern, "{2 3}")),
+            kind("over 256 bytes", pattern.len() > 256),
         ],
+        5 => vec![kind("over 1,024 bytes", true)],
         6 => vec![
             kind(
                 "blank and no number",
@@ -94,7 +97,7 @@ fn kinds(pattern: &[u8], number: u32, place: usize) -> Vec<&'static str> {
         ],
         _ => vec![],
     };
-    found.into_iter().flatten().collect()
+    found.into_iter().chain([long]).flatten().collect()
 }
 
 #[test]
@@ -110,6 +113,6 @@ fn every_corner_comes_often() {
             *count.entry(kind).or_default() += 1;
         }
     }
-    assert_eq!(count.len(), 46, "{count:?}");
+    assert_eq!(count.len(), 49, "{count:?}");
     assert!(count.values().all(|&n| n >= 100), "{count:?}");
 }

@@ -8,6 +8,7 @@ use harness::play::play;
 use harness::random;
 use harness::watcher::{Answer, Change, Watcher};
 use reference::calls::{Stream, Table};
+use reference::refusal::MAX_RULES;
 use reference::token::is_control;
 
 #[derive(Clone, Copy, Debug, PartialEq)]
@@ -32,11 +33,12 @@ enum Slip {
     PlaceOfTheRawByte,
     RawByteBeforeLowerNumbers,
     CommentsMayHoldAnything,
+    PlaceInAByte,
 }
 
 use Slip::*;
 
-const SLIPS: [Slip; 20] = [
+const SLIPS: [Slip; 21] = [
     PlaceOfTheMark,
     EndFaultAtTheStart,
     HalfOfAByte,
@@ -57,6 +59,7 @@ const SLIPS: [Slip; 20] = [
     PlaceOfTheRawByte,
     RawByteBeforeLowerNumbers,
     CommentsMayHoldAnything,
+    PlaceInAByte,
 ];
 
 impl Slip {
@@ -70,7 +73,8 @@ impl Slip {
         offsets: &mut [u64],
     ) -> Answer<Stream> {
         let space = ids.len().min(offsets.len());
-        let mut all = (vec![0; 32 * block.len() + space], vec![0; 32 * block.len() + space]);
+        let most = MAX_RULES * block.len() + space;
+        let mut all = (vec![0; most], vec![0; most]);
         let mut answer = Model.scan(table, stream.clone(), block, &mut all.0, &mut all.1);
         if answer.number != 0 {
             return answer;
@@ -184,6 +188,7 @@ impl Watcher for Slip {
                 Model.add(table, id, flags, b"a");
                 (number, place)
             }
+            (PlaceInAByte, _) => (number, place % 256),
             _ => (number, place),
         }
     }
@@ -248,7 +253,8 @@ impl Watcher for Slip {
             RefusedClosingCloses => {
                 let answer = Model.close(table, stream.clone(), ids, offsets);
                 if answer.number == 20 {
-                    let closed = Model.close(table, stream, &mut [0; 32], &mut [0; 32]);
+                    let (mut ids, mut offsets) = ([0; MAX_RULES], [0; MAX_RULES]);
+                    let closed = Model.close(table, stream, &mut ids, &mut offsets);
                     return Answer { stream: closed.stream, ..answer };
                 }
                 answer

@@ -16,6 +16,7 @@ enum Slip {
     ClosedIsOneOnly,
     CountsIn32Bits,
     MarksPastTheRules,
+    MarksIn32Bits,
     LiveOutside,
     RefusalStores,
     RefusedOpeningLeavesState,
@@ -25,10 +26,11 @@ enum Slip {
     EqualIds,
 }
 
-const ALL: [Slip; 10] = [
+const ALL: [Slip; 11] = [
     Slip::ClosedIsOneOnly,
     Slip::CountsIn32Bits,
     Slip::MarksPastTheRules,
+    Slip::MarksIn32Bits,
     Slip::LiveOutside,
     Slip::RefusalStores,
     Slip::RefusedOpeningLeavesState,
@@ -53,6 +55,7 @@ impl Slip {
             Slip::MarksPastTheRules => {
                 state[MARKS] &= 1u64.checked_shl(table[RULES] as u32).map_or(!0, |bit| bit - 1)
             }
+            Slip::MarksIn32Bits => state[MARKS] &= 0xffff_ffff,
             Slip::LiveOutside => {
                 for p in (0..MAX_POSITIONS).skip(table[POSITIONS] as usize) {
                     state[p / 64] &= !(1 << (p % 64));
@@ -145,7 +148,10 @@ impl Calls for Slip {
 fn the_interpreter_agrees_with_itself() {
     let count = run(&Interpreter, 1, 0, 3_000).unwrap();
     for number in [0, 1, 18, 19, 20, 21, 100] {
-        assert!(count.by_number.get(&number).is_some_and(|&n| n > 20), "number {number} is too rare");
+        assert!(
+            count.by_number.get(&number).is_some_and(|&n| n > 20),
+            "number {number} is too rare"
+        );
     }
 }
 

@@ -16,8 +16,8 @@ impl Refusal {
 
 /// Limits of the product, by name.
 pub const TABLE_WORDS: usize = 4_096;
-pub const MAX_RULES: usize = 32;
-pub const MAX_PATTERN: usize = 256;
+pub const MAX_RULES: usize = 64;
+pub const MAX_PATTERN: usize = 1_024;
 pub const MAX_GROUPS: usize = 16;
 pub const MAX_POSITIONS: usize = 256;
 pub const MAX_REPEAT: u32 = 65_535;

@@ -281,7 +281,7 @@ fn before_what_the_end_knows_and_after_the_first_checks() {
         ("a{257}\t", 23, 6),
         ("\t{257}", 23, 0),
     ]);
-    let long = "\t".repeat(257);
+    let long = "\t".repeat(1_025);
     refused(&[(&long, 5, 0), (&long[1..], 23, 0)]);
     let number = |flags| reference::rule::check(&[], 1, flags, b"\t").unwrap_err().number;
     assert_eq!((number(16), number(1), number(2), number(8)), (2, 23, 23, 23));

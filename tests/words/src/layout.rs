@@ -3,7 +3,7 @@
 
 pub const TABLE_WORDS: usize = 4_096;
 pub const FORMAT: u64 = 0x7761_7463_6865_7231;
-pub const MAX_RULES: usize = 32;
+pub const MAX_RULES: usize = 64;
 pub const MAX_POSITIONS: usize = 256;
 /// How many bytes a stream may have.
 pub const MAX_STREAM: u64 = 1_099_511_627_775;
@@ -30,12 +30,15 @@ pub fn record(place: usize) -> usize {
 }
 
 pub fn follow(position: usize) -> usize {
-    1_024 + 4 * position
+    1_088 + 4 * position
 }
 
 pub fn takers(byte: u8) -> usize {
-    2_048 + 4 * byte as usize
+    2_112 + 4 * byte as usize
 }
+
+/// The words of the follow sets and of the byte sets.
+pub const ROWS: std::ops::Range<usize> = 1_088..3_136;
 
 /// Is the position in the set whose four words begin at `at`?
 pub fn has(words: &[u64], at: usize, position: usize) -> bool {

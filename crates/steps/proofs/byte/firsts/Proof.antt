@@ -1,15 +1,29 @@
 -- `steps::byte::firsts` meets its contract: the stream's start has its own set of first positions.
 use mathlib.Core.Path.{_∙_}
+use Prim.Native.Nat.{ℕ, _+_, _≤_}
+use native.Mathlib.Omega.{arith}
 use denote.Ref.{now}
+use lib.ListN.{length}
+use Rattle.table.specs.Layout.{tableWords, firstAt, firstAtStartAt}
 use Rattle.steps.proofs.Steps.{starts-first, starts-later}
 use Rattle.steps.proofs.byte.firsts.Statement.{statement}
 use Rattle.steps.proofs.byte.firsts.Tie as tie
 
+start-inside : (n : ℕ) → tableWords ≤ n → firstAtStartAt + 4 ≤ n
+start-inside n h = omega arith
+
+first-inside : (n : ℕ) → tableWords ≤ n → firstAt + 4 ≤ n
+first-inside n h = omega arith
+
 row-requires : tie.Need-row-requires
-row-requires c κs = tt
+row-requires c κs =
+    let c-start = c .before .before in
+    start-inside (length (now (c-start .args .words))) (c-start .pre)
 
 row-requires-2 : tie.Need-row-requires-2
-row-requires-2 c κs = tt
+row-requires-2 c κs =
+    let c-start = c .before .before in
+    first-inside (length (now (c-start .args .words))) (c-start .pre)
 
 returns : tie.Need-returns
 returns c =

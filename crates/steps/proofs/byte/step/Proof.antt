@@ -1,18 +1,35 @@
 -- `steps::byte::step` meets its contract: the first positions, joined with what follows each live one, are met with the byte's row and kept below the count.
-use mathlib.Core.Path.{ap, ap₂, _∙_}
+use mathlib.Core.Path.{sym, ap, ap₂, _∙_}
 use mathlib.Core.List.{List}
 use Prim.Native.Nat.{ℕ}
 use denote.Ref.{now}
-use Rattle.sets.specs.Set.{intersectionOf, keptBelow}
+use Rattle.sets.specs.Set.{setOf, intersectionOf, keptBelow}
+use Rattle.table.specs.Automaton.{automaton}
+use Rattle.steps.specs.Step.{stepped}
 use Rattle.steps.proofs.Steps.{reached-starts, next-words}
+use Rattle.steps.proofs.TableSets.{set-on, set-off}
 use Rattle.steps.proofs.byte.step.Statement.{statement}
 use Rattle.steps.proofs.byte.step.Tie as tie
 
+empty-requires : tie.Need-empty-requires
+empty-requires c κs = tt
+
+returns : tie.Need-returns
+returns c =
+    let c-empty = c .empty in
+    let c-start = c .before .before .before in
+    let c-if1 = c .before .if1 in
+    c-empty .ensures ∙ sym (set-off (now (c-start .args .words)) (stepped (automaton (now (c-start .args .words))) (c-start .args .positions) (c-start .args .live) (c-start .args .taken) (c-start .args .byte)) (c-if1 .taken))
+
 firsts-requires : tie.Need-firsts-requires
-firsts-requires c κs = tt
+firsts-requires c κs =
+    let c-if1 = c .if1 in
+    c-if1 .left
 
 walk-requires : tie.Need-walk-requires
-walk-requires c κs = tt
+walk-requires c κs =
+    let c-if1 = c .before .if1 in
+    c-if1 .left
 
 takers-requires : tie.Need-takers-requires
 takers-requires c κs = tt
@@ -23,19 +40,20 @@ intersection-requires c κs = tt
 below-requires : tie.Need-below-requires
 below-requires c κs = tt
 
-returns : tie.Need-returns
-returns c =
-    let c-start = c .before .before .before .before .before .before .before in
-    let c-firsts = c .before .before .before .before .before .firsts in
-    let c-walk = c .before .before .before .before .walk in
-    let c-takers = c .before .before .takers in
+returns-2 : tie.Need-returns-2
+returns-2 c =
+    let c-start = c .before .before .before .before .before .before .before .before in
     let c-intersection = c .before .intersection in
-    let t = now (c-start .args .words) in
-    let live = c-start .args .live in
-    let taken = c-start .args .taken in
-    c .below .ensures
-    ∙ ap (λ (s : List ℕ). keptBelow s (c-start .args .positions)) (c-intersection .ensures ∙ ap₂ intersectionOf (c-walk .ensures .1 ∙ reached-starts t live taken _ (c-firsts .ensures)) (c-takers .ensures))
-    ∙ next-words t live taken (c-start .args .positions) (c-start .args .byte)
+    let c-walk = c .before .before .before .before .walk in
+    let c-firsts = c .before .before .before .before .before .firsts in
+    let c-takers = c .before .before .takers in
+    let c-if1 = c .before .before .before .before .before .before .if1 in
+    let c-below = c .below in
+    let a = c-start .args in
+    let t = now (a .words) in
+    let met = c-intersection .ensures ∙ ap₂ intersectionOf (c-walk .ensures .1 ∙ reached-starts t (a .live) (a .taken) _ (c-firsts .ensures)) (c-takers .ensures ∙ set-on t (setOf (automaton t .takes (a .byte))) (c-if1 .left)) in
+    c-below .ensures ∙ ap (λ (s : List ℕ). keptBelow s (a .positions)) met ∙ next-words t (a .live) (a .taken) (a .positions) (a .byte)
+    ∙ sym (set-on t (stepped (automaton t) (a .positions) (a .live) (a .taken) (a .byte)) (c-if1 .left))
 
 pub step-spec : {M : Type 1} → statement M
-step-spec = tie.close (tie.spec firsts-requires walk-requires takers-requires intersection-requires below-requires returns)
+step-spec = tie.close (tie.spec empty-requires returns firsts-requires walk-requires takers-requires intersection-requires below-requires returns-2)

@@ -1,22 +1,41 @@
 -- `steps::rows::closing` meets its contract: the digits of the rules that end at the stream's end, without those of the rules that end plainly.
+use mathlib.Core.Path.{sym, _∙_}
+use mathlib.Core.Bool.{not, _&&_}
 use denote.Ref.{now}
 use lib.Dec.{lit≤}
-use Rattle.steps.proofs.TableSets.{closing-word}
+use Rattle.table.specs.Automaton.{automaton}
+use Rattle.steps.specs.Step.{ends, endsAtEnd, rulesWhere}
+use Rattle.steps.proofs.TableSets.{number-on, number-off, closing-word}
 use Rattle.steps.proofs.rows.closing.Statement.{statement}
 use Rattle.steps.proofs.rows.closing.Tie as tie
 
+returns : tie.Need-returns
+returns c =
+    let c-start = c .before .before in
+    let c-if1 = c .if1 in
+    let w = automaton (now (c-start .args .words)) in
+    let live = c-start .args .live in
+    sym (number-off (now (c-start .args .words)) (rulesWhere w (λ a. endsAtEnd w live a && not (ends w live a))) (c-if1 .taken))
+
 meeting-requires : tie.Need-meeting-requires
-meeting-requires c κs = lit≤ tt
+meeting-requires c κs =
+    let c-if1 = c .if1 in
+    (c-if1 .left, lit≤ tt)
 
 ending-requires : tie.Need-ending-requires
 ending-requires c κs = tt
 
-returns : tie.Need-returns
-returns c =
-    let c-start = c .before .before .before in
+returns-2 : tie.Need-returns-2
+returns-2 c =
+    let c-start = c .before .before .before .before in
     let c-meeting = c .before .meeting in
     let c-ending = c .ending in
-    closing-word (now (c-start .args .words)) (c-start .args .live) (c-meeting .result) (c-ending .result) (c-meeting .ensures) (c-ending .ensures)
+    let c-if1 = c .before .before .if1 in
+    let t = now (c-start .args .words) in
+    let w = automaton t in
+    let live = c-start .args .live in
+    closing-word t live (c-meeting .result) (c-ending .result) (c-meeting .ensures) (c-ending .ensures ∙ number-on t (rulesWhere w (ends w live)) (c-if1 .left))
+    ∙ sym (number-on t (rulesWhere w (λ a. endsAtEnd w live a && not (ends w live a))) (c-if1 .left))
 
 pub closing-spec : {M : Type 1} → statement M
-closing-spec = tie.close (tie.spec meeting-requires ending-requires returns)
+closing-spec = tie.close (tie.spec returns meeting-requires ending-requires returns-2)

@@ -7,10 +7,11 @@ use Prim.Native.Nat.{ℕ, _+_, _-_, _≤_, zero-le}
 use native.Mathlib.Nat.{le-refl, lt-of-lt-of-le}
 use denote.Ref.{now}
 use lib.Bits.{bitOr}
+use lib.ListN.{length}
 use Rattle.sets.specs.Set.{has, any}
 use Rattle.sets.proofs.Digits.{shl-one}
 use Rattle.table.specs.Layout.{maxRules, maxPositions, rulesOf, recordAt}
-use Rattle.steps.proofs.Bounds.{up, reached, less-left, few-rules, place-digit, place-fits, record-fits, field-fits, next-place-fits}
+use Rattle.steps.proofs.Bounds.{up, reached, less-left, few-rules, place-digit, place-fits, record-fits, field-fits, set-inside, next-place-fits}
 use Rattle.steps.proofs.Members.{placesBelow, places-none, places-hit, places-miss}
 use Rattle.steps.proofs.TableSets.{meeting, meets-row}
 use Rattle.steps.proofs.rows.meeting.Statement.{statement}
@@ -23,7 +24,9 @@ abbrev μ-loop : tie.MeasureT-loop
 μ-loop live words field rules found₀ a₀ found a = rules - a
 
 rule-count-requires : tie.Need-rule-count-requires Inv-loop μ-loop
-rule-count-requires c κs = tt
+rule-count-requires c κs =
+    let c-start = c .before in
+    c-start .pre .0
 
 loop-holds : tie.Need-loop-holds Inv-loop μ-loop
 loop-holds c =
@@ -48,10 +51,14 @@ add-row-2 c =
     let c-loop = c .before .loop in
     let c-loop-test = c .loop-test in
     let c-start = c .before .before .before .before in
-    field-fits (c-loop .a) (lt-of-lt-of-le (c-loop-test .taken) (c-loop .inv .0)) (c-start .args .field) (c-start .pre)
+    field-fits (c-loop .a) (lt-of-lt-of-le (c-loop-test .taken) (c-loop .inv .0)) (c-start .args .field) (c-start .pre .1)
 
 row-requires : tie.Need-row-requires Inv-loop μ-loop
-row-requires c κs = tt
+row-requires c κs =
+    let c-loop = c .before .loop in
+    let c-loop-test = c .loop-test in
+    let c-start = c .before .before .before .before in
+    set-inside (c-loop .a) (lt-of-lt-of-le (c-loop-test .taken) (c-loop .inv .0)) (c-start .args .field) (length (now (c-start .args .words))) (c-start .pre .1) (c-start .pre .0)
 
 meets-requires : tie.Need-meets-requires Inv-loop μ-loop
 meets-requires c κs = tt

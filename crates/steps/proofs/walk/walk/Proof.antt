@@ -20,25 +20,33 @@ array-read-walk-word : tie.Need-array-read-walk-word
 array-read-walk-word c = lit< tt
 
 walk-word-requires : tie.Need-walk-word-requires
-walk-word-requires c κs = lit≤ tt
+walk-word-requires c κs =
+    let c-start = c .before in
+    (c-start .pre, lit≤ tt)
 
 array-read-walk-word-2 : tie.Need-array-read-walk-word-2
 array-read-walk-word-2 c = lit< tt
 
 walk-word-requires-2 : tie.Need-walk-word-requires-2
-walk-word-requires-2 c κs = lit≤ tt
+walk-word-requires-2 c κs =
+    let c-start = c .before .before .before in
+    (c-start .pre, lit≤ tt)
 
 array-read-walk-word-3 : tie.Need-array-read-walk-word-3
 array-read-walk-word-3 c = lit< tt
 
 walk-word-requires-3 : tie.Need-walk-word-requires-3
-walk-word-requires-3 c κs = lit≤ tt
+walk-word-requires-3 c κs =
+    let c-start = c .before .before .before .before .before in
+    (c-start .pre, lit≤ tt)
 
 array-read-walk-word-4 : tie.Need-array-read-walk-word-4
 array-read-walk-word-4 c = lit< tt
 
 walk-word-requires-4 : tie.Need-walk-word-requires-4
-walk-word-requires-4 c κs = lit≤ tt
+walk-word-requires-4 c κs =
+    let c-start = c .before .before .before .before .before .before .before in
+    (c-start .pre, lit≤ tt)
 
 add-t22 : tie.Need-add-t22
 add-t22 c =

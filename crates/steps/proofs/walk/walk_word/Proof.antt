@@ -9,10 +9,11 @@ use native.Mathlib.Omega.{arith}
 use denote.Ref.{now}
 use lib.Bits.{bitAnd}
 use lib.Count.{ones, trailingZeros}
+use lib.ListN.{length}
 use mir.Syntax.{w32, w64}
 use mir.Val.{Fits}
 use Rattle.sets.specs.Set.{setOf, unionOf}
-use Rattle.table.specs.Layout.{followAt, rowHas}
+use Rattle.table.specs.Layout.{tableWords, followAt, rowHas}
 use Rattle.steps.specs.Walk.{left}
 use Rattle.steps.specs.Invariants.{joined}
 use Rattle.steps.proofs.Asked.{goes-on, ends-with, few}
@@ -58,6 +59,9 @@ module _ (base z : ℕ) (h : base ≤ 192) (l : z < 64) where
   row-fits : Fits w64 (followAt (base + z))
   row-fits = record { fits = omega arith }
 
+  row-inside : (n : ℕ) → tableWords ≤ n → followAt (base + z) + 4 ≤ n
+  row-inside n m = omega arith
+
 digit-fits : (z : ℕ) → z < 64 → Fits w64 z
 digit-fits z h = record { fits = omega arith }
 
@@ -96,24 +100,28 @@ add-p c =
     let c-start = c .before .before .before in
     let c-loop = c .before .loop in
     let c-loop-test = c .loop-test in
-    position-fits (c-start .args .base) (trailingZeros 64 (c-loop .word)) (c-start .pre) (turn (c-start .args .word) (c-loop .turns) (c-loop .word) (c-start .fits .word .fits) (c-loop .inv .0) (c-loop .inv .1) (c-loop-test .taken) .1)
+    position-fits (c-start .args .base) (trailingZeros 64 (c-loop .word)) (c-start .pre .1) (turn (c-start .args .word) (c-loop .turns) (c-loop .word) (c-start .fits .word .fits) (c-loop .inv .0) (c-loop .inv .1) (c-loop-test .taken) .1)
 
 mul-row : tie.Need-mul-row Inv-loop μ-loop
 mul-row c =
     let c-start = c .before .before .before in
     let c-loop = c .before .loop in
     let c-loop-test = c .loop-test in
-    row-words-fit (c-start .args .base) (trailingZeros 64 (c-loop .word)) (c-start .pre) (turn (c-start .args .word) (c-loop .turns) (c-loop .word) (c-start .fits .word .fits) (c-loop .inv .0) (c-loop .inv .1) (c-loop-test .taken) .1)
+    row-words-fit (c-start .args .base) (trailingZeros 64 (c-loop .word)) (c-start .pre .1) (turn (c-start .args .word) (c-loop .turns) (c-loop .word) (c-start .fits .word .fits) (c-loop .inv .0) (c-loop .inv .1) (c-loop-test .taken) .1)
 
 add-row : tie.Need-add-row Inv-loop μ-loop
 add-row c =
     let c-start = c .before .before .before in
     let c-loop = c .before .loop in
     let c-loop-test = c .loop-test in
-    row-fits (c-start .args .base) (trailingZeros 64 (c-loop .word)) (c-start .pre) (turn (c-start .args .word) (c-loop .turns) (c-loop .word) (c-start .fits .word .fits) (c-loop .inv .0) (c-loop .inv .1) (c-loop-test .taken) .1)
+    row-fits (c-start .args .base) (trailingZeros 64 (c-loop .word)) (c-start .pre .1) (turn (c-start .args .word) (c-loop .turns) (c-loop .word) (c-start .fits .word .fits) (c-loop .inv .0) (c-loop .inv .1) (c-loop-test .taken) .1)
 
 row-requires : tie.Need-row-requires Inv-loop μ-loop
-row-requires c κs = tt
+row-requires c κs =
+    let c-start = c .before .before .before in
+    let c-loop = c .before .loop in
+    let c-loop-test = c .loop-test in
+    row-inside (c-start .args .base) (trailingZeros 64 (c-loop .word)) (c-start .pre .1) (turn (c-start .args .word) (c-loop .turns) (c-loop .word) (c-start .fits .word .fits) (c-loop .inv .0) (c-loop .inv .1) (c-loop-test .taken) .1) (length (now (c-start .args .words))) (c-start .pre .0)
 
 union-requires : tie.Need-union-requires Inv-loop μ-loop
 union-requires c κs = tt

@@ -1,10 +1,14 @@
 -- `stream::Stream::close` meets its contract: the number settles which way it goes, and the rules that need the end are written as one run.
+use mathlib.Core.Path.{_∙_}
+use mathlib.Core.Bool.{not, _&&_}
 use denote.Ref.{now}
 use lib.ListN.{length}
 use Rattle.sets.specs.Set.{on}
 use Rattle.table.specs.Layout.{rulesOf}
-use Rattle.table.specs.Automaton.{automaton}
+use Rattle.table.specs.Automaton.{automaton, single}
 use Rattle.table.proofs.Test.{passes}
+use Rattle.steps.specs.Step.{ends, endsAtEnd, rulesWhere}
+use Rattle.steps.proofs.TableSets.{number-on}
 use Rattle.stream.specs.Byte.{runIds}
 use Rattle.stream.specs.Calls.{space}
 use Rattle.stream.proofs.Bounds.{enough-left, enough-right}
@@ -56,7 +60,7 @@ write-run-requires c κs =
     let ok = taken-up t (a .self) 0 (c-least .result) (c-refusal .result) (c-refusal .ensures) (c-if1 .left) in
     let n = length (runIds (automaton t) (on (c-closing .result)) (a .self .reported) (rulesOf t)) in
     let few = run-few (automaton t) (on (c-closing .result)) (a .self .reported) (rulesOf t) in
-    (ok .table, c-singles .ensures, enough-left n (rulesOf t) (c-least .result) (length (now (a .ids))) (length (now (a .offsets))) few (ok .space) (c-least .ensures), enough-right n (rulesOf t) (c-least .result) (length (now (a .ids))) (length (now (a .offsets))) few (ok .space) (c-least .ensures))
+    (ok .table, c-singles .ensures ∙ number-on t (rulesWhere (automaton t) (single (automaton t))) (passes t (ok .table) .long), enough-left n (rulesOf t) (c-least .result) (length (now (a .ids))) (length (now (a .offsets))) few (ok .space) (c-least .ensures), enough-right n (rulesOf t) (c-least .result) (length (now (a .ids))) (length (now (a .offsets))) few (ok .space) (c-least .ensures))
 
 same-length : tie.Need-same-length
 same-length c =
@@ -74,20 +78,22 @@ returns-2 c =
     let c-least = c .before .before .before .before .before .before .before .before .before .before .before .before .least in
     let c-refusal = c .before .before .before .before .before .before .before .before .before .before .before .refusal in
     let c-if1 = c .before .before .before .before .before .before .before .before .before .before .if1 in
-    let c-write-run = c .before .before .before .before .write-run in
     let c-closing = c .before .before .before .before .before .before .before .before .closing in
+    let c-write-run = c .before .before .before .before .write-run in
     let a = c-start .args in
     let t = now (a .words) in
     let number = close-numbered t (a .self) (c-least .result) (space (now (a .ids)) (now (a .offsets))) (c-refusal .result) (c-refusal .ensures) (c-least .ensures) in
     let ok = taken-up t (a .self) 0 (c-least .result) (c-refusal .result) (c-refusal .ensures) (c-if1 .left) in
-    let few = passes t (ok .table) .rules in
+    let p = passes t (ok .table) in
+    let w = automaton t in
+    let found = c-closing .ensures ∙ number-on t (rulesWhere w (λ k. endsAtEnd w (a .self .live) k && not (ends w (a .self .live) k))) (p .long) in
     let r = c-write-run .result in
     let ilast = c-write-run .last .1 .1 .1 .1 .1 .0 in
     let olast = c-write-run .last .1 .1 .1 .1 .1 .1 .0 in (
-      close-accepted t (a .self) (now (a .ids)) (now (a .offsets)) (c-refusal .result) number (c-if1 .left) few (c-closing .result) (c-closing .ensures) (r .reports) (r .reported) ilast olast (c-write-run .ensures),
+      close-accepted t (a .self) (now (a .ids)) (now (a .offsets)) (c-refusal .result) number (c-if1 .left) (p .rules) (c-closing .result) found (r .reports) (r .reported) ilast olast (c-write-run .ensures),
       (
-        close-accepted-ids t (a .self) (now (a .ids)) (now (a .offsets)) (c-refusal .result) number (c-if1 .left) few (c-closing .result) (c-closing .ensures) (r .reports) (r .reported) ilast olast (c-write-run .ensures),
-        close-accepted-offsets t (a .self) (now (a .ids)) (now (a .offsets)) (c-refusal .result) number (c-if1 .left) few (c-closing .result) (c-closing .ensures) (r .reports) (r .reported) ilast olast (c-write-run .ensures),
+        close-accepted-ids t (a .self) (now (a .ids)) (now (a .offsets)) (c-refusal .result) number (c-if1 .left) (p .rules) (c-closing .result) found (r .reports) (r .reported) ilast olast (c-write-run .ensures),
+        close-accepted-offsets t (a .self) (now (a .ids)) (now (a .offsets)) (c-refusal .result) number (c-if1 .left) (p .rules) (c-closing .result) found (r .reports) (r .reported) ilast olast (c-write-run .ensures),
       ),
     )
 

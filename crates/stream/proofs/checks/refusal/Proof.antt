@@ -22,7 +22,11 @@ returns c =
     refused-table (now (a .words)) (a .s) (a .len) (a .space) (sym (c-is-table .ensures) ∙ not-true (c-is-table .result) (c-if1 .taken))
 
 is-valid-requires : tie.Need-is-valid-requires
-is-valid-requires c κs = tt
+is-valid-requires c κs =
+    let c-start = c .before .before .before in
+    let c-is-table = c .before .is-table in
+    let c-if1 = c .if1 in
+    passes (now (c-start .args .words)) (sym (c-is-table .ensures) ∙ not-false (c-is-table .result) (c-if1 .left)) .long
 
 returns-2 : tie.Need-returns-2
 returns-2 c =

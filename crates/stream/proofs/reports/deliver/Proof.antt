@@ -7,6 +7,8 @@ use borrow.Author.Tests.{not-true}
 use Rattle.sets.specs.Set.{on}
 use Rattle.table.specs.Automaton.{automaton}
 use Rattle.table.proofs.Test.{passes}
+use Rattle.steps.specs.Step.{ends, rulesWhere}
+use Rattle.steps.proofs.TableSets.{number-on}
 use Rattle.stream.specs.Byte.{runIds}
 use Rattle.stream.proofs.Bounds.{rules-few, enough-left, enough-right}
 use Rattle.stream.proofs.Turns.{delivered-none, found-due, delivered-full, delivered-run}
@@ -45,7 +47,7 @@ returns-2 c =
     let a = c-start .args in
     let t = now (a .words) in
     delivered-full (automaton t) (a .live) (a .reported) (a .end) (now (a .ids)) (now (a .offsets)) (rules-few t (passes t (c-start .pre .0) .rules)) (c-start .fits .reported .fits)
-    (c-ending .result) (c-due .result) (c-least .result) (c-ending .ensures) (c-due .ensures) (c-least .ensures) (c-if2 .taken)
+    (c-ending .result) (c-due .result) (c-least .result) (c-ending .ensures ∙ number-on t (rulesWhere (automaton t) (ends (automaton t) (a .live))) (passes t (c-start .pre .0) .long)) (c-due .ensures) (c-least .ensures) (c-if2 .taken)
 
 write-run-requires : tie.Need-write-run-requires
 write-run-requires c κs =
@@ -57,7 +59,7 @@ write-run-requires c κs =
     let a = c-start .args in
     let t = now (a .words) in
     let n = found-due (automaton t) (a .live) (a .reported) (a .end) (now (a .ids)) (now (a .offsets)) (rules-few t (passes t (c-start .pre .0) .rules)) (c-start .fits .reported .fits)
-    (c-ending .result) (c-due .result) (c-least .result) (c-ending .ensures) (c-due .ensures) (c-least .ensures) in
+    (c-ending .result) (c-due .result) (c-least .result) (c-ending .ensures ∙ number-on t (rulesWhere (automaton t) (ends (automaton t) (a .live))) (passes t (c-start .pre .0) .long)) (c-due .ensures) (c-least .ensures) in
     let run = length (runIds (automaton t) (on (c-ending .result)) (a .reported) (automaton t .rules)) in (
       c-start .pre .0,
       c-start .pre .2,
@@ -87,7 +89,7 @@ returns-3 c =
     let t = now (a .words) in
     let r = c-write-run .result in
     delivered-run (automaton t) (a .live) (a .reported) (a .end) (now (a .ids)) (now (a .offsets)) (rules-few t (passes t (c-start .pre .0) .rules)) (c-start .fits .reported .fits)
-    (c-ending .result) (c-due .result) (c-least .result) (c-ending .ensures) (c-due .ensures) (c-least .ensures) (c-if2 .left)
+    (c-ending .result) (c-due .result) (c-least .result) (c-ending .ensures ∙ number-on t (rulesWhere (automaton t) (ends (automaton t) (a .live))) (passes t (c-start .pre .0) .long)) (c-due .ensures) (c-least .ensures) (c-if2 .left)
     (r .reports) (r .reported) (c-write-run .last .1 .1 .1 .1 .1 .0) (c-write-run .last .1 .1 .1 .1 .1 .1 .0) (c-write-run .ensures)
 
 pub deliver-spec : {M : Type 1} → statement M

@@ -9,13 +9,14 @@ use native.Mathlib.Omega.{arith}
 use denote.Ref.{now}
 use lib.Dec.{eqb}
 use lib.ListN.{length, getD}
-use borrow.Author.Tests.{not-false, eqb-false}
+use borrow.Author.Tests.{not-false, eqb-false, ltb-false}
 use Rattle.sets.specs.Set.{has, any, setOf, keptBelow, emptySet}
 use Rattle.sets.proofs.Laws.{empty-is}
-use Rattle.table.specs.Layout.{maxPositions}
+use Rattle.table.specs.Layout.{tableWords, maxPositions}
 use Rattle.table.specs.Automaton.{automaton}
 use Rattle.steps.proofs.Bounds.{words-good, less-left}
 use Rattle.steps.proofs.Steps.{first-row, next-quiet}
+use Rattle.steps.proofs.TableSets.{set-on}
 use Rattle.stream.specs.Invariants.{Skipped}
 use Rattle.stream.proofs.Bounds.{sum-fits, after-fits}
 use Rattle.stream.proofs.Turns.{skipped-none, skipped-more, skipped-live}
@@ -28,9 +29,10 @@ Inv-loop taken words positions block from first at₀ at = (0 < taken + from) ×
 abbrev μ-loop : tie.MeasureT-loop
 μ-loop taken words positions block from first at₀ at = length block - at
 
-either : (x y : Bool) → (x || y) ≡ false → (x ≡ false) × (y ≡ false)
-either true y e = absurd (true≢false e)
-either false y e = (refl, e)
+neither : (x y z : Bool) → ((x || y) || z) ≡ false → (x ≡ false) × (y ≡ false) × (z ≡ false)
+neither true y z e = absurd (true≢false e)
+neither false true z e = absurd (true≢false e)
+neither false false z e = (refl, refl, e)
 
 positive : (n : ℕ) → eqb n 0 ≡ false → 0 < n
 positive n e = omega (arith, eqb-false n 0 e)
@@ -66,7 +68,7 @@ loop-holds c =
     let c-below = c .below in
     let c-row = c .before .row in
     let a = c-start .args in (
-      positive (a .taken + a .from) (either (not (c-is-empty .result)) (eqb (a .taken + a .from) 0) (c-if1 .left) .1),
+      positive (a .taken + a .from) (neither (not (c-is-empty .result)) (eqb (a .taken + a .from) 0) _ (c-if1 .left) .1),
       c-below .ensures ∙ ap₂ keptBelow (c-row .ensures ∙ first-row (now (a .words))) (c-start .pre .0),
       skipped-none (automaton (now (a .words))) (now (a .block)) (a .taken) (a .from) emptySet (c-start .pre .1),
     )
@@ -89,7 +91,7 @@ returns-2 c =
     let c-if1 = c .before .before .before .before .before .before .before .before .if1 in
     let c-loop = c .before .before .before .before .before .loop in
     let a = c-start .args in
-    let none = not-false (c-is-empty .result) (either (not (c-is-empty .result)) (eqb (a .taken + a .from) 0) (c-if1 .left) .0) in
+    let none = not-false (c-is-empty .result) (neither (not (c-is-empty .result)) (eqb (a .taken + a .from) 0) _ (c-if1 .left) .0) in
     skipped-live (automaton (now (a .words))) (now (a .block)) (a .taken) (a .from) (c-loop .at) (a .live) (empty-is (a .live) (words-good (a .live) _ (c-start .good .0)) (sym (c-is-empty .ensures) ∙ none)) (c-loop .inv .2)
 
 add-at : tie.Need-add-at Inv-loop μ-loop
@@ -110,15 +112,19 @@ loop-again : tie.Need-loop-again Inv-loop μ-loop
 loop-again c =
     let c-start = c .before .before .before .before .before .before .before .before .before .before .before .before in
     let c-loop = c .before .before .before .before .before .loop in
-    let c-meets = c .before .meets in
+    let c-is-empty = c .before .before .before .before .before .before .before .before .before .is-empty in
+    let c-if1 = c .before .before .before .before .before .before .before .before .if1 in
     let c-takers = c .before .before .takers in
+    let c-meets = c .before .meets in
     let c-if2 = c .if2 in
     let c-loop-test = c .before .before .before .before .loop-test in
     let a = c-start .args in
     let l = c-loop in
     let t = now (a .words) in
     let byte = getD (now (a .block)) (l .at) 0 in
-    let apart = sym (c-meets .ensures ∙ ap₂ (λ (x y : List ℕ). any maxPositions (λ q. has x q && has y q)) (l .inv .1) (c-takers .ensures)) ∙ c-if2 .left in (
+    let long = ltb-false (length t) tableWords (neither (not (c-is-empty .result)) (eqb (a .taken + a .from) 0) _ (c-if1 .left) .2) in
+    let row = c-takers .ensures ∙ set-on t (setOf (automaton t .takes byte)) long in
+    let apart = sym (c-meets .ensures ∙ ap₂ (λ (x y : List ℕ). any maxPositions (λ q. has x q && has y q)) (l .inv .1) row) ∙ c-if2 .left in (
       l .inv .0,
       l .inv .1,
       skipped-more (automaton t) (now (a .block)) (a .taken) (a .from) (l .at) (l .inv .2) (c-loop-test .taken)
@@ -132,7 +138,7 @@ returns-3 c =
     let c-if1 = c .before .before .before .before .if1 in
     let c-loop = c .before .loop in
     let a = c-start .args in
-    let none = not-false (c-is-empty .result) (either (not (c-is-empty .result)) (eqb (a .taken + a .from) 0) (c-if1 .left) .0) in
+    let none = not-false (c-is-empty .result) (neither (not (c-is-empty .result)) (eqb (a .taken + a .from) 0) _ (c-if1 .left) .0) in
     skipped-live (automaton (now (a .words))) (now (a .block)) (a .taken) (a .from) (c-loop .at) (a .live) (empty-is (a .live) (words-good (a .live) _ (c-start .good .0)) (sym (c-is-empty .ensures) ∙ none)) (c-loop .inv .2)
 
 pub ahead-spec : {M : Type 1} → statement M

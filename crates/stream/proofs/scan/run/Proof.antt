@@ -2,25 +2,27 @@
 -- reports do not fit.
 use mathlib.Core.Path.{_≡_, refl, sym, _∙_}
 use mathlib.Core.List.{List}
-use Prim.Native.Nat.{ℕ, _+_, _-_}
+use Prim.Native.Nat.{ℕ, _+_, _-_, _≤_}
 use native.Mathlib.Nat.{add-assoc, le-refl, le-of-eq}
 use denote.Ref.{now}
 use lib.ListN.{length, getD}
-use Rattle.table.specs.Layout.{positionsOf}
-use Rattle.table.specs.Automaton.{automaton}
+use Rattle.table.specs.Layout.{tableWords, positionsOf}
+use Rattle.table.specs.Automaton.{automaton, single}
 use Rattle.table.proofs.Test.{passes}
-use Rattle.steps.specs.Step.{stepped}
+use Rattle.steps.specs.Step.{setOn, stepped, lastsOf, rulesWhere}
 use Rattle.steps.proofs.Bounds.{less-left}
+use Rattle.steps.proofs.TableSets.{set-on, number-on}
 use Rattle.stream.specs.Invariants.{stateOf}
 use Rattle.stream.proofs.Bounds.{positions-word, inside, not-both, sum-fits, next-fits, after-fits, count-fits, ids-fit, offsets-fit}
 use Rattle.stream.proofs.Turns.{Running, running-start, ids-hold, offsets-hold, running-skip, running-room, running-run, running-stop, running-done}
 use Rattle.stream.proofs.scan.run.Statement.{statement}
 use Rattle.stream.proofs.scan.run.Tie as tie
 
--- the number of positions is the automaton's
-stepping : (t live next : List ℕ) (taken x : ℕ) → next ≡ stepped (automaton t) (positionsOf t) live taken x → next ≡ stepped (automaton t) (automaton t .positions) live taken x
+-- the words are enough, and the number of positions is the automaton's
+stepping : (t live next : List ℕ) (taken x : ℕ) → tableWords ≤ length t → next ≡ setOn t (stepped (automaton t) (positionsOf t) live taken x)
+    → next ≡ stepped (automaton t) (automaton t .positions) live taken x
 unfolding automaton
-stepping t live next taken x e = e
+stepping t live next taken x h e = e ∙ set-on t (stepped (automaton t) (positionsOf t) live taken x) h
 
 abbrev Inv-loop : tie.InvT-loop
 Inv-loop live₀ reported₀ taken words block ids₀ offsets₀ positions last single count₀ at₀ live reported ids offsets count at = Running (automaton words) (stateOf live₀ reported₀ taken) block ids₀ offsets₀ live reported ids offsets count at
@@ -156,7 +158,10 @@ deliver-requires c κs =
     let c-start = c .before .before .before .before .before .before .before .before .before .before .before .before .before .before in
     let c-lasts = c .before .before .before .before .before .before .before .before .lasts in
     let c-singles = c .before .before .before .before .before .before .before .singles in
-    (c-start .pre .0, c-lasts .ensures, c-singles .ensures)
+    let t = now (c-start .args .words) in
+    let w = automaton t in
+    let long = passes t (c-start .pre .0) .long in
+    (c-start .pre .0, c-lasts .ensures ∙ set-on t (lastsOf w) long, c-singles .ensures ∙ number-on t (rulesWhere w (single w)) long)
 
 add-count : tie.Need-add-count Inv-loop μ-loop
 add-count c =
@@ -175,7 +180,7 @@ add-count c =
     let ilast = c-deliver .last .1 .1 .1 .1 .1 .1 .0 in
     let olast = c-deliver .last .1 .1 .1 .1 .1 .1 .1 .0 in
     let moved = running-skip (automaton t) s (now (a .block)) (now (a .ids)) (now (a .offsets)) (l .live) (l .reported) (l .ids) (l .offsets) (l .count) (l .at) (c-ahead .result) (l .inv) (c-ahead .ensures) in
-    count-fits (l .count + r .reports) (length (now (a .ids))) (length (now (a .offsets))) (running-room (automaton t) s (now (a .block)) (now (a .ids)) (now (a .offsets)) (l .live) (l .reported) (l .ids) (l .offsets) (l .count) at moved (c-step .result) (stepping t (l .live) (c-step .result) (a .taken + at) (getD (now (a .block)) at 0) (c-step .ensures)) (r .full) (r .reports) (r .reported) (a .taken + at + 1) ilast olast (c-deliver .ensures) (c-if2 .left)) (c-start .good .1 .1 .1 .1 .1 .0 .1)
+    count-fits (l .count + r .reports) (length (now (a .ids))) (length (now (a .offsets))) (running-room (automaton t) s (now (a .block)) (now (a .ids)) (now (a .offsets)) (l .live) (l .reported) (l .ids) (l .offsets) (l .count) at moved (c-step .result) (stepping t (l .live) (c-step .result) (a .taken + at) (getD (now (a .block)) at 0) (passes t (c-start .pre .0) .long) (c-step .ensures)) (r .full) (r .reports) (r .reported) (a .taken + at + 1) ilast olast (c-deliver .ensures) (c-if2 .left)) (c-start .good .1 .1 .1 .1 .1 .0 .1)
 
 add-at : tie.Need-add-at Inv-loop μ-loop
 add-at c =
@@ -214,7 +219,7 @@ loop-again c =
     let ilast = c-deliver .last .1 .1 .1 .1 .1 .1 .0 in
     let olast = c-deliver .last .1 .1 .1 .1 .1 .1 .1 .0 in
     let moved = running-skip (automaton t) s (now (a .block)) (now (a .ids)) (now (a .offsets)) (l .live) (l .reported) (l .ids) (l .offsets) (l .count) (l .at) (c-ahead .result) (l .inv) (c-ahead .ensures) in
-    running-run (automaton t) s (now (a .block)) (now (a .ids)) (now (a .offsets)) (l .live) (l .reported) (l .ids) (l .offsets) (l .count) at moved (c-step .result) (stepping t (l .live) (c-step .result) (a .taken + at) (getD (now (a .block)) at 0) (c-step .ensures)) (r .full) (r .reports) (r .reported) (a .taken + at + 1) ilast olast (c-deliver .ensures) (c-if2 .left) (inside at (length (now (a .block))) (moved .inside) (c-if1 .left)) (add-assoc (a .taken) at 1) (c-ids .given .1) (c-offsets .given .1)
+    running-run (automaton t) s (now (a .block)) (now (a .ids)) (now (a .offsets)) (l .live) (l .reported) (l .ids) (l .offsets) (l .count) at moved (c-step .result) (stepping t (l .live) (c-step .result) (a .taken + at) (getD (now (a .block)) at 0) (passes t (c-start .pre .0) .long) (c-step .ensures)) (r .full) (r .reports) (r .reported) (a .taken + at + 1) ilast olast (c-deliver .ensures) (c-if2 .left) (inside at (length (now (a .block))) (moved .inside) (c-if1 .left)) (add-assoc (a .taken) at 1) (c-ids .given .1) (c-offsets .given .1)
 
 same-length : tie.Need-same-length Inv-loop μ-loop
 same-length c =
@@ -257,7 +262,7 @@ returns-2 c =
     let ilast = c-deliver .last .1 .1 .1 .1 .1 .1 .0 in
     let olast = c-deliver .last .1 .1 .1 .1 .1 .1 .1 .0 in
     let moved = running-skip (automaton t) s (now (a .block)) (now (a .ids)) (now (a .offsets)) (l .live) (l .reported) (l .ids) (l .offsets) (l .count) (l .at) (c-ahead .result) (l .inv) (c-ahead .ensures) in
-    running-stop (automaton t) s (now (a .block)) (now (a .ids)) (now (a .offsets)) (l .live) (l .reported) (l .ids) (l .offsets) (l .count) at moved (c-step .result) (stepping t (l .live) (c-step .result) (a .taken + at) (getD (now (a .block)) at 0) (c-step .ensures)) (r .full) (r .reports) (r .reported) (a .taken + at + 1) ilast olast (c-deliver .ensures) (c-if2 .taken) (c-ids .given .1) (c-offsets .given .1)
+    running-stop (automaton t) s (now (a .block)) (now (a .ids)) (now (a .offsets)) (l .live) (l .reported) (l .ids) (l .offsets) (l .count) at moved (c-step .result) (stepping t (l .live) (c-step .result) (a .taken + at) (getD (now (a .block)) at 0) (passes t (c-start .pre .0) .long) (c-step .ensures)) (r .full) (r .reports) (r .reported) (a .taken + at + 1) ilast olast (c-deliver .ensures) (c-if2 .taken) (c-ids .given .1) (c-offsets .given .1)
 
 pub run-spec : {M : Type 1} → statement M
 run-spec =
