@@ -66,7 +66,7 @@ typedef uint32_t watcher_error_t;
 #define WATCHER_BAD_RANGE 9u        /* a range that falls, or has a type such as \d at an end */
 #define WATCHER_BAD_QUANTIFIER 10u  /* a quantifier with nothing to repeat */
 #define WATCHER_BAD_COUNT 11u       /* a lower count above the upper, or a count over 65535 */
-#define WATCHER_BAD_GROUP 12u       /* a group that is not closed, or a ')' without one */
+#define WATCHER_BAD_GROUP 12u       /* a group or comment that is not closed, or a ')' without one */
 #define WATCHER_DEEP_GROUP 13u      /* a 17th group open at once */
 #define WATCHER_UNSUPPORTED 14u     /* a construct outside the subset */
 #define WATCHER_EMPTY_MATCH 15u     /* the rule could match no bytes */
@@ -143,9 +143,11 @@ watcher_error_t watcher_write_block(const uint64_t *table, size_t table_words,
 
 /*
  * Reads block `number` of a table into its words and leaves all others. Refuses
- * too few words, and with WATCHER_NO_BLOCK bytes that are not that block of any
- * table. Blocks may come in any order; once all are read, watcher_test tells
- * whether the words are a table.
+ * too few words, and with WATCHER_NO_BLOCK a block that is not of 512 bytes, a
+ * number past the last, and bytes with another number, used count, filler or
+ * CRC. The place is `number` if the number is WATCHER_NO_BLOCK, else 0. Blocks
+ * may come in any order; once all are read, watcher_test tells whether the
+ * words are a table.
  */
 watcher_error_t watcher_read_block(uint64_t *table, size_t table_words,
                                    uint64_t number, const uint8_t *block,

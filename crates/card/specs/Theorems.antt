@@ -68,7 +68,7 @@ WriteKept = (t : List ℕ) (i : ℕ) (b : List ℕ) → (writeAnswer t i b ≡ a
 abbrev pub ReadKept : Type 0
 ReadKept = (u : List ℕ) (i : ℕ) (b : List ℕ) → (readAnswer u i b ≡ answer 0 0 → ⊥) → readWords u i b ≡ u
 
--- "words beyond are never touched", and count for nothing
+-- "words beyond are never touched": what is written does not depend on them, and reading leaves them
 abbrev pub WriteLocal : Type 0
 WriteLocal = (t s : List ℕ) → take tableWords t ≡ take tableWords s → (i : ℕ) (b : List ℕ)
     → (writeAnswer t i b ≡ writeAnswer s i b) × (writtenBlock t i b ≡ writtenBlock s i b)

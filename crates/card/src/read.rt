@@ -37,7 +37,7 @@ fn zeros_at(bytes: &[u8], at: usize, n: usize) -> bool
     true
 }
 
-// Whether these bytes are block `number` of a table.
+// Whether these bytes are block `number` of some words: its size, number, used count, filler and CRC.
 pub(crate) fn is_block(number: u64, block: &[u8]) -> bool
     ensures { λ r. ⌜ r ≡ isBlock number (now (block .entry)) ⌝ }
 {

@@ -20,10 +20,12 @@ use Rattle.stream.specs.declared.Closed.{Closed}
 use Rattle.stream.specs.Byte.{stateAfter, idsOf, endsOf, closeIds}
 use Rattle.stream.specs.Calls.{space, scanNumber, closeNumber, takenBy, written, scanned, scannedIds, scannedOffsets, shut, closed, closedIds, closedOffsets}
 use Rattle.pattern.specs.Read.{readOf, optionsOf}
+use Rattle.card.specs.declared.Stored.{Stored}
+use Rattle.card.proofs.Theorems.{read-kept}
 use Rattle.rules.specs.Add.{addAnswer, withRule, addWords}
 use Rattle.rules.specs.Encoded.{addAll}
 use Rattle.regex.specs.Ordered.{Pair}
-use Rattle.demands.specs.Chain.{this, those, Other, emptying, adding, opening, scanning, closing, numberOf, tableAfter, Step, addition, another, tableOf, additionsOf, OthersRefusedBefore, Item, scan, close, other, reportsIn, bytesOf, reportsOf, OthersRefused, Closes, Bytes, Blocks}
+use Rattle.demands.specs.Chain.{this, those, Other, emptying, adding, opening, scanning, closing, writing-block, reading-block, numberOf, tableAfter, Step, addition, another, tableOf, additionsOf, OthersRefusedBefore, Item, scan, close, other, reportsIn, bytesOf, reportsOf, OthersRefused, Closes, Bytes, Blocks}
 use Rattle.stream.proofs.Blocks.{fits-le, ends-count, closed-after, two-parts}
 use Rattle.stream.proofs.Accepting.{accepted, close-number}
 use Rattle.stream.proofs.Results.{accepted-scan, refused-scan, close-number-is, accepted-close, refused-close}
@@ -44,6 +46,9 @@ kept t (adding (those u) id flags pattern) h = refl
 kept t (opening l) h = refl
 kept t (scanning l s block ids offsets) h = refl
 kept t (closing l s ids offsets) h = refl
+kept t (writing-block l i b) h = refl
+kept t (reading-block this i b) h = read-kept t i b (λ e. h (ap (λ (a : Stored). a .number) e))
+kept t (reading-block (those u) i b) h = refl
 
 -- before the opening: the table is the one of the additions alone
 pub additions-alone : (l : List Step) (t : List ℕ) → OthersRefusedBefore t l → tableOf t l ≡ addAll t (additionsOf l)

@@ -12,7 +12,7 @@ use Rattle.table.proofs.is_table.Met.{met as is_table-met}
 use Rattle.rules.proofs.Checks.{accepted-place}
 use Rattle.rules.proofs.add.Met.{met as add-met}
 use Rattle.card.specs.declared.Stored.{Stored}
-use Rattle.card.proofs.Theorems.{write-kept, read-kept}
+use Rattle.card.proofs.Theorems.{write-kept}
 use Rattle.card.proofs.write_block.Met.{met as card-write-met}
 use Rattle.card.proofs.read_block.Met.{met as card-read-met}
 use Rattle.stream.specs.declared.Stream.{Stream}
@@ -25,7 +25,7 @@ use Rattle.stream.proofs.Stream.«open».Met.{met as open-met}
 use Rattle.stream.proofs.Stream.scan.Met.{met as scan-met}
 use Rattle.stream.proofs.Stream.close.Met.{met as close-met}
 use Rattle.stream.proofs.Stream.busy.Met.{met as busy-met}
-use Rattle.demands.specs.Chain.{this, emptying, adding, numberOf, tableAfter}
+use Rattle.demands.specs.Chain.{this, emptying, adding, reading-block, numberOf, tableAfter}
 use Rattle.demands.specs.Demand1.{Answers, ScanRefused, CloseRefused, Refusals, Demand1}
 use Rattle.demands.proofs.Chained.{kept}
 
@@ -95,7 +95,7 @@ refusals = record {
   scanning = scan-refused;
   closing = close-refused;
   writing-block = λ t i b bad. write-kept t i b (λ e. bad (ap (λ (a : Stored). a .number) e));
-  reading-block = λ t i b bad. read-kept t i b (λ e. bad (ap (λ (a : Stored). a .number) e));
+  reading-block = λ t i b bad. kept t (reading-block this i b) bad;
 }
 
 pub demand1 : Demand1

@@ -8,6 +8,7 @@ use lib.ListN.{length, getD, take, drop}
 use Rattle.table.specs.Table.{emptyNumber, emptied}
 use Rattle.stream.specs.declared.Stream.{Stream}
 use Rattle.stream.specs.Calls.{opened, space, scanNumber, closeNumber, scanned, scannedIds, scannedOffsets, closed, closedIds, closedOffsets}
+use Rattle.card.specs.Calls.{writeAnswer, readAnswer, readWords}
 use Rattle.rules.specs.Add.{addAnswer, addWords}
 use Rattle.rules.specs.Additions.{Addition}
 use Rattle.regex.specs.Ordered.{Pair}
@@ -28,6 +29,8 @@ pub data Other : Type 0 where
   opening : Lent → Other
   scanning : Lent → Stream → (block ids offsets : List ℕ) → Other
   closing : Lent → Stream → (ids offsets : List ℕ) → Other
+  writing-block : Lent → (number : ℕ) (block : List ℕ) → Other
+  reading-block : Lent → (number : ℕ) (block : List ℕ) → Other
 
 -- its number, where t is the table in hand
 unfoldable pub numberOf : List ℕ → Other → ℕ
@@ -36,8 +39,10 @@ numberOf t (adding l id flags pattern) = addAnswer (lent t l) id flags pattern .
 numberOf t (opening l) = opened (lent t l) .number
 numberOf t (scanning l s block ids offsets) = scanNumber (lent t l) s (length block) (space ids offsets)
 numberOf t (closing l s ids offsets) = closeNumber (lent t l) s (space ids offsets)
+numberOf t (writing-block l i b) = writeAnswer (lent t l) i b .number
+numberOf t (reading-block l i b) = readAnswer (lent t l) i b .number
 
--- the table in hand afterwards: emptying and adding write to what they are lent
+-- the table in hand afterwards: emptying, adding and reading a block write to what they are lent
 unfoldable pub tableAfter : List ℕ → Other → List ℕ
 tableAfter t (emptying this) = emptied t
 tableAfter t (emptying (those u)) = t
@@ -46,6 +51,9 @@ tableAfter t (adding (those u) id flags pattern) = t
 tableAfter t (opening l) = t
 tableAfter t (scanning l s block ids offsets) = t
 tableAfter t (closing l s ids offsets) = t
+tableAfter t (writing-block l i b) = t
+tableAfter t (reading-block this i b) = readWords t i b
+tableAfter t (reading-block (those u) i b) = t
 
 -- ---- before the opening
 

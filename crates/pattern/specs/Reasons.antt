@@ -120,7 +120,7 @@ badBounds v =
 
 -- ---- one token outside a class: v is the pattern from its first byte on
 
--- In a quote a byte stands for itself, so that no row on the bytes of a token or of a member holds there.
+-- In a quote a byte stands for itself, so that no row on the bytes of a token or of a member holds there, but for 23.
 abbrev pub plainly : (quoted row : Bool) → Bool
 plainly quoted row = not quoted && row
 
