@@ -34,10 +34,15 @@ extern "C" {
 
 /* The words of a table, and of a stream's state. */
 #define WATCHER_TABLE_WORDS 4096
-#define WATCHER_STATE_WORDS 9
+#define WATCHER_STATE_WORDS 14
 
-/* A table holds at most so many rules, so a scan needs no more report slots. */
+/*
+ * A table holds at most so many rules. A closing may report each of them at two
+ * offsets, so each report list needs twice as many slots as the table has rules,
+ * and WATCHER_REPORT_SLOTS are enough for any table.
+ */
 #define WATCHER_MAX_RULES 64
+#define WATCHER_REPORT_SLOTS (2 * WATCHER_MAX_RULES)
 
 /* On a card a table takes so many blocks, each of so many bytes. */
 #define WATCHER_BLOCK_BYTES 512
@@ -74,12 +79,12 @@ typedef uint32_t watcher_error_t;
 #define WATCHER_LARGE_TABLE 17u     /* more than 256 positions with those in the table */
 #define WATCHER_BAD_STATE 18u       /* a state that is not valid for the table */
 #define WATCHER_CLOSED 19u          /* the stream is closed */
-#define WATCHER_SMALL_SPACE 20u     /* fewer report slots than the table has rules */
+#define WATCHER_SMALL_SPACE 20u     /* fewer report slots than twice the table's rules */
 #define WATCHER_LONG_STREAM 21u     /* the bytes taken and this block are over WATCHER_MAX_STREAM */
 #define WATCHER_RAW_BYTE 23u        /* a raw byte below 32, or 127, in the pattern */
 #define WATCHER_NO_BLOCK 27u        /* not the block of a table that was asked for */
 /* Numbers from 100 on are this interface's own. */
-#define WATCHER_SHORT_STATE 100u    /* fewer than 9 words for the state */
+#define WATCHER_SHORT_STATE 100u    /* fewer than 14 words for the state */
 
 /* Makes the words an empty table, whatever they held. Refuses only too few words. */
 watcher_error_t watcher_empty(uint64_t *table, size_t table_words);
@@ -111,8 +116,8 @@ watcher_error_t watcher_open(const uint64_t *table, size_t table_words,
  * *reports keep what they held. The scan stops before the first byte whose
  * reports do not all fit, so *taken may be less than the length: take the reports
  * out and call again with the rest of the block. Each accepted call with a byte
- * in its block takes at least one; with WATCHER_MAX_RULES slots or more no call is
- * refused for its space.
+ * in its block takes at least one; with WATCHER_REPORT_SLOTS slots or more no call
+ * is refused for its space.
  */
 watcher_error_t watcher_scan(const uint64_t *table, size_t table_words,
                              uint64_t *state, size_t state_words,
@@ -121,14 +126,23 @@ watcher_error_t watcher_scan(const uint64_t *table, size_t table_words,
                              uint64_t *offsets, size_t offsets_length,
                              size_t *taken, size_t *reports);
 
-/* Closes the stream, and reports the matches that needed its end. */
+/*
+ * Closes the stream, and reports the matches that needed its end: if its last
+ * byte is a newline, first those that end before that byte, by rising id, then
+ * those that end with the stream, by rising id. `$` and \Z hold at both of these
+ * offsets, \z at the end alone. A rule with WATCHER_FLAG_SINGLEMATCH reports once
+ * in a stream, what comes first; that need not be its smallest offset.
+ */
 watcher_error_t watcher_close(const uint64_t *table, size_t table_words,
                               uint64_t *state, size_t state_words,
                               uint32_t *ids, size_t ids_length,
                               uint64_t *offsets, size_t offsets_length,
                               size_t *reports);
 
-/* The busy figure: how many positions are live. 0 for too few words. */
+/*
+ * The busy figure: how many positions are live. Those that wait for the stream's
+ * end are none of them. 0 for too few words.
+ */
 uint32_t watcher_busy(const uint64_t *state, size_t state_words);
 
 /*

@@ -11,7 +11,7 @@ mod rules;
 use std::hint::black_box;
 
 use watcher::raw;
-use watcher::{MAX_RULES, STATE_WORDS, TABLE_WORDS};
+use watcher::{REPORT_SLOTS, STATE_WORDS, TABLE_WORDS};
 
 use crate::ordinary::Matcher;
 use crate::rules::RULES;
@@ -143,7 +143,7 @@ fn each(calls: u32, mut call: impl FnMut()) -> f64 {
 
 fn single_calls(table: &[u64]) {
     let mut state = [0; STATE_WORDS];
-    let (mut ids, mut offsets) = ([0; MAX_RULES], [0; MAX_RULES]);
+    let (mut ids, mut offsets) = ([0; REPORT_SLOTS], [0; REPORT_SLOTS]);
     let opening = each(10_000, || {
         black_box(raw::open(black_box(table), &mut state));
     });

@@ -11,25 +11,31 @@ use crate::rules::Rule;
 struct Position {
     takes: [bool; 256],
     follow: Vec<usize>,
+    line_follow: Vec<usize>,
     /// The place of its rule, if a match can end here.
     last: Option<usize>,
     last_at_end: Option<usize>,
+    line_last: Option<usize>,
 }
 
 pub struct Matcher {
     positions: Vec<Position>,
     first: Vec<usize>,
     first_at_start: Vec<usize>,
+    line_first: Vec<usize>,
+    line_first_at_start: Vec<usize>,
     ids: Vec<u32>,
     single: Vec<bool>,
 }
 
 pub struct Stream {
     live: Vec<usize>,
-    next: Vec<usize>,
+    /// What was live before the last byte.
+    before: Vec<usize>,
     seen: Vec<bool>,
     found: Vec<usize>,
     reported: Vec<bool>,
+    last_byte: u8,
     taken: u64,
 }
 
@@ -53,13 +59,17 @@ impl Matcher {
         let position = |p: usize| Position {
             takes: std::array::from_fn(|byte| has(&words, takers(byte as u8), p)),
             follow: members(follow(p)),
+            line_follow: members(line_follow(p)),
             last: rule_at(LAST, p),
             last_at_end: rule_at(LAST_AT_END, p),
+            line_last: rule_at(LINE_LAST, p),
         };
         Matcher {
             positions: (0..words[POSITIONS] as usize).map(position).collect(),
             first: members(FIRST),
             first_at_start: members(FIRST_AT_START),
+            line_first: members(LINE_FIRST),
+            line_first_at_start: members(LINE_FIRST_AT_START),
             ids: (0..count).map(|a| words[record(a) + ID] as u32).collect(),
             single: (0..count).map(|a| words[record(a) + FLAGS] & SINGLE_MATCH != 0).collect(),
         }
@@ -68,10 +78,11 @@ impl Matcher {
     pub fn open(&self) -> Stream {
         Stream {
             live: Vec::new(),
-            next: Vec::new(),
+            before: Vec::new(),
             seen: vec![false; self.positions.len()],
             found: Vec::new(),
             reported: vec![false; self.ids.len()],
+            last_byte: 0,
             taken: 0,
         }
     }
@@ -79,39 +90,64 @@ impl Matcher {
     pub fn scan(&self, stream: &mut Stream, block: &[u8], mut report: impl FnMut(u32, u64)) {
         for &byte in block {
             let first = if stream.taken == 0 { &self.first_at_start } else { &self.first };
-            stream.next.clear();
+            let next = &mut stream.before;
+            next.clear();
             for &p in first {
-                enter(&self.positions, &mut stream.seen, &mut stream.next, p, byte);
+                enter(&self.positions, &mut stream.seen, next, p, byte);
             }
             for &from in &stream.live {
                 for &p in &self.positions[from].follow {
-                    enter(&self.positions, &mut stream.seen, &mut stream.next, p, byte);
+                    enter(&self.positions, &mut stream.seen, next, p, byte);
                 }
             }
-            std::mem::swap(&mut stream.live, &mut stream.next);
+            std::mem::swap(&mut stream.live, &mut stream.before);
             stream.taken += 1;
             stream.found.clear();
             for &p in &stream.live {
                 stream.seen[p] = false;
                 stream.found.extend(self.positions[p].last);
             }
-            self.give(stream, &mut report);
+            self.give(stream, stream.taken, &mut report);
+        }
+        if let Some(&byte) = block.last() {
+            stream.last_byte = byte;
         }
     }
 
+    /// The pairs before a last newline, then those at the end.
     pub fn close(&self, stream: &mut Stream, mut report: impl FnMut(u32, u64)) {
-        stream.found.clear();
-        for &p in &stream.live {
-            stream.found.extend(self.positions[p].last_at_end);
+        let mut ending = stream.live.clone();
+        if stream.taken > 0 && stream.last_byte == b'\n' {
+            stream.found = self.waiting(&stream.before, &stream.before, |p| p.line_last);
+            self.give(stream, stream.taken - 1, &mut report);
+            ending.extend(self.over_the_line(stream));
         }
-        let given: Vec<usize> =
-            stream.live.iter().filter_map(|&p| self.positions[p].last).collect();
-        stream.found.retain(|place| !given.contains(place));
-        self.give(stream, &mut report);
+        stream.found = self.waiting(&ending, &stream.live, |p| p.last_at_end);
+        self.give(stream, stream.taken, &mut report);
     }
 
-    /// Reports the rules that were found, by rising id, each once.
-    fn give(&self, stream: &mut Stream, report: &mut impl FnMut(u32, u64)) {
+    /// The rules that end with one of these positions, but for those that a live one ended before.
+    fn waiting(
+        &self,
+        ending: &[usize],
+        live: &[usize],
+        last: impl Fn(&Position) -> Option<usize>,
+    ) -> Vec<usize> {
+        let given: Vec<usize> = live.iter().filter_map(|&p| self.positions[p].last).collect();
+        let found = ending.iter().filter_map(|&p| last(&self.positions[p]));
+        found.filter(|place| !given.contains(place)).collect()
+    }
+
+    /// The positions that a last newline leads to if the last line ends before it.
+    fn over_the_line(&self, stream: &Stream) -> Vec<usize> {
+        let first = if stream.taken == 1 { &self.line_first_at_start } else { &self.line_first };
+        let follow = stream.before.iter().flat_map(|&p| &self.positions[p].line_follow);
+        let takes = |p: &&usize| self.positions[**p].takes[b'\n' as usize];
+        first.iter().chain(follow).filter(takes).copied().collect()
+    }
+
+    /// Reports the rules that were found at this end, by rising id, each once.
+    fn give(&self, stream: &mut Stream, end: u64, report: &mut impl FnMut(u32, u64)) {
         if stream.found.is_empty() {
             return;
         }
@@ -119,7 +155,7 @@ impl Matcher {
         stream.found.dedup();
         for &place in &stream.found {
             if !stream.reported[place] {
-                report(self.ids[place], stream.taken);
+                report(self.ids[place], end);
                 stream.reported[place] = self.single[place];
             }
         }
@@ -127,9 +163,11 @@ impl Matcher {
 
     /// The bytes of its lists, for the table of memory.
     pub fn size(&self) -> usize {
-        let follow: usize = self.positions.iter().map(|p| p.follow.len()).sum();
+        let follow = |p: &Position| p.follow.len() + p.line_follow.len();
+        let first = self.first.len() + self.line_first.len();
         std::mem::size_of::<Position>() * self.positions.len()
-            + std::mem::size_of::<usize>() * (follow + self.first.len())
+            + std::mem::size_of::<usize>()
+                * (self.positions.iter().map(follow).sum::<usize>() + first)
     }
 }
 

@@ -10,8 +10,8 @@
 static uint64_t table[WATCHER_TABLE_WORDS];
 static uint8_t card[WATCHER_BLOCKS][WATCHER_BLOCK_BYTES];
 static uint64_t state[WATCHER_STATE_WORDS];
-static uint32_t ids[WATCHER_MAX_RULES];
-static uint64_t offsets[WATCHER_MAX_RULES];
+static uint32_t ids[WATCHER_REPORT_SLOTS];
+static uint64_t offsets[WATCHER_REPORT_SLOTS];
 
 static int refused(const char *what, watcher_error_t number) {
   printf("%s refused %u\n", what, (unsigned)number);
@@ -42,7 +42,7 @@ static int scan(const char *block) {
   do {
     size_t taken, reports;
     watcher_error_t number = watcher_scan(table, WATCHER_TABLE_WORDS, state, WATCHER_STATE_WORDS, next, left, ids,
-                                          WATCHER_MAX_RULES, offsets, WATCHER_MAX_RULES, &taken, &reports);
+                                          WATCHER_REPORT_SLOTS, offsets, WATCHER_REPORT_SLOTS, &taken, &reports);
     if (number != WATCHER_SUCCESS) {
       return refused("scan", number);
     }
@@ -95,8 +95,8 @@ int main(void) {
     return 1;
   }
   printf("busy %u\n", (unsigned)watcher_busy(state, WATCHER_STATE_WORDS));
-  number = watcher_close(table, WATCHER_TABLE_WORDS, state, WATCHER_STATE_WORDS, ids, WATCHER_MAX_RULES, offsets,
-                         WATCHER_MAX_RULES, &reports);
+  number = watcher_close(table, WATCHER_TABLE_WORDS, state, WATCHER_STATE_WORDS, ids, WATCHER_REPORT_SLOTS, offsets,
+                         WATCHER_REPORT_SLOTS, &reports);
   if (number != WATCHER_SUCCESS) {
     return refused("closing", number);
   }

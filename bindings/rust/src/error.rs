@@ -173,7 +173,7 @@ impl Error {
             Error::LargeTable { .. } => "over 256 positions in the table",
             Error::BadState => "the state is not valid for the table",
             Error::Closed => "the stream is closed",
-            Error::SmallSpace => "fewer report slots than rules",
+            Error::SmallSpace => "fewer report slots than twice the rules",
             Error::LongStream => "over the stream limit",
             Error::RawByte { .. } => "raw control byte",
             Error::NoBlock { .. } => "not this block of a table",

@@ -11,7 +11,7 @@
 //! # Ok::<(), watcher::Error>(())
 //! ```
 //!
-//! A table is 32 KiB and a stream 72 bytes and a reference; nothing here uses the heap. A stream
+//! A table is 32 KiB and a stream 112 bytes and a reference; nothing here uses the heap. A stream
 //! borrows its table, so that no rule can be added while a stream is open on it.
 //!
 //! `raw` has the library's functions over slices, for words of any content; `sys` declares them.
@@ -25,9 +25,11 @@ pub use error::Error;
 /// The words of a table.
 pub const TABLE_WORDS: usize = 4_096;
 /// The words of a stream's state.
-pub const STATE_WORDS: usize = 9;
+pub const STATE_WORDS: usize = 14;
 /// A table has at most so many rules.
 pub const MAX_RULES: usize = 64;
+/// So many report slots in each list are enough for any table: a closing may report each rule twice.
+pub const REPORT_SLOTS: usize = 2 * MAX_RULES;
 
 /// The bytes of a block of a table on a card, and how many blocks a table takes.
 pub const BLOCK_BYTES: usize = 512;
@@ -139,7 +141,7 @@ impl<'t> Stream<'t> {
 
     /// Scans all of a block, and gives each report in order.
     pub fn scan(&mut self, block: &[u8], mut found: impl FnMut(Report)) -> Result<(), Error> {
-        let (mut ids, mut offsets) = ([0; 2 * MAX_RULES], [0; 2 * MAX_RULES]);
+        let (mut ids, mut offsets) = ([0; REPORT_SLOTS], [0; REPORT_SLOTS]);
         let mut rest = block;
         loop {
             let answer = self.scan_into(rest, &mut ids, &mut offsets)?;
@@ -152,7 +154,7 @@ impl<'t> Stream<'t> {
     }
 
     /// One scan into lists of the caller's: it stops before the first byte whose reports do not all
-    /// fit. Both lists need as many slots as the table has rules.
+    /// fit. Both lists need twice as many slots as the table has rules.
     pub fn scan_into(
         &mut self,
         block: &[u8],
@@ -164,16 +166,17 @@ impl<'t> Stream<'t> {
         Ok(answer)
     }
 
-    /// Closes the stream, and gives the reports that needed its end.
+    /// Closes the stream, and gives the reports that needed its end: those before a last newline,
+    /// then those at the end.
     pub fn close(mut self, mut found: impl FnMut(Report)) -> Result<(), Error> {
-        let (mut ids, mut offsets) = ([0; MAX_RULES], [0; MAX_RULES]);
+        let (mut ids, mut offsets) = ([0; REPORT_SLOTS], [0; REPORT_SLOTS]);
         let answer = raw::close(&self.table.words, &mut self.state, &mut ids, &mut offsets);
         Error::check(answer.number, 0)?;
         give(&ids, &offsets, answer.reports, &mut found);
         Ok(())
     }
 
-    /// How many positions are live.
+    /// How many positions are live; those that wait for the end are none.
     pub fn busy(&self) -> u32 {
         raw::busy(&self.state)
     }

@@ -192,7 +192,7 @@ cases =
     ∷ row 0 "(((((((((((((((((" 13 16
     ∷ row 0 "(((((((((((((((((?i)(" 13 20
     ∷ row 0 "a\\b" 14 1
-    ∷ row 0 "\\Z" 14 0
+    ∷ row 0 "\\Z" 15 2
     ∷ row 0 "\\G" 14 0
     ∷ row 0 "\\E" 15 2
     ∷ row 0 "\\u" 14 0
@@ -442,6 +442,29 @@ cases =
     ∷ row 0 "a|\\E*" 10 4
     ∷ row 0 "$(?#){2}" 10 5
     ∷ row 0 "a(?i)(?#)*" 10 9
+    -- "PCRE also lets `$` hold just before a newline that is the last byte. Mend it, and add `\Z` with the same meaning (14 in a class); `\z` stays."
+    ∷ row 0 "a\\Z" 0 0
+    ∷ row 0 "(?:a\\Z)+" 0 0
+    ∷ row 0 "(\\Z)*a" 0 0
+    ∷ row 0 "a\\Z\\n" 0 0
+    ∷ row 0 "a$\\n" 0 0
+    ∷ row 0 "a$\\Z\\z" 0 0
+    ∷ row 0 "^\\Z" 15 3
+    ∷ row 0 "\\Z|a" 15 4
+    ∷ row 0 "\\Z*" 10 2
+    ∷ row 0 "a\\Z{2}" 10 3
+    ∷ row 0 "a\\Z++" 10 3
+    ∷ row 0 "a\\Z(?#x)*" 10 8
+    ∷ row 0 "a$*" 10 2
+    ∷ row 0 "a\\z?" 10 3
+    ∷ row 0 "[\\Z]" 14 1
+    ∷ row 0 "[\\Z-a]" 14 1
+    ∷ row 0 "[a-\\Z]" 14 1
+    ∷ row 0 "[\\Z-\\d]" 9 1
+    ∷ row 0 "[\\z]" 14 1
+    ∷ row 0 "[$]" 0 0
+    ∷ row 0 "\\Q\\Z\\E" 0 0
+    ∷ row 0 "[\\Q\\Z\\E]" 0 0
     -- "spaces and tabs after `{`, before `}` and around the comma", in quantifiers
     ∷ row 0 "a{ 2}" 0 0
     ∷ row 0 "a{2 }" 0 0

@@ -145,6 +145,7 @@ fn placed_escape(inside: bool, c: u8) -> Part
     match c {
         b'N' => sound(2, Atom::NotNewline),
         b'A' => sound(2, Atom::Start),
+        b'Z' => sound(2, Atom::LastLine),
         b'z' => sound(2, Atom::End),
         _ => faulty(14, 2),
     }

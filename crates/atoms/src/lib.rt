@@ -42,7 +42,9 @@ pub enum Atom {
     NotNewline,
     // `^` and `\A`
     Start,
-    // `$` and `\z`
+    // `$` and `\Z`
+    LastLine,
+    // `\z`
     End,
 }
 

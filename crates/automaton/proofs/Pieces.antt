@@ -13,7 +13,7 @@ use Rattle.sets.proofs.Laws.{setOf-ext, union-setOf, inserted-setOf}
 use Rattle.regex.specs.Tree.{Extra, atMost, repeat}
 use Rattle.regex.specs.Form.{eps, take, check, seq, alt, plus, opt, write, positions, copies, optionals, repeated}
 use Rattle.regex.specs.Count.{copied, exact}
-use Rattle.regex.specs.Rule.{Assertion, ByteSet, at-start, at-end}
+use Rattle.regex.specs.Rule.{Assertion, ByteSet, at-start, at-last-line, at-end}
 use Rattle.regex.specs.Automaton.{null, first, last, follow, items}
 use Rattle.regex.proofs.Logic.{false-T}
 use Rattle.regex.proofs.Computed.{first-T, last-T, follow-T, items-length}
@@ -64,21 +64,26 @@ choice-is f g h i j k = cc
 
 -- ---- parts
 
-pub piece-eps : (b : ℕ) → bareOf true true true ≡ fragmentOf eps b
+pub piece-eps : (line : Bool) (b : ℕ) → bareOf true true true ≡ fragmentOf line eps b
 unfolding bareOf fragmentOf positions null first last emptySet
-piece-eps b = refl
+piece-eps line b = refl
 
-pub piece-check : (x b : ℕ) → bareOf false (eqb x 0) (not (eqb x 0)) ≡ fragmentOf (check (assertionOf x)) b
+-- `closes` is all but `^`; the end of the last line stands where `line` says
+pub piece-check : (line : Bool) (x b : ℕ)
+    → bareOf ((not (eqb x 0) && not (eqb x 1)) && line) (eqb x 0 || ((not (eqb x 0) && not (eqb x 1)) && line)) (not (eqb x 0))
+    ≡ fragmentOf line (check (assertionOf x)) b
 unfolding bareOf fragmentOf positions null first last emptySet
-piece-check x b = go (eqb x 0)
+piece-check line x b = go (eqb x 0) (eqb x 1)
   where
-    go : (v : Bool) → bareOf false v (not v) ≡ fragmentOf (check (cond v at-start at-end)) b
-    go true = refl
-    go false = refl
+    go : (u v : Bool)
+        → bareOf ((not u && not v) && line) (u || ((not u && not v) && line)) (not u) ≡ fragmentOf line (check (cond u at-start (cond v at-end at-last-line))) b
+    go true v = refl
+    go false true = refl
+    go false false = refl
 
-pub piece-take : (c : ByteSet) (b : ℕ) → oneOf b ≡ fragmentOf (take c) b
+pub piece-take : (line : Bool) (c : ByteSet) (b : ℕ) → oneOf b ≡ fragmentOf line (take c) b
 unfolding oneOf fragmentOf positions null first last emptySet
-piece-take c b = rw (inserted-setOf (λ q. false) b)
+piece-take line c b = rw (inserted-setOf (λ q. false) b)
 
 -- t too where b is; the set of what comes first is joined so
 also-after : (b : Bool) (f g : ℕ → Bool) → also b (setOf f) (setOf g) ≡ setOf (λ q. f q || (b && g q))
@@ -92,35 +97,35 @@ also-before b f g =
     ∙ setOf-ext (λ q. g q || (b && f q)) (λ q. (f q && b) || g q)
     (λ q h. or-comm (g q) (b && f q) ∙ ap (λ (v : Bool). v || g q) (and-comm b (f q)))
 
-pub piece-seq : (f g : Written) (b : ℕ) → inTurn (fragmentOf f b) (fragmentOf g (b + positions f)) ≡ fragmentOf (seq f g) b
+pub piece-seq : (line : Bool) (f g : Written) (b : ℕ) → inTurn (fragmentOf line f b) (fragmentOf line g (b + positions f)) ≡ fragmentOf line (seq f g) b
 unfolding inTurn fragmentOf positions null first last
-piece-seq f g b =
+piece-seq line f g b =
     let n = b + positions f in
     cc (
-      also-after (null inside f) (first inside f b) (first inside g n),
-      also-after (null atStart f) (first atStart f b) (first atStart g n),
-      also-before (null inside g) (last inside f b) (last inside g n),
+      also-after (null (inside line) f) (first (inside line) f b) (first (inside line) g n),
+      also-after (null (atStart line) f) (first (atStart line) f b) (first (atStart line) g n),
+      also-before (null (inside line) g) (last (inside line) f b) (last (inside line) g n),
       also-before (null atEnd g) (last atEnd f b) (last atEnd g n),
     )
 
-pub piece-alt : (f g : Written) (b : ℕ) → choiceOf (fragmentOf f b) (fragmentOf g (b + positions f)) ≡ fragmentOf (alt f g) b
+pub piece-alt : (line : Bool) (f g : Written) (b : ℕ) → choiceOf (fragmentOf line f b) (fragmentOf line g (b + positions f)) ≡ fragmentOf line (alt f g) b
 unfolding choiceOf fragmentOf positions null first last
-piece-alt f g b =
+piece-alt line f g b =
     let n = b + positions f in
     cc (
-      union-setOf (first inside f b) (first inside g n),
-      union-setOf (first atStart f b) (first atStart g n),
-      union-setOf (last inside f b) (last inside g n),
+      union-setOf (first (inside line) f b) (first (inside line) g n),
+      union-setOf (first (atStart line) f b) (first (atStart line) g n),
+      union-setOf (last (inside line) f b) (last (inside line) g n),
       union-setOf (last atEnd f b) (last atEnd g n),
     )
 
-pub piece-opt : (f : Written) (b : ℕ) → optionalOf (fragmentOf f b) ≡ fragmentOf (opt f) b
+pub piece-opt : (line : Bool) (f : Written) (b : ℕ) → optionalOf (fragmentOf line f b) ≡ fragmentOf line (opt f) b
 unfolding optionalOf fragmentOf positions null first last
-piece-opt f b = refl
+piece-opt line f b = refl
 
-pub piece-plus : (f : Written) (b : ℕ) → fragmentOf f b ≡ fragmentOf (plus f) b
+pub piece-plus : (line : Bool) (f : Written) (b : ℕ) → fragmentOf line f b ≡ fragmentOf line (plus f) b
 unfolding fragmentOf positions null first last
-piece-plus f b = refl
+piece-plus line f b = refl
 
 -- ---- forms without positions
 
@@ -141,14 +146,14 @@ module _ (f : Written) (bare : positions f ≡ 0) where
       go [] e = refl
       go (x ∷ l) e = absurd (omega arith)
 
-  piece-bare : (b : ℕ) → fragmentOf f b ≡ bareOf (null inside f) (null atStart f) (null atEnd f)
+  piece-bare : (line : Bool) (b : ℕ) → fragmentOf line f b ≡ bareOf (null (inside line) f) (null (atStart line) f) (null atEnd f)
   unfolding fragmentOf bareOf emptySet
-  piece-bare b =
+  piece-bare line b =
       cc (
         bare,
-        setOf-ext (first inside f b) (λ q. false) (λ q h. no-first inside b q),
-        setOf-ext (first atStart f b) (λ q. false) (λ q h. no-first atStart b q),
-        setOf-ext (last inside f b) (λ q. false) (λ q h. no-last inside b q),
+        setOf-ext (first (inside line) f b) (λ q. false) (λ q h. no-first (inside line) b q),
+        setOf-ext (first (atStart line) f b) (λ q. false) (λ q h. no-first (atStart line) b q),
+        setOf-ext (last (inside line) f b) (λ q. false) (λ q h. no-last (inside line) b q),
         setOf-ext (last atEnd f b) (λ q. false) (λ q h. no-last atEnd b q),
       )
 
@@ -159,15 +164,15 @@ module _ (t : Syntax) (bare : positions (write t) ≡ 0) where
   unfolding write exact
   repeated-bare n j = counted (repeat t n j) ∙ ap (λ (m : ℕ). copied n j * m) (sym (counted t) ∙ bare) ∙ mul-zero (copied n j)
 
-  pub piece-repeated : (n : ℕ) (j : Extra) (b : ℕ) → fragmentOf (write t) b ≡ fragmentOf (repeated (write t) (suc n) j) b
-  piece-repeated n j b =
-      piece-bare (write t) bare b
-      ∙ cc (repeated-null inside (write t) n j, repeated-null atStart (write t) n j, repeated-null atEnd (write t) n j)
-      ∙ sym (piece-bare (repeated (write t) (suc n) j) (repeated-bare (suc n) j) b)
+  pub piece-repeated : (line : Bool) (n : ℕ) (j : Extra) (b : ℕ) → fragmentOf line (write t) b ≡ fragmentOf line (repeated (write t) (suc n) j) b
+  piece-repeated line n j b =
+      piece-bare (write t) bare line b
+      ∙ cc (repeated-null (inside line) (write t) n j, repeated-null (atStart line) (write t) n j, repeated-null atEnd (write t) n j)
+      ∙ sym (piece-bare (repeated (write t) (suc n) j) (repeated-bare (suc n) j) line b)
 
-  pub piece-nested : (j : ℕ) (b : ℕ) → optionalOf (fragmentOf (write t) b) ≡ fragmentOf (optionals j (write t)) b
+  pub piece-nested : (line : Bool) (j : ℕ) (b : ℕ) → optionalOf (fragmentOf line (write t) b) ≡ fragmentOf line (optionals j (write t)) b
   unfolding optionalOf repeated copies bareOf
-  piece-nested j b =
-      ap optionalOf (piece-bare (write t) bare b)
-      ∙ cc (repeated-none inside (write t) (atMost j), repeated-none atStart (write t) (atMost j), repeated-none atEnd (write t) (atMost j))
-      ∙ sym (piece-bare (repeated (write t) 0 (atMost j)) (repeated-bare 0 (atMost j)) b)
+  piece-nested line j b =
+      ap optionalOf (piece-bare (write t) bare line b)
+      ∙ cc (repeated-none (inside line) (write t) (atMost j), repeated-none (atStart line) (write t) (atMost j), repeated-none atEnd (write t) (atMost j))
+      ∙ sym (piece-bare (repeated (write t) 0 (atMost j)) (repeated-bare 0 (atMost j)) line b)

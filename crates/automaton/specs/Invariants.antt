@@ -88,15 +88,15 @@ optionalOf f = record {
 }
 
 -- the fragment of a form whose positions are numbered from b on
-unfoldable pub fragmentOf : Written → ℕ → Fragment
-fragmentOf f b = record {
+unfoldable pub fragmentOf : (line : Bool) → Written → ℕ → Fragment
+fragmentOf line f b = record {
   size = positions f;
-  null = null inside f;
-  opens = null atStart f;
+  null = null (inside line) f;
+  opens = null (atStart line) f;
   closes = null atEnd f;
-  first = setOf (first inside f b);
-  starts = setOf (first atStart f b);
-  last = setOf (last inside f b);
+  first = setOf (first (inside line) f b);
+  starts = setOf (first (atStart line) f b);
+  last = setOf (last (inside line) f b);
   ends = setOf (last atEnd f b);
 }
 
@@ -122,8 +122,8 @@ abbrev pub Room : Written → ℕ → Type 0
 Room f b = b + positions f ≤ 256
 
 -- the fragment of f; its follow pairs are added to the rows r, and its byte sets are written into the rows t
-pub record Built (f : Written) (b : ℕ) (r r' t t' : List ℕ) (g : Fragment) : Type 0 where
-  pub fragment : g ≡ fragmentOf f b
+pub record Built (line : Bool) (f : Written) (b : ℕ) (r r' t t' : List ℕ) (g : Fragment) : Type 0 where
+  pub fragment : g ≡ fragmentOf line f b
   pub long : length r' ≡ length r
-  pub follows : length r ≡ 1024 → (p q : ℕ) → p < 256 → q < 256 → hasAt r' p q ≡ (hasAt r p q || follow inside f b p q)
+  pub follows : length r ≡ 1024 → (p q : ℕ) → p < 256 → q < 256 → hasAt r' p q ≡ (hasAt r p q || follow (inside line) f b p q)
   pub takes : t' ≡ sets t (b * 4) (flat (items f))

@@ -1,4 +1,4 @@
--- The parts of a rule's automaton, its positions numbered from `base` on: the sets of the written-out form in the worlds that the base needs, as words.
+-- The parts of a rule's automaton, its positions numbered from `base` on: the sets of the written-out form in the worlds that the assertions need, as words.
 -- Assumes nothing: these are definitions.
 use mathlib.Core.Bool.{Bool, true, false, cond}
 use mathlib.Core.List.{List, [], _∷_, _++_}
@@ -31,26 +31,31 @@ unfoldable pub flat : List ByteSet → List ℕ
 flat [] = []
 flat (c ∷ cs) = fourWords c ++ flat cs
 
--- what holds inside the stream, at its start, and at its end
-abbrev pub inside : Assertion → Bool
-inside = world false false
+-- What holds inside the stream, at its start, and at its end. `line` says whether the last line ends there: at the end it always does.
+abbrev pub inside : (line : Bool) → Assertion → Bool
+inside line = world false line false
 
-abbrev pub atStart : Assertion → Bool
-atStart = world true false
+abbrev pub atStart : (line : Bool) → Assertion → Bool
+atStart line = world true line false
 
 abbrev pub atEnd : Assertion → Bool
-atEnd = world false true
+atEnd = world false true true
 
+-- the parts of a form: its sets where the last line does not end at the gaps inside, and, named so, where it does
 unfoldable pub formParts : Form ByteSet Assertion → ℕ → Parts
 formParts f base = record {
   fits = true;
   positions = positions f;
-  first = setOf (first inside f base);
-  start = setOf (first atStart f base);
-  last = setOf (last inside f base);
+  first = setOf (first (inside false) f base);
+  start = setOf (first (atStart false) f base);
+  last = setOf (last (inside false) f base);
   «end» = setOf (last atEnd f base);
-  follow = padded (rowsOf (positions f) (λ i. setOf (follow inside f base (base + i))));
+  follow = padded (rowsOf (positions f) (λ i. setOf (follow (inside false) f base (base + i))));
   takes = padded (flat (items f));
+  «line_first» = setOf (first (inside true) f base);
+  «line_start» = setOf (first (atStart true) f base);
+  «line_last» = setOf (last (inside true) f base);
+  «line_follow» = padded (rowsOf (positions f) (λ i. setOf (follow (inside true) f base (base + i))));
 }
 
 abbrev pub noParts : Parts
@@ -63,6 +68,10 @@ noParts = record {
   «end» = emptySet;
   follow = replicate 1024 0;
   takes = replicate 1024 0;
+  «line_first» = emptySet;
+  «line_start» = emptySet;
+  «line_last» = emptySet;
+  «line_follow» = replicate 1024 0;
 }
 
 -- The parts of a tree: of its written-out form, where its positions and those before them are at most 256 together.

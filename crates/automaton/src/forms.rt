@@ -1,5 +1,6 @@
 // The written-out form, node by node: each function returns the fragment of its form, whose positions are numbered from b on, adds its follow pairs to
-// `follow` and writes its byte sets into `takes`. The node number falls; within a repeat the number of copies does.
+// `follow` and writes its byte sets into `takes`. `line` says whether the last line ends at the gaps inside. The node number falls; within a repeat the number of
+// copies does.
 use crate::fragments;
 use crate::fragments::Fragment;
 use crate::items;
@@ -29,12 +30,13 @@ fn child(
     b: usize,
     follow: &mut [u64; 1024],
     takes: &mut [u64; 1024],
+    line: bool,
 ) -> Fragment
     requires { ⌜ Room (childForm (now a) k x) b ⌝ }
-    ensures { λ r. ⌜ Built (childForm (now (a .entry)) k x) b (now (follow .entry)) (now (follow .exit)) (now (takes .entry)) (now (takes .exit)) r ⌝ }
+    ensures { λ r. ⌜ Built line (childForm (now (a .entry)) k x) b (now (follow .entry)) (now (follow .exit)) (now (takes .entry)) (now (takes .exit)) r ⌝ }
 {
     if x < k as u64 {
-        return node(a, x as usize, b, follow, takes);
+        return node(a, x as usize, b, follow, takes, line);
     }
     fragments::bare(true, true, true)
 }
@@ -47,11 +49,12 @@ fn many(
     b: usize,
     follow: &mut [u64; 1024],
     takes: &mut [u64; 1024],
+    line: bool,
 ) -> Fragment
     requires { ⌜ Room (plus (childForm (now a) k x)) b ⌝ }
-    ensures { λ r. ⌜ Built (plus (childForm (now (a .entry)) k x)) b (now (follow .entry)) (now (follow .exit)) (now (takes .entry)) (now (takes .exit)) r ⌝ }
+    ensures { λ r. ⌜ Built line (plus (childForm (now (a .entry)) k x)) b (now (follow .entry)) (now (follow .exit)) (now (takes .entry)) (now (takes .exit)) r ⌝ }
 {
-    let f = child(a, k, x, b, follow, takes);
+    let f = child(a, k, x, b, follow, takes, line);
     let last = f.last;
     let first = f.first;
     rows::join(follow, last, first);
@@ -67,20 +70,21 @@ fn nested(
     b: usize,
     follow: &mut [u64; 1024],
     takes: &mut [u64; 1024],
+    line: bool,
 ) -> Fragment
     requires { ⌜ Room (optionals j (childForm (now a) k x)) b ⌝ }
-    ensures { λ r. ⌜ Built (optionals j (childForm (now (a .entry)) k x)) b (now (follow .entry)) (now (follow .exit)) (now (takes .entry)) (now (takes .exit)) r ⌝ }
+    ensures { λ r. ⌜ Built line (optionals j (childForm (now (a .entry)) k x)) b (now (follow .entry)) (now (follow .exit)) (now (takes .entry)) (now (takes .exit)) r ⌝ }
 {
     if j == 0 {
         return fragments::bare(true, true, true);
     }
-    let f = child(a, k, x, b, follow, takes);
+    let f = child(a, k, x, b, follow, takes, line);
     let alone = fragments::optional(f);
     let size = f.size;
     if size == 0 {
         return alone;
     }
-    let g = nested(a, k, x, j - 1, b + size, follow, takes);
+    let g = nested(a, k, x, j - 1, b + size, follow, takes, line);
     fragments::optional(then(f, g, follow))
 }
 
@@ -95,25 +99,26 @@ fn repeat(
     b: usize,
     follow: &mut [u64; 1024],
     takes: &mut [u64; 1024],
+    line: bool,
 ) -> Fragment
     requires { ⌜ (n < 131072) × (j < 2147483648) × Room (repeated (childForm (now a) k x) n (extra endless j)) b ⌝ }
-    ensures { λ r. ⌜ Built (repeated (childForm (now (a .entry)) k x) n (extra endless j)) b (now (follow .entry)) (now (follow .exit)) (now (takes .entry)) (now (takes .exit)) r ⌝ }
+    ensures { λ r. ⌜ Built line (repeated (childForm (now (a .entry)) k x) n (extra endless j)) b (now (follow .entry)) (now (follow .exit)) (now (takes .entry)) (now (takes .exit)) r ⌝ }
 {
     if n == 0 {
         if endless {
-            return fragments::optional(many(a, k, x, b, follow, takes));
+            return fragments::optional(many(a, k, x, b, follow, takes, line));
         }
-        return nested(a, k, x, j, b, follow, takes);
+        return nested(a, k, x, j, b, follow, takes, line);
     }
     if endless & (n == 1) {
-        return many(a, k, x, b, follow, takes);
+        return many(a, k, x, b, follow, takes, line);
     }
-    let f = child(a, k, x, b, follow, takes);
+    let f = child(a, k, x, b, follow, takes, line);
     let size = f.size;
     if size == 0 {
         return f;
     }
-    let g = repeat(a, k, x, n - 1, endless, j, b + size, follow, takes);
+    let g = repeat(a, k, x, n - 1, endless, j, b + size, follow, takes, line);
     then(f, g, follow)
 }
 
@@ -124,9 +129,10 @@ pub(super) fn node(
     b: usize,
     follow: &mut [u64; 1024],
     takes: &mut [u64; 1024],
+    line: bool,
 ) -> Fragment
     requires { ⌜ Room (formAt (now a) k) b ⌝ }
-    ensures { λ r. ⌜ Built (formAt (now (a .entry)) k) b (now (follow .entry)) (now (follow .exit)) (now (takes .entry)) (now (takes .exit)) r ⌝ }
+    ensures { λ r. ⌜ Built line (formAt (now (a .entry)) k) b (now (follow .entry)) (now (follow .exit)) (now (takes .entry)) (now (takes .exit)) r ⌝ }
 {
     let w = layout::word(a, k);
     let op = w % 8;
@@ -138,18 +144,19 @@ pub(super) fn node(
         return fragments::one(b);
     }
     if op == layout::ASSERTION {
-        return fragments::bare(false, x == 0, x != 0);
+        let null = ((x != 0) & (x != 1)) & line;
+        return fragments::bare(null, (x == 0) | null, x != 0);
     }
     if (op == layout::THEN) | (op == layout::OR) {
-        let f = child(a, k, x, b, follow, takes);
-        let g = child(a, k, y, b + f.size, follow, takes);
+        let f = child(a, k, x, b, follow, takes, line);
+        let g = child(a, k, y, b + f.size, follow, takes, line);
         if op == layout::THEN {
             return then(f, g, follow);
         }
         return fragments::choice(f, g);
     }
     if op == layout::REPEAT {
-        return repeat(a, k, x, y, z == layout::ENDLESS, z, b, follow, takes);
+        return repeat(a, k, x, y, z == layout::ENDLESS, z, b, follow, takes, line);
     }
     fragments::bare(true, true, true)
 }

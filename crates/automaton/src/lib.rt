@@ -12,7 +12,7 @@ ghost use Rattle.nodes.specs.Nodes.{treeAt};
 ghost use Rattle.automaton.specs.Parts.{formParts, noParts, partsOf};
 
 // The parts of a rule's automaton, its positions numbered from a base on. `fits` says that all of them are below 256; else the rest is zero. Row i of
-// `follow` and of `takes`, four words each, is that of the rule's position number i.
+// `follow` and of `takes`, four words each, is that of the rule's position number i. The parts named `line_` are those at a gap where the last line ends.
 pub struct Parts {
     pub fits: bool,
     pub positions: usize,
@@ -22,6 +22,10 @@ pub struct Parts {
     pub end: [u64; 4],
     pub follow: [u64; 1024],
     pub takes: [u64; 1024],
+    pub line_first: [u64; 4],
+    pub line_start: [u64; 4],
+    pub line_last: [u64; 4],
+    pub line_follow: [u64; 1024],
 }
 
 // The answer where the positions do not fit.
@@ -38,6 +42,10 @@ fn none() -> Parts
         end: s,
         follow: [0; 1024],
         takes: [0; 1024],
+        line_first: s,
+        line_start: s,
+        line_last: s,
+        line_follow: [0; 1024],
     }
 }
 
@@ -48,11 +56,18 @@ fn whole(nodes: &[u64], root: usize, base: usize) -> Parts
 {
     let mut follow = [0u64; 1024];
     let mut takes = [0u64; 1024];
-    let f = forms::node(nodes, root, base, &mut follow, &mut takes);
+    let mut line_follow = [0u64; 1024];
+    let f = forms::node(nodes, root, base, &mut follow, &mut takes, false);
+    let out = rows::front(follow, base * 4);
+    let bytes = rows::front(takes, base * 4);
+    let g = forms::node(nodes, root, base, &mut line_follow, &mut takes, true);
     let first = f.first;
     let start = f.starts;
     let last = f.last;
     let end = f.ends;
+    let line_first = g.first;
+    let line_start = g.starts;
+    let line_last = g.last;
     Parts {
         fits: true,
         positions: f.size,
@@ -60,8 +75,12 @@ fn whole(nodes: &[u64], root: usize, base: usize) -> Parts
         start,
         last,
         end,
-        follow: rows::front(follow, base * 4),
-        takes: rows::front(takes, base * 4),
+        follow: out,
+        takes: bytes,
+        line_first,
+        line_start,
+        line_last,
+        line_follow: rows::front(line_follow, base * 4),
     }
 }
 

@@ -6,16 +6,27 @@ use show::add;
 use show::empty;
 use show::log;
 
+// Adds a pattern under the ids from 1 on, so many times.
+fn fill(words: &mut [u64], times: u32, pattern: &[u8]) {
+    empty(words);
+    let mut id: u32 = 0;
+    while id < times {
+        id += 1;
+        add(words, id, pattern);
+    }
+}
+
 // 64 rules are a full table. There an id that is taken comes first.
 fn rules(words: &mut [u64]) {
-    empty(words);
-    let mut id: u32 = 1;
-    while id <= 65 {
-        add(words, id, b"a");
-        id += 1;
-    }
+    fill(words, 65, b"a");
     add(words, 7, b"a");
     log(words, b"ba");
+}
+
+// A full table whose rules each have two pairs at the closing, before a last newline and at the end: as many reports as a call can need at once.
+fn closing(words: &mut [u64]) {
+    fill(words, 64, b"a\\n?$");
+    log(words, b"a\n");
 }
 
 // 256 positions in one rule.
@@ -83,6 +94,7 @@ fn main() {
     let mut words = [0u64; 4096];
     let table: &mut [u64] = &mut words;
     rules(table);
+    closing(table);
     positions(table);
     positions_in_all(table);
     bytes_with_positions(table);

@@ -3,8 +3,8 @@ use libc::STDOUT_FILENO;
 use stream::Stream;
 use table::layout::MAX_RULES;
 
-// Report space: a slot for each rule that a table may have.
-const SLOTS: usize = MAX_RULES as usize;
+// Report space: two slots for each rule that a table may have.
+const SLOTS: usize = 2 * MAX_RULES as usize;
 
 // Writes a text. A write that fails is not looked at: the comparison with the expected output finds it.
 fn say(text: &[u8]) {

@@ -8,7 +8,7 @@ use Rattle.sets.specs.Set.{setOf, emptySet, insertedRange, unionOf, complementO
 use Rattle.kinds.specs.Kind.{isKind, isNotKind}
 use Rattle.kinds.specs.Case.{caseClosed}
 use Rattle.atoms.specs.declared.Atom.{Atom}
-use Rattle.atoms.specs.declared.Atom.the-variants.{Byte, OfKind, NotOfKind, Dot, NotNewline, Start, End}
+use Rattle.atoms.specs.declared.Atom.the-variants.{Byte, OfKind, NotOfKind, Dot, NotNewline, Start, LastLine, End}
 use Rattle.atoms.specs.declared.Part.{Part}
 use Rattle.classes.specs.declared.Member.{Member}
 use Rattle.atoms.specs.declared.Gap.{Gap}
@@ -45,6 +45,7 @@ isType (NotOfKind k) = true
 isType Dot = false
 isType NotNewline = false
 isType Start = false
+isType LastLine = false
 isType End = false
 
 -- the byte that an atom stands for, else 0
@@ -55,6 +56,7 @@ byteOf (NotOfKind k) = 0
 byteOf Dot = 0
 byteOf NotNewline = 0
 byteOf Start = 0
+byteOf LastLine = 0
 byteOf End = 0
 
 -- 9, "range falling, or with a type such as `\d` at either end": the fault of the two ends as a range. A faulty end is no type, and its byte is
@@ -116,6 +118,7 @@ joined set (NotOfKind k) high = unionOf set (setOf (isNotKind k))
 joined set Dot high = set
 joined set NotNewline high = set
 joined set Start high = set
+joined set LastLine high = set
 joined set End high = set
 
 -- a refusal's number and place

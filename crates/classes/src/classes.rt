@@ -24,6 +24,7 @@ fn join(set: [u64; 4], low: Atom, high: Atom) -> [u64; 4]
         Atom::Dot => set,
         Atom::NotNewline => set,
         Atom::Start => set,
+        Atom::LastLine => set,
         Atom::End => set,
     }
 }

@@ -58,6 +58,7 @@ fn is_type(atom: Atom) -> bool
         Atom::Dot => false,
         Atom::NotNewline => false,
         Atom::Start => false,
+        Atom::LastLine => false,
         Atom::End => false,
     }
 }
@@ -73,6 +74,7 @@ pub(super) fn byte_of(atom: Atom) -> u8
         Atom::Dot => 0,
         Atom::NotNewline => 0,
         Atom::Start => 0,
+        Atom::LastLine => 0,
         Atom::End => 0,
     }
 }

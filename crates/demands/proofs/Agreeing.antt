@@ -1,22 +1,22 @@
 -- Two automata that agree about their rules and positions do the same with every byte. The calls ask an automaton about its own positions and rules only,
--- and a live set has no others. Assumes nothing.
+-- and what is live or held is no other. Assumes nothing.
 use mathlib.Core.Path.{_≡_, refl, sym, ap, ap₂, _∙_}
 use mathlib.Core.Bool.{Bool, true, false, cond, not, _&&_, _||_}
 use mathlib.Core.List.{List, [], _∷_, _++_}
-use Prim.Native.Nat.{ℕ, zero, suc, _+_, _/_, _%_, _≤_, _<_}
+use Prim.Native.Nat.{ℕ, zero, suc, _+_, _-_, _/_, _%_, _≤_, _<_}
 use native.Mathlib.Omega.{arith}
 use native.Mathlib.Decide.{decLt}
 use lib.Dec.{eqb, leb, ltb}
 use lib.ListN.{length, getD, replicate}
 use borrow.Author.Tests.{le-ltb}
-use Rattle.sets.specs.Set.{on, has, any}
-use Rattle.sets.proofs.Laws.{has-setOf, setOf-ext, any-ext}
+use Rattle.sets.specs.Set.{on, has, any, emptySet, unionOf}
+use Rattle.sets.proofs.Laws.{has-setOf, has-empty, has-union, setOf-ext, any-ext}
 use Rattle.sets.proofs.Digits.{wordOf-ext}
 use Rattle.table.specs.Layout.{maxPositions}
-use Rattle.table.specs.Automaton.{Automaton}
-use Rattle.steps.specs.Step.{starts, stepped, ends, endsAtEnd}
+use Rattle.table.specs.Automaton.{Automaton, firstIn, startIn, followIn, lastIn}
+use Rattle.steps.specs.Step.{starts, stepped, ends, endsLine, endsAtEnd}
 use Rattle.stream.specs.declared.Stream.{Stream}
-use Rattle.stream.specs.Byte.{nextLive, runIds, runMarks, byteIds, byteState, stateAfter, idsOf, endsOf, fits, closeIds}
+use Rattle.stream.specs.Byte.{nextLive, nextHeld, nextPending, runIds, runMarks, byteIds, byteState, stateAfter, idsOf, endsOf, fits, lineIds, endIds, closeIds, closeEnds}
 
 -- what the two say of the rules and positions that they have
 pub record Agree (w v : Automaton) : Type 0 where
@@ -24,11 +24,11 @@ pub record Agree (w v : Automaton) : Type 0 where
   pub positions : w .positions ≡ v .positions
   pub id : (a : ℕ) → a < w .rules → w .id a ≡ v .id a
   pub flags : (a : ℕ) → a < w .rules → w .flags a ≡ v .flags a
-  pub first : (q : ℕ) → q < w .positions → w .first q ≡ v .first q
-  pub start : (q : ℕ) → q < w .positions → w .firstAtStart q ≡ v .firstAtStart q
-  pub follow : (p q : ℕ) → q < w .positions → w .follow p q ≡ v .follow p q
+  pub first : (line : Bool) (q : ℕ) → q < w .positions → firstIn w line q ≡ firstIn v line q
+  pub start : (line : Bool) (q : ℕ) → q < w .positions → startIn w line q ≡ startIn v line q
+  pub follow : (line : Bool) (p q : ℕ) → q < w .positions → followIn w line p q ≡ followIn v line p q
   pub takes : (x q : ℕ) → x < 256 → q < w .positions → w .takes x q ≡ v .takes x q
-  pub last : (a p : ℕ) → a < w .rules → p < w .positions → w .last a p ≡ v .last a p
+  pub last : (line : Bool) (a p : ℕ) → a < w .rules → p < w .positions → lastIn w line a p ≡ lastIn v line a p
   pub last-at-end : (a p : ℕ) → a < w .rules → p < w .positions → w .lastAtEnd a p ≡ v .lastAtEnd a p
 
 -- below n two tests agree, and past it nothing is asked
@@ -47,35 +47,68 @@ both true c d h = h refl
 both false c d h = refl
 
 module _ (w v : Automaton) (same : Agree w v) where
-  -- every live position is one of the automaton's
-  abbrev pub Inside : Stream → Type 0
-  Inside s = (q : ℕ) → q < maxPositions → has (s .live) q ≡ true → q < w .positions
+  -- every position of a set is one of the automaton's
+  abbrev pub Within : List ℕ → Type 0
+  Within set = (q : ℕ) → q < maxPositions → has set q ≡ true → q < w .positions
 
-  next-agrees : (s : Stream) (x : ℕ) → x < 256 → nextLive w s x ≡ nextLive v s x
+  -- so is every live or held one
+  abbrev pub Inside : Stream → Type 0
+  Inside s = Within (s .live) × Within (s .held)
+
+  step-agrees : (line : Bool) (live : List ℕ) (taken x : ℕ) → x < 256 → stepped w line (w .positions) live taken x ≡ stepped v line (v .positions) live taken x
   unfolding stepped starts
-  next-agrees s x small =
+  step-agrees line live taken x small =
       setOf-ext _ _ (λ q lt. below (w .positions) (v .positions) q _ _ (same .positions) (λ l.
       ap₂ _&&_ (same .takes x q small l)
-      (ap₂ _||_ (ap₂ (cond (eqb (s .taken) 0)) (same .start q l) (same .first q l))
-      (any-ext maxPositions _ _ (λ p m. ap (λ (b : Bool). has (s .live) p && b) (same .follow p q l))))))
+      (ap₂ _||_ (ap₂ (cond (eqb taken 0)) (same .start line q l) (same .first line q l))
+      (any-ext maxPositions _ _ (λ p m. ap (λ (b : Bool). has live p && b) (same .follow line p q l))))))
 
-  next-inside : (s : Stream) (x q : ℕ) → q < maxPositions → has (nextLive w s x) q ≡ true → q < w .positions
+  step-inside : (line : Bool) (live : List ℕ) (taken x : ℕ) → Within (stepped w line (w .positions) live taken x)
   unfolding stepped
-  next-inside s x q lt h = go (decLt q (w .positions))
+  step-inside line live taken x q lt h = go (decLt q (w .positions))
     where
       f : ℕ → Bool
-      f q = ltb q (w .positions) && (w .takes x q && (starts w (s .taken) q || any maxPositions (λ p. has (s .live) p && w .follow p q)))
+      f q = ltb q (w .positions) && (w .takes x q && (starts w line taken q || any maxPositions (λ p. has live p && followIn w line p q)))
 
       go : Dec (q < w .positions) → q < w .positions
       go (yes l) = l
       go (no ge) =
           absurd (mathlib.Core.Bool.true≢false (sym h ∙ has-setOf f q lt
-          ∙ ap (λ (b : Bool). b && (w .takes x q && (starts w (s .taken) q || any maxPositions (λ p. has (s .live) p && w .follow p q)))) (le-ltb q (w .positions) (omega arith))))
+          ∙ ap (λ (b : Bool). b && (w .takes x q && (starts w line taken q || any maxPositions (λ p. has live p && followIn w line p q)))) (le-ltb q (w .positions) (omega arith))))
 
-  module _ (live : List ℕ) (inside : (q : ℕ) → q < maxPositions → has live q ≡ true → q < w .positions) (a : ℕ) (lt : a < w .rules) where
+  next-agrees : (s : Stream) (x : ℕ) → x < 256 → nextLive w s x ≡ nextLive v s x
+  next-agrees s x small = step-agrees false (s .live) (s .taken) x small
+
+  next-inside : (s : Stream) (x : ℕ) → Within (nextLive w s x)
+  next-inside s x = step-inside false (s .live) (s .taken) x
+
+  held-agrees : (s : Stream) (x : ℕ) → x < 256 → nextHeld w s x ≡ nextHeld v s x
+  unfolding nextHeld
+  held-agrees s x small = ap (λ (l : List ℕ). cond (eqb x 10) l emptySet) (step-agrees true (s .live) (s .taken) x small)
+
+  held-inside : (s : Stream) (x : ℕ) → Within (nextHeld w s x)
+  unfolding nextHeld
+  held-inside s x = go (eqb x 10)
+    where
+      go : (b : Bool) → Within (cond b (stepped w true (w .positions) (s .live) (s .taken) x) emptySet)
+      go true = step-inside true (s .live) (s .taken) x
+      go false = λ q lt h. absurd (mathlib.Core.Bool.true≢false (sym h ∙ has-empty q lt))
+
+  union-inside : (l m : List ℕ) → Within l → Within m → Within (unionOf l m)
+  union-inside l m f g q lt h = go (has l q) refl
+    where
+      go : (b : Bool) → has l q ≡ b → q < w .positions
+      go true e = f q lt e
+      go false e = g q lt (sym (ap (λ (b : Bool). b || has m q) e) ∙ sym (has-union l m q lt) ∙ h)
+
+  module _ (live : List ℕ) (inside : Within live) (a : ℕ) (lt : a < w .rules) where
     ends-agrees : ends w live a ≡ ends v live a
     unfolding ends
-    ends-agrees = any-ext maxPositions _ _ (λ p m. both (has live p) _ _ (λ e. same .last a p lt (inside p m e)))
+    ends-agrees = any-ext maxPositions _ _ (λ p m. both (has live p) _ _ (λ e. same .last false a p lt (inside p m e)))
+
+    line-agrees : endsLine w live a ≡ endsLine v live a
+    unfolding endsLine
+    line-agrees = any-ext maxPositions _ _ (λ p m. both (has live p) _ _ (λ e. same .last true a p lt (inside p m e)))
 
     end-agrees : endsAtEnd w live a ≡ endsAtEnd v live a
     unfolding endsAtEnd
@@ -98,7 +131,15 @@ module _ (w v : Automaton) (same : Agree w v) where
   run-agrees : (f g : ℕ → Bool) (marks : ℕ) → ((a : ℕ) → a < w .rules → f a ≡ g a) → runIds w f marks (w .rules) ≡ runIds v g marks (v .rules)
   run-agrees f g marks e = runs-agree f g marks (w .rules) (omega arith) e ∙ ap (runIds v g marks) (same .rules)
 
-  module _ (s : Stream) (x : ℕ) (small : x < 256) where
+  -- the rules with a held pair
+  pending-agrees : (s : Stream) → Within (s .live) → (x : ℕ) → nextPending w s x ≡ nextPending v s x
+  unfolding nextPending
+  pending-agrees s inside x =
+      ap (λ (n : ℕ). cond (eqb x 10 && ltb 0 (s .taken)) n 0)
+      (wordOf-ext 64 _ _ (λ a h. below (w .rules) (v .rules) a _ _ (same .rules)
+      (λ l. ap₂ (λ (b c : Bool). b && not c) (line-agrees (s .live) inside a l) (ends-agrees (s .live) inside a l))))
+
+  module _ (s : Stream) (inside : Within (s .live)) (x : ℕ) (small : x < 256) where
     ending : (a : ℕ) → a < w .rules → ends w (nextLive w s x) a ≡ ends v (nextLive v s x) a
     ending a lt = ends-agrees (nextLive w s x) (next-inside s x) a lt ∙ ap (λ (l : List ℕ). ends v l a) (next-agrees s x small)
 
@@ -109,21 +150,34 @@ module _ (w v : Automaton) (same : Agree w v) where
     state-agrees : byteState w s x ≡ byteState v s x
     unfolding byteState
     state-agrees =
-        ap₂ (λ (l : List ℕ) (m : ℕ). record { live = l; reported = m; taken = suc (s .taken); rules = s .rules; positions = s .positions; closed = s .closed })
-        (next-agrees s x small) (marks-agree _ _ (s .reported) ending)
+        λ i. record {
+          live = next-agrees s x small i;
+          held = held-agrees s x small i;
+          reported = marks-agree _ _ (s .reported) ending i;
+          pending = pending-agrees s inside x i;
+          taken = suc (s .taken);
+          rules = s .rules;
+          positions = s .positions;
+          closed = s .closed;
+        }
 
   -- ---- the bytes of a block
 
-  module _ (s : Stream) (block : List ℕ) (small : (i : ℕ) → i < length block → getD block i 0 < 256) where
+  pub inside-after : (s : Stream) (block : List ℕ) → Inside s → (k : ℕ) → Inside (stateAfter w s block k)
+  unfolding stateAfter byteState
+  inside-after s block inside zero = inside
+  inside-after s block inside (suc k) = (next-inside (stateAfter w s block k) (getD block k 0), held-inside (stateAfter w s block k) (getD block k 0))
+
+  module _ (s : Stream) (inside : Inside s) (block : List ℕ) (small : (i : ℕ) → i < length block → getD block i 0 < 256) where
     pub states-agree : (k : ℕ) → k ≤ length block → stateAfter w s block k ≡ stateAfter v s block k
     unfolding stateAfter
     states-agree zero le = refl
     states-agree (suc k) le =
-        state-agrees (stateAfter w s block k) (getD block k 0) (small k le) ∙ ap (λ (x : Stream). byteState v x (getD block k 0)) (states-agree k (omega arith))
+        state-agrees (stateAfter w s block k) (inside-after s block inside k .0) (getD block k 0) (small k le) ∙ ap (λ (x : Stream). byteState v x (getD block k 0)) (states-agree k (omega arith))
 
     bytes-agree : (k : ℕ) → k < length block → byteIds w (stateAfter w s block k) (getD block k 0) ≡ byteIds v (stateAfter v s block k) (getD block k 0)
     bytes-agree k lt =
-        ids-agree (stateAfter w s block k) (getD block k 0) (small k lt) ∙ ap (λ (x : Stream). byteIds v x (getD block k 0)) (states-agree k (omega arith))
+        ids-agree (stateAfter w s block k) (inside-after s block inside k .0) (getD block k 0) (small k lt) ∙ ap (λ (x : Stream). byteIds v x (getD block k 0)) (states-agree k (omega arith))
 
     pub all-ids-agree : (k : ℕ) → k ≤ length block → idsOf w s block k ≡ idsOf v s block k
     unfolding idsOf
@@ -142,13 +196,22 @@ module _ (w v : Automaton) (same : Agree w v) where
     fits-agree room (suc k) le =
         ap₂ (λ (l : List ℕ) (n : ℕ). cond (leb (length l) room) (suc k) n) (all-ids-agree (suc k) le) (fits-agree room k (omega arith))
 
-  pub inside-after : (s : Stream) (block : List ℕ) → Inside s → (k : ℕ) → Inside (stateAfter w s block k)
-  unfolding stateAfter byteState
-  inside-after s block inside zero = inside
-  inside-after s block inside (suc k) = next-inside (stateAfter w s block k) (getD block k 0)
+  module _ (s : Stream) (inside : Inside s) where
+    line-ids-agree : lineIds w s ≡ lineIds v s
+    unfolding lineIds
+    line-ids-agree = run-agrees _ _ (s .reported) (λ a lt. refl)
 
-  pub closing-agrees : (s : Stream) → Inside s → closeIds w s ≡ closeIds v s
-  unfolding closeIds
-  closing-agrees s inside =
-      run-agrees _ _ (s .reported)
-      (λ a lt. ap₂ (λ (b c : Bool). b && not c) (end-agrees (s .live) inside a lt) (ends-agrees (s .live) inside a lt))
+    end-ids-agree : endIds w s ≡ endIds v s
+    unfolding endIds
+    end-ids-agree =
+        run-agrees _ _ (runMarks w (on (s .pending)) (s .reported))
+        (λ a lt. ap₂ (λ (b c : Bool). b && not c) (end-agrees (unionOf (s .live) (s .held)) (union-inside (s .live) (s .held) (inside .0) (inside .1)) a lt) (ends-agrees (s .live) (inside .0) a lt))
+        ∙ ap (λ (m : ℕ). runIds v (λ a. endsAtEnd v (unionOf (s .live) (s .held)) a && not (ends v (s .live) a)) m (v .rules)) (marks-agree _ _ (s .reported) (λ a lt. refl))
+
+    pub closing-agrees : closeIds w s ≡ closeIds v s
+    unfolding closeIds
+    closing-agrees = ap₂ _++_ line-ids-agree end-ids-agree
+
+    pub closing-ends-agree : closeEnds w s ≡ closeEnds v s
+    unfolding closeEnds
+    closing-ends-agree = ap₂ (λ (l m : List ℕ). replicate (length l) (s .taken - 1) ++ replicate (length m) (s .taken)) line-ids-agree end-ids-agree

@@ -2,16 +2,16 @@
 -- nothing.
 use mathlib.Core.Path.{_≡_, refl, sym, ap, ap₂, _∙_}
 use mathlib.Core.List.{List, [], _∷_, _++_, map, zip}
-use Prim.Native.Nat.{ℕ, zero, suc, _+_, _≤_}
+use Prim.Native.Nat.{ℕ, zero, suc, _+_, _-_, _≤_}
 use native.Mathlib.Omega.{arith}
-use lib.ListN.{length, getD, take, drop, replicate, take-append-drop}
+use lib.ListN.{length, getD, take, drop, replicate, take-append-drop, length-append, length-replicate}
 use lib.Seq.{length-take-le}
 use Rattle.table.specs.Automaton.{Automaton}
 use Rattle.stream.specs.declared.Stream.{Stream}
-use Rattle.stream.specs.Byte.{byteIds, stateAfter, idsOf, endsOf}
+use Rattle.stream.specs.Byte.{byteIds, stateAfter, idsOf, endsOf, lineIds, endIds, closeIds, closeEnds}
 use Rattle.stream.proofs.Blocks.{state-front, ids-front, ends-front, ends-count, two-parts}
-use Rattle.regex.specs.Ordered.{Pair, pair, Entry}
-use Rattle.demands.proofs.Whole.{run, entriesOf}
+use Rattle.regex.specs.Ordered.{closing-moment, Pair, pair, Entry}
+use Rattle.demands.proofs.Whole.{run, entriesOf, closingOf}
 
 -- the first k bytes of a block are a block of their own
 module _ (w : Automaton) (s : Stream) (block : List ℕ) (k : ℕ) (le : k ≤ length block) where
@@ -67,3 +67,23 @@ module _ (w : Automaton) where
       map-append (entriesOf w s bytes k) (run (suc k) (suc k) new)
       ∙ ap₂ (λ (x y : List Pair). x ++ y) (entries-pairs s bytes fresh k) (run-pairs (suc k) (suc k) new ∙ ap (λ (o : ℕ). zip new (replicate (length new) o)) offset)
       ∙ sym (zip-append (idsOf w s bytes k) (endsOf w s bytes k) new (replicate (length new) (s .taken + suc k)) (sym (ends-count w s bytes k)))
+
+  -- the closing has an offset for each id
+  pub close-count : (s : Stream) → length (closeEnds w s) ≡ length (closeIds w s)
+  unfolding closeIds closeEnds
+  close-count s =
+      length-append (replicate (length (lineIds w s)) (s .taken - 1)) (replicate (length (endIds w s)) (s .taken))
+      ∙ ap₂ (λ (x y : ℕ). x + y) (length-replicate (length (lineIds w s)) (s .taken - 1)) (length-replicate (length (endIds w s)) (s .taken))
+      ∙ sym (length-append (lineIds w s) (endIds w s))
+
+  -- and its pairs are those of its two runs
+  pub closing-pairs : (s : Stream) (bytes : List ℕ) (last : Stream) → length bytes ≡ last .taken → map pair (closingOf w s bytes last) ≡ zip (closeIds w last) (closeEnds w last)
+  unfolding closingOf closeIds closeEnds
+  closing-pairs s bytes last offset =
+      let one : List ℕ = lineIds w last in
+      let two : List ℕ = endIds w last in
+      map-append (run (closing-moment bytes) (length bytes - 1) one) (run (closing-moment bytes) (length bytes) two)
+      ∙ ap₂ (λ (x y : List Pair). x ++ y)
+      (run-pairs (closing-moment bytes) (length bytes - 1) one ∙ ap (λ (o : ℕ). zip one (replicate (length one) (o - 1))) offset)
+      (run-pairs (closing-moment bytes) (length bytes) two ∙ ap (λ (o : ℕ). zip two (replicate (length two) o)) offset)
+      ∙ sym (zip-append one (replicate (length one) (last .taken - 1)) two (replicate (length two) (last .taken)) (sym (length-replicate (length one) (last .taken - 1))))

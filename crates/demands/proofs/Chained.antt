@@ -8,7 +8,7 @@ use Prim.Native.Nat.{ℕ, zero, suc, _-_, _≤_, _<_}
 use native.Mathlib.Omega.{arith}
 use native.Mathlib.Decide.{ℕ-discrete}
 use lib.Dec.{ltb}
-use lib.ListN.{length, take, drop, replicate, length-replicate, length-take}
+use lib.ListN.{length, take, drop, length-take}
 use lib.Seq.{take-append-seam, getD-take}
 use borrow.Author.Tests.{eq-eqb, ne-eqb}
 use Rattle.table.specs.Layout.{tableWords}
@@ -17,7 +17,7 @@ use Rattle.table.specs.Automaton.{Automaton, automaton}
 use Rattle.stream.specs.declared.Stream.{Stream}
 use Rattle.stream.specs.declared.Scanned.{Scanned}
 use Rattle.stream.specs.declared.Closed.{Closed}
-use Rattle.stream.specs.Byte.{stateAfter, idsOf, endsOf, closeIds}
+use Rattle.stream.specs.Byte.{stateAfter, idsOf, endsOf, closeIds, closeEnds}
 use Rattle.stream.specs.Calls.{space, scanNumber, closeNumber, takenBy, written, scanned, scannedIds, scannedOffsets, shut, closed, closedIds, closedOffsets}
 use Rattle.pattern.specs.Read.{readOf, optionsOf}
 use Rattle.card.specs.declared.Stored.{Stored}
@@ -29,7 +29,7 @@ use Rattle.demands.specs.Chain.{this, those, Other, emptying, adding, op
 use Rattle.stream.proofs.Blocks.{fits-le, ends-count, closed-after, two-parts}
 use Rattle.stream.proofs.Accepting.{accepted, close-number}
 use Rattle.stream.proofs.Results.{accepted-scan, refused-scan, close-number-is, accepted-close, refused-close}
-use Rattle.demands.proofs.Bytewise.{pairsOf, pairs-append, state-cut, pairs-cut}
+use Rattle.demands.proofs.Bytewise.{pairsOf, pairs-append, close-count, state-cut, pairs-cut}
 
 -- a refused call leaves the table as it was
 pub kept : (t : List ℕ) (o : Other) → ¬ (numberOf t o ≡ 0) → tableAfter t o ≡ t
@@ -108,15 +108,13 @@ module _ (t : List ℕ) (s : Stream) (ids offsets : List ℕ) where
 
   -- the reports of an accepted closing
   pub close-reports : number′ ≡ 0 → reportsIn (closed t s ids offsets .reports) (closedIds t s ids offsets) (closedOffsets t s ids offsets)
-      ≡ zip (closeIds w′ s) (replicate (length (closeIds w′ s)) (s .taken))
+      ≡ zip (closeIds w′ s) (closeEnds w′ s)
   unfolding closedIds closedOffsets
   close-reports ok =
-      let new : List ℕ = closeIds w′ s in
-      ap₂ (λ (n : ℕ) (b : Bool). reportsIn n (cond b (written new ids) ids) (cond b (written (replicate (length new) (s .taken)) offsets) offsets))
+      ap₂ (λ (n : ℕ) (b : Bool). reportsIn n (cond b (written (closeIds w′ s) ids) ids) (cond b (written (closeEnds w′ s) offsets) offsets))
       (ap (λ (c : Closed). c .reports) (accepted-close t s ids offsets ok)) (eq-eqb number′ 0 ok)
-      ∙ ap₂ zip (front-is new ids)
-      (ap (λ (n : ℕ). take n (written (replicate (length new) (s .taken)) offsets)) (sym (length-replicate (length new) (s .taken)))
-      ∙ front-is (replicate (length new) (s .taken)) offsets)
+      ∙ ap₂ zip (front-is (closeIds w′ s) ids)
+      (ap (λ (n : ℕ). take n (written (closeEnds w′ s) offsets)) (sym (close-count w′ s)) ∙ front-is (closeEnds w′ s) offsets)
 
 -- a closed stream refuses
 pub shut-scan : (t : List ℕ) (s : Stream) (len room : ℕ) → s .closed ≡ true → ¬ (scanNumber t s len room ≡ 0)
@@ -161,7 +159,7 @@ module _ (t : List ℕ) where
 
   -- the pairs of the closing
   abbrev pub closePairs : Stream → List Pair
-  closePairs s = zip (closeIds (automaton t) s) (replicate (length (closeIds (automaton t) s)) (s .taken))
+  closePairs s = zip (closeIds (automaton t) s) (closeEnds (automaton t) s)
 
   -- the bytes in one go, then the closing
   abbrev pub Goes : Stream → List ℕ → List Pair → Type 0

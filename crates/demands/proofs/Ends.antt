@@ -16,7 +16,7 @@ use Rattle.rules.specs.Additions.{Addition}
 use Rattle.rules.proofs.Checks.{accepted-rules, accepted-passes}
 use Rattle.stream.specs.declared.Stream.{Stream}
 use Rattle.stream.specs.declared.Closed.{Closed}
-use Rattle.stream.specs.Valid.{sameCounts, liveInside, marksSingle, underLimit, valid}
+use Rattle.stream.specs.Valid.{sameCounts, liveInside, marksSingle, underLimit, heldInside, pendingInside, pendingLate, valid}
 use Rattle.stream.specs.Calls.{space, spaceNumber, scanNumber, closeNumber, closed, overLimit}
 use Rattle.stream.proofs.Accepting.{fitting, accepted, close-number}
 use Rattle.stream.proofs.Results.{scan-number, close-number-is, accepted-close, closed-valid}
@@ -48,7 +48,7 @@ module _ (t : List ℕ) (a : Addition) (ok : addAnswer t (a .id) (a .flags) (a .
     bad : valid (automaton u) s ≡ false
     unfolding valid sameCounts
     bad =
-        ap (λ (z : Bool). (z && eqb (s .positions) (automaton u .positions)) && (liveInside (automaton u) s && (marksSingle (automaton u) s && underLimit s)))
+        ap (λ (z : Bool). (z && eqb (s .positions) (automaton u .positions)) && (liveInside (automaton u) s && (marksSingle (automaton u) s && (underLimit s && (heldInside (automaton u) s && (pendingInside (automaton u) s && pendingLate s))))))
         (ne-eqb (s .rules) (automaton u .rules) (λ e. omega (arith, accepted-rules t (a .id) (a .flags) (a .pattern) ok, count, e, rules-at u)))
 
 pub addition-ends-streams : AdditionEndsStreams

@@ -3,7 +3,7 @@
 use mathlib.Core.Path.{_≡_, refl, sym, subst, ap, ap₂, _∙_}
 use mathlib.Core.Bool.{Bool, true, false, cond, true≢false, _&&_}
 use mathlib.Core.List.{List, [], _∷_, _++_, zip}
-use Prim.Native.Nat.{ℕ, suc, _+_, _-_, _≤_}
+use Prim.Native.Nat.{ℕ, suc, _+_, _-_, _*_, _≤_}
 use Prim.Native.String.{String}
 use native.Mathlib.Omega.{arith}
 use lib.Dec.{T, eqb, leb, ltb, eqb→eq, leb→le, ltb→lt}
@@ -15,7 +15,7 @@ use Rattle.table.specs.Table.{all, isTable}
 use Rattle.table.specs.Automaton.{Automaton, automaton}
 use Rattle.table.proofs.Test.{all-at, accepted as passing}
 use Rattle.stream.specs.declared.Stream.{Stream}
-use Rattle.stream.specs.Byte.{byteIds, byteState, stateAfter, idsOf, endsOf, fits, closeIds}
+use Rattle.stream.specs.Byte.{byteIds, byteState, stateAfter, idsOf, endsOf, fits, closeIds, closeEnds}
 use Rattle.stream.specs.Valid.{streamLimit}
 use Rattle.stream.specs.Calls.{fresh, opened, space}
 use Rattle.stream.proofs.Results.{opened-stream, opened-valid}
@@ -75,7 +75,7 @@ module _ (w : Automaton) where
 
   -- the pairs that the closing reports
   unfoldable pub final : Stream → List Pair
-  final s = zip (closeIds w s) (replicate (length (closeIds w s)) (s .taken))
+  final s = zip (closeIds w s) (closeEnds w s)
 
   pass-is : (block : List ℕ) (s : Stream) → stateAfter w s block (length block) ≡ pass s block
   unfolding pass stateAfter
@@ -137,18 +137,18 @@ module _ (w : Automaton) where
         )
 
   module _ (few-rules : w .rules ≤ maxRules) (s : Stream) (running : s .closed ≡ false) where
-    scan-open : (len room : ℕ) → s .taken + len ≤ streamLimit → maxRules ≤ room → scanLeft (w .rules) s len room ≡ 0
+    scan-open : (len room : ℕ) → s .taken + len ≤ streamLimit → 2 * maxRules ≤ room → scanLeft (w .rules) s len room ≡ 0
     unfolding scanLeft
     scan-open len room short wide =
         let a : ltb streamLimit (s .taken + len) ≡ false = le-ltb streamLimit (s .taken + len) (omega arith) in
-        let b : ltb room (w .rules) ≡ false = le-ltb room (w .rules) (omega arith) in
+        let b : ltb room (2 * w .rules) ≡ false = le-ltb room (2 * w .rules) (omega arith) in
         rw (running, a, b)
 
-    close-open : (room : ℕ) → maxRules ≤ room → closeLeft (w .rules) s room ≡ 0
+    close-open : (room : ℕ) → 2 * maxRules ≤ room → closeLeft (w .rules) s room ≡ 0
     unfolding closeLeft
-    close-open room wide = let b : ltb room (w .rules) ≡ false = le-ltb room (w .rules) (omega arith) in rw (running, b)
+    close-open room wide = let b : ltb room (2 * w .rules) ≡ false = le-ltb room (2 * w .rules) (omega arith) in rw (running, b)
 
-    scan-whole : (b : String × List Pair) → T (Small s b) → passed s (bytes (b .0)) ≡ b .1 → (room : ℕ) → maxRules ≤ room
+    scan-whole : (b : String × List Pair) → T (Small s b) → passed s (bytes (b .0)) ≡ b .1 → (room : ℕ) → 2 * maxRules ≤ room
         → (gives w s (scans (bytes (b .0)) room) ≡ by-scan 0 (length (bytes (b .0))) (b .1)) × (moves w s (scans (bytes (b .0)) room) ≡ pass s (bytes (b .0)))
     unfolding gives moves
     scan-whole b ok same room wide =
@@ -161,16 +161,16 @@ module _ (w : Automaton) where
           ap₂ (λ (n k : ℕ). cond (eqb n 0) (stateAfter w s block k) s) number taken ∙ pass-is block s,
         )
 
-    close-whole : (room : ℕ) → maxRules ≤ room → gives w s (closes room) ≡ by-close 0 (final s)
+    close-whole : (room : ℕ) → 2 * maxRules ≤ room → gives w s (closes room) ≡ by-close 0 (final s)
     unfolding gives final
     close-whole room wide =
-        ap (λ (n : ℕ). cond (eqb n 0) (by-close 0 (zip (closeIds w s) (replicate (length (closeIds w s)) (s .taken)))) (by-close n [])) (close-open room wide)
+        ap (λ (n : ℕ). cond (eqb n 0) (by-close 0 (zip (closeIds w s) (closeEnds w s))) (by-close n [])) (close-open room wide)
 
   still-running : (block : List ℕ) (s : Stream) → s .closed ≡ false → pass s block .closed ≡ false
   still-running block s running = ap (λ (x : Stream). x .closed) (sym (pass-is block s)) ∙ closed-after w s block (length block) ∙ running
 
   roomy : w .rules ≤ maxRules → (bs : List (String × List Pair)) (closing : List Pair) (lent : ℕ → List ℕ × List ℕ)
-      → ((i : ℕ) → maxRules ≤ space (lent i .0) (lent i .1)) → (s : Stream) → s .closed ≡ false → T (follows s bs closing)
+      → ((i : ℕ) → 2 * maxRules ≤ space (lent i .0) (lent i .1)) → (s : Stream) → s .closed ≡ false → T (follows s bs closing)
       → run w s (callsIn (callsOn bs lent)) ≡ expected bs closing
   unfolding callsOn callsIn run expected follows
   roomy few [] closing lent wide s running h =
@@ -214,7 +214,7 @@ module _ (t : List ℕ) (rs : List Accepted) (built : Built t rs) where
   opened-is = opened-stream t table ∙ ap₂ (λ (n m : ℕ). fresh n m false) (built .rules) (built .positions)
 
   pub start-inside : Inside (automaton t) (computedOf rs) (built-agrees t rs built) (startOf rs)
-  start-inside q lt h = absurd (true≢false (sym h ∙ has-empty q lt))
+  start-inside = (λ q lt h. absurd (true≢false (sym h ∙ has-empty q lt)), λ q lt h. absurd (true≢false (sym h ∙ has-empty q lt)))
 
   few-rules : computedOf rs .rules ≤ maxRules
   few-rules = omega (arith, sym (built-agrees t rs built .rules), rules-at t, built .passed .rules)
@@ -222,7 +222,7 @@ module _ (t : List ℕ) (rs : List Accepted) (built : Built t rs) where
   pub log-gives : (log : Log) → T (follows (computedOf rs) (startOf rs) (log .blocks) (log .closing)) → Gives t log
   log-gives log h = (opens, λ lent wide. calls-give lent wide)
     where
-      calls-give : (lent : ℕ → List ℕ × List ℕ) → ((i : ℕ) → maxRules ≤ space (lent i .0) (lent i .1))
+      calls-give : (lent : ℕ → List ℕ × List ℕ) → ((i : ℕ) → 2 * maxRules ≤ space (lent i .0) (lent i .1))
           → outcomesOf t (begun t) (callsOn (log .blocks) lent) ≡ expected (log .blocks) (log .closing)
       calls-give lent wide =
           let v : Automaton = computedOf rs in

@@ -4,18 +4,18 @@ use mathlib.Core.Path.{_≡_, refl, sym, subst, ap, ap₂, _∙_}
 use mathlib.Core.Logic.{inl, inr}
 use mathlib.Core.Bool.{Bool, true, false, cond}
 use mathlib.Core.List.{List, [], _∷_, _++_, zip}
-use Prim.Native.Nat.{ℕ, zero, suc, _-_, _≤_}
+use Prim.Native.Nat.{ℕ, zero, suc, _-_, _*_, _≤_}
 use native.Mathlib.Omega.{arith}
 use native.Mathlib.Decide.{ℕ-discrete}
 use lib.Dec.{eqb, ltb}
-use lib.ListN.{length, take, replicate}
+use lib.ListN.{length, take}
 use borrow.Author.Tests.{eq-eqb, ne-eqb}
 use Rattle.table.specs.Table.{isTable}
 use Rattle.table.specs.Automaton.{Automaton, automaton}
 use Rattle.stream.specs.declared.Stream.{Stream}
 use Rattle.stream.specs.declared.Scanned.{Scanned}
 use Rattle.stream.specs.declared.Closed.{Closed}
-use Rattle.stream.specs.Byte.{stateAfter, idsOf, endsOf, fits, closeIds}
+use Rattle.stream.specs.Byte.{stateAfter, idsOf, endsOf, fits, closeIds, closeEnds}
 use Rattle.stream.specs.Valid.{valid}
 use Rattle.stream.specs.Calls.{space, spaceNumber, scanNumber, closeNumber, takenBy, scanned, scannedIds, scannedOffsets, shut, closed, closedIds, closedOffsets, overLimit}
 use Rattle.stream.proofs.Blocks.{fits-le}
@@ -24,7 +24,7 @@ use Rattle.regex.specs.Ordered.{Pair}
 use Rattle.demands.specs.Chain.{Item, scan, close, other, tableAfter, reportsIn, bytesOf, reportsOf, Outcome, by-scan, by-close, outcomesOf, OthersRefused, Closes, Bytes}
 use Rattle.demands.proofs.Chained.{kept, scan-reports, close-reports}
 use Rattle.demands.proofs.Validity.{scan-valid, close-valid}
-use Rattle.demands.proofs.Agreeing.{Agree, Inside, states-agree, all-ids-agree, all-ends-agree, fits-agree, inside-after, closing-agrees}
+use Rattle.demands.proofs.Agreeing.{Agree, Inside, states-agree, all-ids-agree, all-ends-agree, fits-agree, inside-after, closing-agrees, closing-ends-agree}
 
 -- a call of the stream, of whose lent lists only the space counts
 pub data Call : Type 0 where
@@ -39,10 +39,10 @@ callsIn (other o ∷ l) = callsIn l
 
 -- the numbers that are left once table and state fit
 unfoldable pub scanLeft : (rules : ℕ) → Stream → (len room : ℕ) → ℕ
-scanLeft rules s len room = cond (s .closed) 19 (cond (overLimit s len) 21 (cond (ltb room rules) 20 0))
+scanLeft rules s len room = cond (s .closed) 19 (cond (overLimit s len) 21 (cond (ltb room (2 * rules)) 20 0))
 
 unfoldable pub closeLeft : (rules : ℕ) → Stream → (room : ℕ) → ℕ
-closeLeft rules s room = cond (s .closed) 19 (cond (ltb room rules) 20 0)
+closeLeft rules s room = cond (s .closed) 19 (cond (ltb room (2 * rules)) 20 0)
 
 module _ (w : Automaton) where
   abbrev bytesTaken : Stream → List ℕ → ℕ → ℕ
@@ -53,7 +53,7 @@ module _ (w : Automaton) where
   pairsTo s block k = zip (idsOf w s block k) (endsOf w s block k)
 
   abbrev pairsAtEnd : Stream → List Pair
-  pairsAtEnd s = zip (closeIds w s) (replicate (length (closeIds w s)) (s .taken))
+  pairsAtEnd s = zip (closeIds w s) (closeEnds w s)
 
   -- what a call gives, and the state after it
   unfoldable pub gives : Stream → Call → Outcome
@@ -125,7 +125,7 @@ module _ (t : List ℕ) (table : isTable t ≡ true) (s : Stream) (fit : valid (
     left′ = closeLeft (automaton t .rules) s (space ids offsets)
 
     abbrev last : List Pair
-    last = zip (closeIds (automaton t) s) (replicate (length (closeIds (automaton t) s)) (s .taken))
+    last = zip (closeIds (automaton t) s) (closeEnds (automaton t) s)
 
     abbrev given′ : Outcome
     given′ = by-close (closed t s ids offsets .number) (reportsIn (closed t s ids offsets .reports) (closedIds t s ids offsets) (closedOffsets t s ids offsets))
@@ -180,28 +180,28 @@ BytesIn (scans block room ∷ l) = Bytes block × BytesIn l
 BytesIn (closes room ∷ l) = BytesIn l
 
 module _ (w v : Automaton) (same : Agree w v) where
-  scan-same : (s : Stream) (block : List ℕ) (room : ℕ) → Bytes block
+  scan-same : (s : Stream) → Inside w v same s → (block : List ℕ) (room : ℕ) → Bytes block
       → (gives w s (scans block room) ≡ gives v s (scans block room)) × (moves w s (scans block room) ≡ moves v s (scans block room))
   unfolding gives moves
-  scan-same s block room small =
+  scan-same s inside block room small =
       let n : ℕ = length block in
       let k : ℕ = fits w s block room n in
       let le : k ≤ n = fits-le w s block room n in
-      let taken : k ≡ fits v s block room n = fits-agree w v same s block small room n (omega arith) in
+      let taken : k ≡ fits v s block room n = fits-agree w v same s inside block small room n (omega arith) in
       let left : scanLeft (w .rules) s n room ≡ scanLeft (v .rules) s n room = ap (λ (r : ℕ). scanLeft r s n room) (same .rules) in
       let pairs : zip (idsOf w s block k) (endsOf w s block k) ≡ zip (idsOf v s block k) (endsOf v s block k) =
-      ap₂ zip (all-ids-agree w v same s block small k le) (all-ends-agree w v same s block small k le) in (
+      ap₂ zip (all-ids-agree w v same s inside block small k le) (all-ends-agree w v same s inside block small k le) in (
         ap₂ (λ (m : ℕ) (l : List Pair). cond (eqb m 0) (by-scan 0 k l) (by-scan m 0 [])) left pairs
             ∙ ap (λ (j : ℕ). cond (eqb (scanLeft (v .rules) s n room) 0) (by-scan 0 j (zip (idsOf v s block j) (endsOf v s block j))) (by-scan (scanLeft (v .rules) s n room) 0 [])) taken,
-        ap₂ (λ (m : ℕ) (x : Stream). cond (eqb m 0) x s) left (states-agree w v same s block small k le ∙ ap (λ (j : ℕ). stateAfter v s block j) taken),
+        ap₂ (λ (m : ℕ) (x : Stream). cond (eqb m 0) x s) left (states-agree w v same s inside block small k le ∙ ap (λ (j : ℕ). stateAfter v s block j) taken),
       )
 
   close-same : (s : Stream) (room : ℕ) → Inside w v same s
       → (gives w s (closes room) ≡ gives v s (closes room)) × (moves w s (closes room) ≡ moves v s (closes room))
   unfolding gives moves
   close-same s room inside = (
-    ap₂ (λ (m : ℕ) (l : List ℕ). cond (eqb m 0) (by-close 0 (zip l (replicate (length l) (s .taken)))) (by-close m []))
-        (ap (λ (r : ℕ). closeLeft r s room) (same .rules)) (closing-agrees w v same s inside),
+    ap₂ (λ (m : ℕ) (l : List Pair). cond (eqb m 0) (by-close 0 l) (by-close m []))
+        (ap (λ (r : ℕ). closeLeft r s room) (same .rules)) (ap₂ zip (closing-agrees w v same s inside) (closing-ends-agree w v same s inside)),
     ap (λ (r : ℕ). cond (eqb (closeLeft r s room) 0) (shut s) s) (same .rules),
   )
 
@@ -222,7 +222,7 @@ module _ (w v : Automaton) (same : Agree w v) where
   unfolding run BytesIn
   runs-same [] s inside small = refl
   runs-same (scans block room ∷ l) s inside small =
-      let g = scan-same s block room (small .0) in
+      let g = scan-same s inside block room (small .0) in
       ap₂ (λ (o : Outcome) (r : List Outcome). o ∷ r) (g .0)
       (runs-same l (moves w s (scans block room)) (moves-inside s (scans block room) inside) (small .1) ∙ ap (λ (x : Stream). run v x l) (g .1))
   runs-same (closes room ∷ l) s inside small =

@@ -3,7 +3,7 @@
 use mathlib.Core.Path.{_≡_, refl, sym, subst, ap, _∙_}
 use mathlib.Core.Bool.{true, false}
 use mathlib.Core.List.{List, List·Memᴰ, Memᴰ·of-map}
-use Prim.Native.Nat.{ℕ}
+use Prim.Native.Nat.{ℕ, _*_}
 use native.Mathlib.Nat.{zero-add}
 use native.Mathlib.Omega.{arith}
 use lib.ListN.{length}
@@ -111,7 +111,7 @@ busy-figure c items calls =
     let s : Stream = fresh (rulesOf t) (positionsOf t) false in
     let refused : OthersRefused t s items = subst (λ (s : Stream). OthersRefused t s items) (begins c (calls .0)) (calls .1) in
     let bytes : List ℕ = bytesOf t s items in
-    let first = tracks (automaton t) (b .rule) (b .from) (b .tab) (b .carries) bytes s refl refl refl in
+    let first = tracks (automaton t) (b .rule) (b .from) (b .tab) (b .carries) bytes s refl refl refl refl refl in
     let last = tracked (automaton t) (b .rule) (b .from) (b .tab) (b .carries) bytes (joined-bytes t items s refused (calls .2)) s first (length bytes) (omega arith) in
     let figure : Busy (rulesIn c) bytes (busyOf (stateAfter (automaton t) s bytes (length bytes))) =
     busy-is t (rulesIn c) b bytes (stateAfter (automaton t) s bytes (length bytes)) (last .alive) in
@@ -133,7 +133,7 @@ offered-again c between log small short lists ids offsets enough roomy wide =
     let passes : isTable t ≡ true = table c between in
     let count : rulesOf t ≡ length (acceptedIn c) = built c between .rules in
     let calls : Offered t passes (streamIn c) log (offering t (streamIn c) log lists ids offsets) =
-    offered t passes lists ids offsets (omega (arith, count, wide)) (subst (λ (n : ℕ). Roomy n lists) (sym count) roomy) log small enough (streamIn c)
+    offered t passes lists ids offsets (omega (arith, count, wide)) (subst (λ (n : ℕ). Roomy (2 * n) lists) (sym count) roomy) log small enough (streamIn c)
     (opened-valid t passes) (ap (λ (s : Stream). s .closed) (begins c between)) (omega (arith, short, ap (λ (s : Stream). s .taken) (begins c between))) in
     subst (λ (l : List ℕ). Ordered (rulesIn c) l (reportsOf t (streamIn c) (offering t (streamIn c) log lists ids offsets))) (calls .bytes)
     (demand3 c (offering t (streamIn c) log lists ids offsets) (between, calls .others, calls .blocks) (calls .closes))

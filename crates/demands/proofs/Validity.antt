@@ -4,7 +4,7 @@ use mathlib.Core.Path.{_≡_, refl, sym, subst, ap, _∙_}
 use mathlib.Core.Logic.{inl}
 use mathlib.Core.Bool.{Bool, true, false, cond, true≢false}
 use mathlib.Core.List.{List, [], _∷_, _++_}
-use Prim.Native.Nat.{ℕ, suc, _+_, _-_, _≤_, _<_}
+use Prim.Native.Nat.{ℕ, suc, _+_, _-_, _*_, _≤_, _<_}
 use native.Mathlib.Omega.{arith}
 use native.Mathlib.Decide.{ℕ-discrete}
 use lib.Dec.{ltb}
@@ -28,7 +28,7 @@ use Rattle.demands.proofs.Chained.{kept}
 -- the numbers that are left when table and state pass
 space-fit : (t : List ℕ) (room : ℕ) → Fit (spaceNumber t room)
 unfolding spaceNumber
-space-fit t room = go (ltb room (rulesOf t))
+space-fit t room = go (ltb room (2 * rulesOf t))
   where
     go : (b : Bool) → Fit (cond b 20 0)
     go true = (λ h. absurd (omega (arith, h)), λ h. absurd (omega (arith, h)))
@@ -90,27 +90,27 @@ all-fit t table (other o ∷ l) s fits h =
 -- ---- offering what was not taken again
 
 module _ (t : List ℕ) (table : isTable t ≡ true) where
-  scan-accepted : (s : Stream) → valid (automaton t) s ≡ true → s .closed ≡ false → (len room : ℕ) → s .taken + len ≤ streamLimit → rulesOf t ≤ room
+  scan-accepted : (s : Stream) → valid (automaton t) s ≡ true → s .closed ≡ false → (len room : ℕ) → s .taken + len ≤ streamLimit → 2 * rulesOf t ≤ room
       → scanNumber t s len room ≡ 0
   unfolding scanNumber spaceNumber
   scan-accepted s fits running len room short wide =
-      ap (λ (b : Bool). cond b (cond (valid (automaton t) s) (cond (s .closed) 19 (cond (overLimit s len) 21 (cond (ltb room (rulesOf t)) 20 0))) 18) 1) table
-      ∙ ap (λ (b : Bool). cond b (cond (s .closed) 19 (cond (overLimit s len) 21 (cond (ltb room (rulesOf t)) 20 0))) 18) fits
-      ∙ ap (λ (b : Bool). cond b 19 (cond (overLimit s len) 21 (cond (ltb room (rulesOf t)) 20 0))) running
-      ∙ ap (λ (b : Bool). cond b 21 (cond (ltb room (rulesOf t)) 20 0)) (le-ltb streamLimit (s .taken + len) short)
-      ∙ ap (λ (b : Bool). cond b 20 0) (le-ltb room (rulesOf t) wide)
+      ap (λ (b : Bool). cond b (cond (valid (automaton t) s) (cond (s .closed) 19 (cond (overLimit s len) 21 (cond (ltb room (2 * rulesOf t)) 20 0))) 18) 1) table
+      ∙ ap (λ (b : Bool). cond b (cond (s .closed) 19 (cond (overLimit s len) 21 (cond (ltb room (2 * rulesOf t)) 20 0))) 18) fits
+      ∙ ap (λ (b : Bool). cond b 19 (cond (overLimit s len) 21 (cond (ltb room (2 * rulesOf t)) 20 0))) running
+      ∙ ap (λ (b : Bool). cond b 21 (cond (ltb room (2 * rulesOf t)) 20 0)) (le-ltb streamLimit (s .taken + len) short)
+      ∙ ap (λ (b : Bool). cond b 20 0) (le-ltb room (2 * rulesOf t) wide)
 
-  close-accepted : (s : Stream) → valid (automaton t) s ≡ true → s .closed ≡ false → (room : ℕ) → rulesOf t ≤ room → closeNumber t s room ≡ 0
+  close-accepted : (s : Stream) → valid (automaton t) s ≡ true → s .closed ≡ false → (room : ℕ) → 2 * rulesOf t ≤ room → closeNumber t s room ≡ 0
   unfolding closeNumber spaceNumber
   close-accepted s fits running room wide =
-      ap (λ (b : Bool). cond b (cond (valid (automaton t) s) (cond (s .closed) 19 (cond (ltb room (rulesOf t)) 20 0)) 18) 1) table
-      ∙ ap (λ (b : Bool). cond b (cond (s .closed) 19 (cond (ltb room (rulesOf t)) 20 0)) 18) fits
-      ∙ ap (λ (b : Bool). cond b 19 (cond (ltb room (rulesOf t)) 20 0)) running
-      ∙ ap (λ (b : Bool). cond b 20 0) (le-ltb room (rulesOf t) wide)
+      ap (λ (b : Bool). cond b (cond (valid (automaton t) s) (cond (s .closed) 19 (cond (ltb room (2 * rulesOf t)) 20 0)) 18) 1) table
+      ∙ ap (λ (b : Bool). cond b (cond (s .closed) 19 (cond (ltb room (2 * rulesOf t)) 20 0)) 18) fits
+      ∙ ap (λ (b : Bool). cond b 19 (cond (ltb room (2 * rulesOf t)) 20 0)) running
+      ∙ ap (λ (b : Bool). cond b 20 0) (le-ltb room (2 * rulesOf t) wide)
 
   -- one scan that offers a log
   module _ (s : Stream) (fits : valid (automaton t) s ≡ true) (running : s .closed ≡ false) (log : List ℕ) (limit : s .taken + length log ≤ streamLimit)
-      (ids offsets : List ℕ) (wide : rulesOf t ≤ space ids offsets) where
+      (ids offsets : List ℕ) (wide : 2 * rulesOf t ≤ space ids offsets) where
     abbrev r : Scanned
     r = scanned t s log ids offsets
 
@@ -156,7 +156,7 @@ module _ (t : List ℕ) (table : isTable t ≡ true) where
     pub others : OthersRefused t s items
     pub blocks : Blocks items
 
-  pub offered : (lists : List (List ℕ × List ℕ)) (ids offsets : List ℕ) → rulesOf t ≤ space ids offsets → Roomy (rulesOf t) lists
+  pub offered : (lists : List (List ℕ × List ℕ)) (ids offsets : List ℕ) → 2 * rulesOf t ≤ space ids offsets → Roomy (2 * rulesOf t) lists
       → (log : List ℕ) → Bytes log → length log ≤ length lists → (s : Stream) → valid (automaton t) s ≡ true → s .closed ≡ false → s .taken + length log ≤ streamLimit
       → Offered s log (offering t s log lists ids offsets)
   unfolding offering Roomy bytesOf Closes OthersRefused Blocks

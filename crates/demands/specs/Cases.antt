@@ -3,7 +3,7 @@
 -- `worked-cases` of proofs/Cases.antt. Assumes nothing: these are definitions.
 use mathlib.Core.Path.{_≡_}
 use mathlib.Core.List.{List, [], _∷_, map, List·Memᴰ}
-use Prim.Native.Nat.{ℕ, suc, _≤_, _%_, _^_}
+use Prim.Native.Nat.{ℕ, suc, _*_, _≤_, _%_, _^_}
 use Prim.Native.String.{String}
 use native.Mathlib.Omega.{arith}
 use lib.ListN.{length}
@@ -46,11 +46,11 @@ unfoldable pub expected : List (String × List Pair) → List Pair → List Outc
 expected [] closing = by-close 0 closing ∷ []
 expected (b ∷ bs) closing = by-scan 0 (length (bytes (b .0))) (b .1) ∷ expected bs closing
 
--- the opening on a table is accepted, and the calls after it give this, whatever the lists hold before, if both have a slot for each rule that a table may
+-- the opening on a table is accepted, and the calls after it give this, whatever the lists hold before, if both have two slots for each rule that a table may
 -- have
 abbrev pub Gives : List ℕ → Log → Type 0
 Gives t log = (opened t .number ≡ 0)
-    × ((lent : ℕ → List ℕ × List ℕ) → ((i : ℕ) → maxRules ≤ space (lent i .0) (lent i .1))
+    × ((lent : ℕ → List ℕ × List ℕ) → ((i : ℕ) → 2 * maxRules ≤ space (lent i .0) (lent i .1))
     → outcomesOf t (begun t) (callsOn (log .blocks) lent) ≡ expected (log .blocks) (log .closing))
 
 abbrev pub AllGive : List ℕ → List Log → Type 0
@@ -121,8 +121,8 @@ cases =
     -- "`^a` on `aa`: 1. `[]a]` on `]`: 1."
     ∷ hits 1 0 "^a" (log 1 (("aa", 1 ∷ []) ∷ []) [] ∷ [])
     ∷ hits 12 0 "[]a]" (log 12 (("]", 1 ∷ []) ∷ []) [] ∷ [])
-    -- "`a$` on `a` and byte 10: none."
-    ∷ hits 11 0 "a$" (log 11 (("a\n", []) ∷ []) [] ∷ [])
+    -- "`a$` on `a` and byte 10", of which "`a$` now gives 1, at closing"
+    ∷ hits 11 0 "a$" (log 11 (("a\n", []) ∷ []) (1 ∷ []) ∷ [])
     -- "`[z-a]` 9 at 1; `a*+` 14 at 1; `a)` 12 at 1; `(a` 12 at 2; `\x{100}` 7 at 0; `X{,4}` 15 at 5; empty pattern 15 at 0."
     ∷ refuses 21 0 "[z-a]" 9 1
     ∷ refuses 22 0 "a*+" 14 1
@@ -147,7 +147,7 @@ logs =
     ∷ cut (("aXX", (1, 1) ∷ (3, 1) ∷ (8, 1) ∷ (12, 1) ∷ (8, 2) ∷ (8, 3) ∷ []) ∷ []) []
     ∷ cut (("aa", (1, 1) ∷ (3, 1) ∷ (8, 1) ∷ (12, 1) ∷ (3, 2) ∷ (8, 2) ∷ (12, 2) ∷ []) ∷ []) ((2, 2) ∷ (11, 2) ∷ [])
     ∷ cut (("]", (12, 1) ∷ []) ∷ []) []
-    ∷ cut (("a\n", (1, 1) ∷ (3, 1) ∷ (8, 1) ∷ (12, 1) ∷ []) ∷ []) []
+    ∷ cut (("a\n", (1, 1) ∷ (3, 1) ∷ (8, 1) ∷ (12, 1) ∷ []) ∷ []) ((11, 1) ∷ [])
     ∷ []
 
 -- every case holds, the rule alone; and all of them hold together

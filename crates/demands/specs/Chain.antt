@@ -167,10 +167,10 @@ offering t s log (lists ∷ more) ids offsets =
     scan log (lists .0) (lists .1)
     ∷ offering t (scanned t s log (lists .0) (lists .1) .stream) (drop (scanned t s log (lists .0) (lists .1) .taken) log) more ids offsets
 
--- every two lists have room for a report of each rule
+-- every two lists have room for n reports
 unfoldable pub Roomy : ℕ → List (List ℕ × List ℕ) → Type 0
-Roomy rules [] = Unit {0}
-Roomy rules (lists ∷ more) = (rules ≤ space (lists .0) (lists .1)) × Roomy rules more
+Roomy n [] = Unit {0}
+Roomy n (lists ∷ more) = (n ≤ space (lists .0) (lists .1)) × Roomy n more
 
 -- a block is of bytes
 abbrev pub Bytes : List ℕ → Type 0

@@ -5,7 +5,7 @@ use mathlib.Core.Path.{_≡_}
 use mathlib.Core.Logic.{_↔_}
 use mathlib.Core.List.{List, [], map, List·Memᴰ}
 use mathlib.Core.Bool.{true}
-use Prim.Native.Nat.{ℕ, _+_, _<_, _≤_}
+use Prim.Native.Nat.{ℕ, _+_, _*_, _<_, _≤_}
 use lib.Bits.{bitAnd}
 use lib.ListN.{length}
 use Rattle.table.specs.Layout.{tableWords, maxRules, maxPositions}
@@ -15,8 +15,8 @@ use Rattle.stream.specs.declared.Stream.{Stream}
 use Rattle.stream.specs.Valid.{streamLimit, valid}
 use Rattle.stream.specs.Calls.{space, scanned, closed, busyOf}
 use Rattle.regex.specs.Form.{write, positions}
-use Rattle.regex.specs.Rule.{Rule, Reported}
-use Rattle.regex.specs.Ordered.{Pair, Ordered, Once}
+use Rattle.regex.specs.Rule.{Rule}
+use Rattle.regex.specs.Ordered.{Reported, Pair, Ordered, Once}
 use Rattle.regex.specs.Live.{Busy}
 use Rattle.nodes.specs.Nodes.{Syntax}
 use Rattle.pattern.specs.Walk.{tree}
@@ -102,7 +102,7 @@ AcceptedExactly = (c : Setting) → Between c → (a : Addition)
 -- ---- demand 2, meaning
 
 -- "Scanning a whole stream and closing it reports each pair of rule id and end offset once, exactly when some earlier start matches the rule up to there under
--- its flags. A single-match rule reports only its smallest such offset."
+-- its flags."; "A single-match rule reports the pair first delivered, perhaps not its smallest offset."
 abbrev pub Meaning : Type 0
 Meaning = (c : Setting) (items : List Item) → Calls c items → closes c items
     → ((i e : ℕ) → List·Memᴰ (i, e) (joined c items) ↔ ((r : Rule) × List·Memᴰ r (rulesIn c) × (r .id ≡ i) × Reported r (taken c items) e))
@@ -119,10 +119,10 @@ abbrev pub Progress : Type 0
 Progress = (t : List ℕ) (s : Stream) (block ids offsets : List ℕ) → scanned t s block ids offsets .number ≡ 0 → 0 < length block
     → 0 < scanned t s block ids offsets .taken
 
--- "unused bytes may be offered again": as many scans as the log has bytes, each with room for one report of each rule, give the whole log's list.
+-- "unused bytes may be offered again": as many scans as the log has bytes, each with room for two reports of each rule, give the whole log's list.
 abbrev pub OfferedAgain : Type 0
 OfferedAgain = (c : Setting) → Between c → (log : List ℕ) → Bytes log → length log ≤ streamLimit → (lists : List (List ℕ × List ℕ)) (ids offsets : List ℕ)
-    → length log ≤ length lists → Roomy (length (acceptedIn c)) lists → length (acceptedIn c) ≤ space ids offsets
+    → length log ≤ length lists → Roomy (2 * length (acceptedIn c)) lists → 2 * length (acceptedIn c) ≤ space ids offsets
     → Ordered (rulesIn c) log (joined c (offering (tableIn c) (streamIn c) log lists ids offsets))
 
 -- two cuttings of one log, with any report space, give the same joined list

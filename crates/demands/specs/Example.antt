@@ -1,5 +1,5 @@
 -- One list of calls that meets what demand 3 asks for, so that the theorem is seen to speak of something: refused additions, other refused calls before the
--- opening and after it, report space for one report only, refused scans and closings, an empty block, and calls after the closing. The theorem is `instance` of
+-- opening and after it, report space for two reports only, refused scans and closings, an empty block, and calls after the closing. The theorem is `instance` of
 -- proofs/Example.antt. Assumes nothing: these are definitions.
 use mathlib.Core.Path.{_≡_}
 use mathlib.Core.List.{List, [], _∷_}
@@ -11,9 +11,12 @@ use Rattle.demands.specs.Chain.{this, those, adding, scanning, Step, add
 use Rattle.demands.specs.Demands.{Setting, tableIn, streamIn, rulesIn, Calls, closes, taken, joined}
 use Rattle.demands.specs.Cases.{bytes, rule}
 
--- two lists with one slot each
+-- a list with one slot, fewer than one rule needs, and one with two
 abbrev slot : List ℕ
 slot = 0 ∷ []
+
+abbrev slots : List ℕ
+slots = 0 ∷ 0 ∷ []
 
 unfoldable pub steps : List Step
 steps =
@@ -26,33 +29,31 @@ steps =
 
 unfoldable pub items : List Item
 items =
-    -- takes 2 bytes: the third has a second report
-    scan (bytes "abbb") slot slot
+    -- takes 3 bytes: the fourth has a third report
+    scan (bytes "abbb") slots slots
     -- refused with 3: the id is in the table
     ∷ other (adding this 5 0 (bytes "a"))
-    -- refused with 20: no report space
-    ∷ scan (bytes "bb") [] []
+    -- refused with 20: report space for one report
+    ∷ scan (bytes "b") slots slot
     -- refused with 1: no table
     ∷ other (scanning (those []) (begun []) (bytes "ab") slot slot)
-    ∷ scan (bytes "bb") slot slot
-    ∷ close [] []
     -- an empty block
-    ∷ scan [] slot slot
-    ∷ scan (bytes "b") slot slot
-    ∷ close slot slot
+    ∷ scan [] slots slots
+    ∷ close slot slots
+    ∷ scan (bytes "b") slots slots
+    ∷ close slots slots
     -- refused with 19: the stream is closed
-    ∷ scan (bytes "b") slot slot
-    ∷ close slot slot
+    ∷ scan (bytes "b") slots slots
+    ∷ close slots slots
     ∷ []
 
 -- what the scans and closings among them give
 unfoldable pub outcomes : List Outcome
 outcomes =
-    by-scan 0 2 ((5, 2) ∷ [])
+    by-scan 0 3 ((5, 2) ∷ (5, 3) ∷ [])
     ∷ by-scan 20 0 []
-    ∷ by-scan 0 1 ((5, 3) ∷ [])
-    ∷ by-close 20 []
     ∷ by-scan 0 0 []
+    ∷ by-close 20 []
     ∷ by-scan 0 1 ((5, 4) ∷ [])
     ∷ by-close 0 []
     ∷ by-scan 19 0 []

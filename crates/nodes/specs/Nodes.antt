@@ -7,7 +7,7 @@ use lib.Dec.{eqb, ltb}
 use lib.ListN.{getD, take, drop}
 use Rattle.atoms.specs.Number.{cap}
 use Rattle.regex.specs.Tree.{Tree, empty, item, assertion, then, or, repeat, Extra, atMost, unbounded}
-use Rattle.regex.specs.Rule.{Assertion, at-start, at-end, ByteSet}
+use Rattle.regex.specs.Rule.{Assertion, at-start, at-last-line, at-end, ByteSet}
 
 abbrev pub Syntax : Type 0
 Syntax = Tree ByteSet Assertion
@@ -36,12 +36,13 @@ abbrev pub numberOf : Extra → ℕ
 numberOf (atMost j) = j
 numberOf unbounded = cap
 
--- the two assertions
+-- the three assertions, as numbers: `^` and `\A`, `\z`, and `$` and `\Z`, for which every other number stands too
 abbrev pub assertionOf : ℕ → Assertion
-assertionOf x = cond (eqb x 0) at-start at-end
+assertionOf x = cond (eqb x 0) at-start (cond (eqb x 1) at-end at-last-line)
 
 abbrev pub codeOf : Assertion → ℕ
 codeOf at-start = 0
+codeOf at-last-line = 2
 codeOf at-end = 1
 
 -- the tree of a node's word, where `set` stands before it and t gives the trees of smaller numbers

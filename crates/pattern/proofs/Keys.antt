@@ -10,7 +10,7 @@ use denote.Enum.Declared.{tagOf}
 use Rattle.tokens.proofs.Token as token
 use Rattle.atoms.proofs.Atom as atom
 use Rattle.atoms.specs.declared.Atom.{Atom}
-use Rattle.atoms.specs.declared.Atom.the-variants.{Byte, OfKind, NotOfKind, Dot, NotNewline, Start, End}
+use Rattle.atoms.specs.declared.Atom.the-variants.{Byte, OfKind, NotOfKind, Dot, NotNewline, Start, LastLine, End}
 use Rattle.tokens.specs.declared.Token.{Token}
 use Rattle.tokens.specs.declared.Token.the-variants.{Finish, Bar, Close, Class, One, Open, Set, Note, Unclosed, Repeat, Bad}
 use Rattle.tokens.specs.declared.Lexeme.{Lexeme}
@@ -61,7 +61,8 @@ takes-byte (NotOfKind k) h = tt
 takes-byte Dot h = tt
 takes-byte NotNewline h = tt
 takes-byte Start h = miss (0 ∷ 1 ∷ 2 ∷ 3 ∷ 4 ∷ []) 5 tt h
-takes-byte End h = miss (0 ∷ 1 ∷ 2 ∷ 3 ∷ 4 ∷ []) 6 tt h
+takes-byte LastLine h = miss (0 ∷ 1 ∷ 2 ∷ 3 ∷ 4 ∷ []) 6 tt h
+takes-byte End h = miss (0 ∷ 1 ∷ 2 ∷ 3 ∷ 4 ∷ []) 7 tt h
 
 -- the tokens that end a branch
 pub ends : (t : Token) → Among (0 ∷ 1 ∷ 2 ∷ []) t → Ends t

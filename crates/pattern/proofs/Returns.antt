@@ -14,7 +14,7 @@ use Rattle.sets.proofs.Laws.{Words}
 use Rattle.classes.specs.declared as declared
 use Rattle.tokens.specs.declared.Options.{Options}
 use Rattle.atoms.specs.declared.Atom.{Atom}
-use Rattle.atoms.specs.declared.Atom.the-variants.{Byte, OfKind, NotOfKind, Dot, NotNewline, Start, End}
+use Rattle.atoms.specs.declared.Atom.the-variants.{Byte, OfKind, NotOfKind, Dot, NotNewline, Start, LastLine, End}
 use Rattle.tokens.specs.declared.Token.{Token}
 use Rattle.tokens.specs.declared.Token.the-variants.{Class, One, Open, Set, Note, Unclosed, Repeat}
 use Rattle.tokens.specs.declared.Lexeme.{Lexeme}
@@ -23,7 +23,7 @@ use Rattle.atoms.specs.Number.{cap}
 use Rattle.tokens.specs.Token.{lexemeOf, itemSet}
 use Rattle.atoms.proofs.Suffixes.{inside}
 use Rattle.regex.specs.Tree.{empty, item, assertion, then, or, repeat}
-use Rattle.regex.specs.Rule.{at-start, at-end}
+use Rattle.regex.specs.Rule.{at-start, at-last-line, at-end}
 use Rattle.nodes.specs.Nodes.{Syntax, word, treeAt, width, lay, extraOf}
 use Rattle.pattern.specs.Walk.{nothing, single, Frame, Read, refused, chained, chosen, one, closing}
 use Rattle.nodes.specs.Invariants.{Tidy}
@@ -407,6 +407,7 @@ Takes (NotOfKind k) = Unit {0}
 Takes Dot = Unit {0}
 Takes NotNewline = Unit {0}
 Takes Start = ⊥
+Takes LastLine = ⊥
 Takes End = ⊥
 
 one-takes : (st : List Frame) (al it : List Syntax) (o : Options) (x : Atom) → Takes x → one (state st al it o nothing) x ≡ state st al (item (itemSet o x) ∷ it) o single
@@ -417,6 +418,7 @@ one-takes st al it o (NotOfKind i) k = refl
 one-takes st al it o Dot k = refl
 one-takes st al it o NotNewline k = refl
 one-takes st al it o Start k = absurd k
+one-takes st al it o LastLine k = absurd k
 one-takes st al it o End k = absurd k
 
 module _ (s a : List ℕ) (at : ℕ) (o : Options) (n : ℕ) (room : Room s a at n 5) where
@@ -439,6 +441,11 @@ module _ (s a : List ℕ) (at : ℕ) (o : Options) (n : ℕ) (room : Room s a at
     unfolding onward one width lay Tidy
     one-start eg eb =
         rw (eg, eb) (leaf-said (SaysOne s at o Start (got at (n + 1) n o)) s a at n 5 o room (omega arith) (assertion at-start) (word 2 0 0 0) refl refl tt (λ st al it. refl))
+
+    pub one-last-line : g ≡ got at (n + 1) n o → b ≡ set a n (word 2 2 0 0) → SaidOne s a b at o LastLine n g
+    unfolding onward one width lay Tidy
+    one-last-line eg eb =
+        rw (eg, eb) (leaf-said (SaysOne s at o LastLine (got at (n + 1) n o)) s a at n 5 o room (omega arith) (assertion at-last-line) (word 2 2 0 0) refl refl tt (λ st al it. refl))
 
     pub one-end : g ≡ got at (n + 1) n o → b ≡ set a n (word 2 1 0 0) → SaidOne s a b at o End n g
     unfolding onward one width lay Tidy

@@ -12,7 +12,7 @@ use lib.Seq.{getD-drop, drop-drop}
 use Rattle.kinds.specs.Kind.{within, isLower, isUpper, isDigit, isAlpha, isAlnum, isCntrl}
 use Rattle.kinds.specs.declared.Kind.the-variants.{Digit, Word, Space, Horizontal, Vertical}
 use Rattle.atoms.specs.declared.Atom.{Atom}
-use Rattle.atoms.specs.declared.Atom.the-variants.{Byte, OfKind, NotOfKind, NotNewline, Start, End}
+use Rattle.atoms.specs.declared.Atom.the-variants.{Byte, OfKind, NotOfKind, NotNewline, Start, LastLine, End}
 use Rattle.atoms.specs.declared.Part.{Part}
 use Rattle.atoms.specs.declared.Gap.{Gap}
 use Rattle.classes.specs.declared.Joint.{Joint}
@@ -181,8 +181,8 @@ other-fault true c v e x o z k m n =
     ∙ chain-among c (97 ∷ 101 ∷ 102 ∷ 110 ∷ 114 ∷ 116 ∷ 100 ∷ 119 ∷ 115 ∷ 104 ∷ 118 ∷ 68 ∷ 87 ∷ 83 ∷ 72 ∷ 86 ∷ 98 ∷ []))
 other-fault false c v e x o z k m n =
     rw (e, x, o, z, k, m, n, and-false (eqb (getD v 0 0) 123))
-    (named-fault c _ _ (type-fault c _ _ (two (eqb c 78) NotNewline _ _ (two (eqb c 65) Start _ _ (two (eqb c 122) End _ 14 refl))))
-    ∙ chain-among c (97 ∷ 101 ∷ 102 ∷ 110 ∷ 114 ∷ 116 ∷ 100 ∷ 119 ∷ 115 ∷ 104 ∷ 118 ∷ 68 ∷ 87 ∷ 83 ∷ 72 ∷ 86 ∷ 78 ∷ 65 ∷ 122 ∷ []))
+    (named-fault c _ _ (type-fault c _ _ (two (eqb c 78) NotNewline _ _ (two (eqb c 65) Start _ _ (two (eqb c 90) LastLine _ _ (two (eqb c 122) End _ 14 refl)))))
+    ∙ chain-among c (97 ∷ 101 ∷ 102 ∷ 110 ∷ 114 ∷ 116 ∷ 100 ∷ 119 ∷ 115 ∷ 104 ∷ 118 ∷ 68 ∷ 87 ∷ 83 ∷ 72 ∷ 86 ∷ 78 ∷ 65 ∷ 90 ∷ 122 ∷ []))
 
 -- any other byte
 alnum-99 : isAlnum 99 ≡ true
@@ -442,9 +442,9 @@ module _ (o : Options) (v : List ℕ) where
   unfolding unquotedOf formOf row6 row7 row11 row14
   start-token = refl
 
-  end-token : LexemeFault o v 36
+  last-line-token : LexemeFault o v 36
   unfolding unquotedOf formOf row6 row7 row11 row14
-  end-token = refl
+  last-line-token = refl
 
   unquoted-fault : (c : ℕ) → isMark false c (getD v 0 0) ≡ false → LexemeFault o v c
   unfolding unquotedOf row6 row7 row11 row14
@@ -456,7 +456,7 @@ module _ (o : Options) (v : List ℕ) where
       (λ h. split (eqb c 124) (λ i. at-byte 124 i bar-token)
       (λ i. split (eqb c 46) (λ j. at-byte 46 j dot-token)
       (λ j. split (eqb c 94) (λ k. at-byte 94 k start-token)
-      (λ k. split (eqb c 36) (λ l. at-byte 36 l end-token)
+      (λ k. split (eqb c 36) (λ l. at-byte 36 l last-line-token)
       (λ l. rw (e, f, g, h, i, j, k, l)
       (split (formOf (c ∷ v) .is) (λ n. rw n (quantifier-fault c v n)) (λ n. rw n))))))))))
     where

@@ -12,7 +12,7 @@ use Rattle.sets.specs.Set.{emptySet, fullSet, inserted, insertedRange, unionOf,
 use Rattle.sets.proofs.Laws.{Words, words-setOf}
 use Rattle.kinds.specs.Case.{caseClosed}
 use Rattle.atoms.specs.declared.Atom.{Atom}
-use Rattle.atoms.specs.declared.Atom.the-variants.{Byte, OfKind, NotOfKind, Dot, NotNewline, Start, End}
+use Rattle.atoms.specs.declared.Atom.the-variants.{Byte, OfKind, NotOfKind, Dot, NotNewline, Start, LastLine, End}
 use Rattle.classes.specs.declared.Class.{Class}
 use Rattle.atoms.specs.declared.Gap.{Gap}
 use Rattle.classes.specs.declared.Member.{Member}
@@ -51,6 +51,7 @@ words-item o (NotOfKind k) = words-setOf _
 words-item o Dot = words-cond (o .dotall) _ _ (words-setOf _) (words-complement _)
 words-item o NotNewline = words-complement _
 words-item o Start = words-empty
+words-item o LastLine = words-empty
 words-item o End = words-empty
 
 words-joined : (s : List ℕ) (lo hi : Atom) → Words s → Words (joined s lo hi)
@@ -61,6 +62,7 @@ words-joined s (NotOfKind k) hi w = words-setOf _
 words-joined s Dot hi w = w
 words-joined s NotNewline hi w = w
 words-joined s Start hi w = w
+words-joined s LastLine hi w = w
 words-joined s End hi w = w
 
 words-settled : (caseless negated : Bool) (s : List ℕ) → Words s → Words (settled caseless negated s)

@@ -13,7 +13,7 @@ use lib.Seq.{drop-drop}
 use Rattle.classes.specs.declared as declared
 use Rattle.tokens.specs.declared.Options.{Options}
 use Rattle.atoms.specs.declared.Atom.{Atom}
-use Rattle.atoms.specs.declared.Atom.the-variants.{Byte, OfKind, NotOfKind, Dot, NotNewline, Start, End}
+use Rattle.atoms.specs.declared.Atom.the-variants.{Byte, OfKind, NotOfKind, Dot, NotNewline, Start, LastLine, End}
 use Rattle.tokens.specs.declared.Token.{Token}
 use Rattle.tokens.specs.declared.Token.the-variants.{Finish, Bar, Close, Class, One, Open, Set, Note, Unclosed, Repeat, Bad}
 use Rattle.tokens.specs.declared.Lexeme.{Lexeme}
@@ -126,6 +126,7 @@ one-free st al it o (NotOfKind n) x y = refl
 one-free st al it o Dot x y = refl
 one-free st al it o NotNewline x y = refl
 one-free st al it o Start x y = refl
+one-free st al it o LastLine x y = refl
 one-free st al it o End x y = refl
 
 -- neither a quantifier nor a note

@@ -63,17 +63,17 @@ unfoldable pub tooLarge : List ℕ → Bool
 tooLarge v =
     eqb (getD v 1 0) 123 && ((eqb (getD v 0 0) 120 && over255 16 (drop 2 v)) || (eqb (getD v 0 0) 111 && over255 8 (drop 2 v)))
 
--- the letters and digits that mean something after a `\`: x o 0 c, a e f n r t, d w s h v and their capitals, by where they stand b or N A z, and the marks of
--- quotes, Q E
+-- the letters and digits that mean something after a `\`: x o 0 c, a e f n r t, d w s h v and their capitals, by where they stand b or N A Z z, and the marks
+-- of quotes, Q E
 abbrev pub letters : Bool → List ℕ
 letters true = 120 ∷ 111 ∷ 48 ∷ 99 ∷ 97 ∷ 101 ∷ 102 ∷ 110 ∷ 114 ∷ 116 ∷ 100 ∷ 119 ∷ 115 ∷ 104 ∷ 118 ∷ 68 ∷ 87 ∷ 83 ∷ 72 ∷ 86 ∷ 98 ∷ 81 ∷ 69 ∷ []
-letters false = 120 ∷ 111 ∷ 48 ∷ 99 ∷ 97 ∷ 101 ∷ 102 ∷ 110 ∷ 114 ∷ 116 ∷ 100 ∷ 119 ∷ 115 ∷ 104 ∷ 118 ∷ 68 ∷ 87 ∷ 83 ∷ 72 ∷ 86 ∷ 78 ∷ 65 ∷ 122 ∷ 81 ∷ 69 ∷ []
+letters false = 120 ∷ 111 ∷ 48 ∷ 99 ∷ 97 ∷ 101 ∷ 102 ∷ 110 ∷ 114 ∷ 116 ∷ 100 ∷ 119 ∷ 115 ∷ 104 ∷ 118 ∷ 68 ∷ 87 ∷ 83 ∷ 72 ∷ 86 ∷ 78 ∷ 65 ∷ 90 ∷ 122 ∷ 81 ∷ 69 ∷ []
 
 abbrev pub among : ℕ → List ℕ → Bool
 among c [] = false
 among c (k ∷ ks) = cond (eqb c k) true (among c ks)
 
--- 14: "any other letter or digit escape"; "`\N`, `\A`, `\z` in a class"
+-- 14: "any other letter or digit escape"; "`\N`, `\A`, `\z` in a class"; "add `\Z` with the same meaning (14 in a class)"
 unfoldable pub unknown : (inside : Bool) → List ℕ → Bool
 unknown inside v = isAlnum (getD v 0 0) && not (among (getD v 0 0) (letters inside))
 

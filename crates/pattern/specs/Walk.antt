@@ -6,7 +6,7 @@ use Prim.Native.Nat.{ℕ, zero, suc, pred, _+_, _-_}
 use lib.Dec.{eqb, leb}
 use lib.ListN.{length}
 use Rattle.atoms.specs.declared.Atom.{Atom}
-use Rattle.atoms.specs.declared.Atom.the-variants.{Byte, OfKind, NotOfKind, Dot, NotNewline, Start, End}
+use Rattle.atoms.specs.declared.Atom.the-variants.{Byte, OfKind, NotOfKind, Dot, NotNewline, Start, LastLine, End}
 use Rattle.tokens.specs.declared.Options.{Options}
 use Rattle.tokens.specs.declared.Token.{Token}
 use Rattle.tokens.specs.declared.Token.the-variants.{Finish, Bar, Close, Class, One, Open, Set, Note, Unclosed, Repeat, Bad}
@@ -15,7 +15,7 @@ use Rattle.atoms.specs.Fault.{lower}
 use Rattle.classes.specs.Class.{classOf}
 use Rattle.tokens.specs.Token.{lexemeOf, itemSet}
 use Rattle.regex.specs.Tree.{empty, item, assertion, then, or, repeat}
-use Rattle.regex.specs.Rule.{at-start, at-end}
+use Rattle.regex.specs.Rule.{at-start, at-last-line, at-end}
 use Rattle.nodes.specs.Nodes.{Syntax, extraOf}
 
 -- what a quantifier at this place would repeat: nothing, an item or a group, or one that has a quantifier already
@@ -75,7 +75,7 @@ with-options m o = record { stack = m .stack; branches = m .branches; items = m 
 abbrev pub noted : State → Options → State
 noted m o = record { stack = m .stack; branches = m .branches; items = m .items; options = o; target = m .target }
 
--- an item takes a quantifier, an assertion does not
+-- an item takes a quantifier, an assertion does not; "add `\Z` with the same meaning" as `$`, "`\z` stays"
 unfoldable pub one : State → Atom → State
 one m (Byte b) = with-item m (item (itemSet (m .options) (Byte b))) single
 one m (OfKind k) = with-item m (item (itemSet (m .options) (OfKind k))) single
@@ -83,6 +83,7 @@ one m (NotOfKind k) = with-item m (item (itemSet (m .options) (NotOfKind k))) si
 one m Dot = with-item m (item (itemSet (m .options) Dot)) single
 one m NotNewline = with-item m (item (itemSet (m .options) NotNewline)) single
 one m Start = with-item m (assertion at-start) nothing
+one m LastLine = with-item m (assertion at-last-line) nothing
 one m End = with-item m (assertion at-end) nothing
 
 -- "Groups open at once: 16"

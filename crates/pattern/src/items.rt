@@ -53,7 +53,7 @@ pub(super) fn leaf(
     at: usize,
     options: Options,
 ) -> Got
-    requires { ⌜ (n < lent) × (op < 8) × (x < 2) ⌝ }
+    requires { ⌜ (n < lent) × (op < 8) × (x < 3) ⌝ }
     ensures { λ r. ⌜ (r ≡ got at (n + 1) n options) × (now (a .exit) ≡ set (now (a .entry)) n (word op x 0 0)) ⌝ }
 {
     put(a, n, op, x, 0, 0);
@@ -137,6 +137,7 @@ pub(super) fn single(
 {
     match atom {
         Atom::Start => leaf(a, n, ASSERTION, 0, at, options),
+        Atom::LastLine => leaf(a, n, ASSERTION, 2, at, options),
         Atom::End => leaf(a, n, ASSERTION, 1, at, options),
         _ => {
             let bytes = item_set(options, atom);

@@ -1,5 +1,5 @@
--- The ordered list says what demand 2 says: a rule's pairs in the list are exactly its reported ones, each once, with their offsets in
--- order. In the base the moment of a pair rises with its offset, so the first pair of a single-match rule is its smallest.
+-- The ordered list says what demand 2 says: a rule's pairs in the list are exactly its reported ones, each once, and while bytes come their offsets are in
+-- order.
 -- Assumes nothing.
 use mathlib.Core.Path.{_≡_, refl, sym, subst, subst₂, ap, _∙_}
 use mathlib.Core.Logic.{_⊎_, inl, inr, _↔_}
@@ -8,9 +8,9 @@ use Prim.Native.Nat.{ℕ, _≤_, _<_}
 use native.Mathlib.Omega.{arith}
 use native.Mathlib.Decide.{decLt}
 use lib.ListN.{length}
-use Rattle.regex.specs.Rule.{Rule, MatchEnds, Reported}
-use Rattle.regex.specs.Ordered.{closing-moment, Falls, Earlier, Stays, Entry, entry, Before, Rising, IsList, Pair, pair, Ordered, Once}
-use Rattle.regex.proofs.Moments.{stays-settled, falls-when, falls-some, settled-whole}
+use Rattle.regex.specs.Rule.{Rule, MatchEnds}
+use Rattle.regex.specs.Ordered.{closing-moment, Falls, Earlier, Stays, Reported, Entry, entry, Before, Rising, IsList, Pair, pair, Ordered, Once}
+use Rattle.regex.proofs.Moments.{Moment, stays-settled, falls-when, falls-some, settled-whole}
 
 -- ids tell the rules apart: "Ids: any 32-bit number, each once."
 abbrev pub Distinct : List Rule → Type 0
@@ -33,38 +33,22 @@ module _ (bytes : List ℕ) (r : Rule) where
       go (no ge) (yes lt) = absurd (f .not-before j (g .from-last) lt (g .settled))
       go (no ge) (no le) = omega arith
 
-  -- moments rise with offsets
-  pub later : (m e j d : ℕ) → Falls bytes r m e → Falls bytes r j d → d < e → j < m
-  later m e j d f g lt = go (falls-when bytes r m e f) (falls-when bytes r j d g)
-    where
-      go : ((m ≡ e) × (e ≤ length bytes)) ⊎ ((m ≡ closing-moment bytes) × (e ≡ length bytes))
-          → ((j ≡ d) × (d ≤ length bytes)) ⊎ ((j ≡ closing-moment bytes) × (d ≡ length bytes)) → j < m
-      go (inl x) (inl y) = omega (arith, x .0, y .0)
-      go (inl x) (inr y) = absurd (omega (arith, x .1, y .1))
-      go (inr x) (inl y) = omega (arith, x .0, y .0, y .1)
-      go (inr x) (inr y) = absurd (omega (arith, x .1, y .1))
-
   -- The pairs that stay are the reported ones.
   pub stays-reported : (e : ℕ) → ((m : ℕ) × Stays bytes r m e) ↔ Reported r bytes e
   stays-reported e = (
     λ h. (
       falls-match e .0 (h .0, h .1 .falls),
-      λ one d lt x. let g = falls-match d .1 x in h .1 .first (g .0) d (g .1) (one, inl (later (h .0) e (g .0) d (h .1 .falls) (g .1) lt)),
+      λ one m j d f g x. h .1 .first j d g (one, subst (λ (k : ℕ). Earlier j d k e) (one-moment m (h .0) e f (h .1 .falls)) x),
     ),
-    λ h. let f = falls-match e .1 (h .0) in
-        (f .0, record { falls = f .1; first = λ j d g x. smallest (f .0) (f .1) (h .1 (x .0)) j d g (x .1) }),
+    λ h. let f = falls-match e .1 (h .0) in (f .0, record { falls = f .1; first = λ j d g x. h .1 (x .0) (f .0) j d (f .1) g (x .1) }),
   )
-    where
-      smallest : (m : ℕ) → Falls bytes r m e → ((d : ℕ) → d < e → ¬ MatchEnds r bytes d) → (j d : ℕ) → Falls bytes r j d → ¬ Earlier j d m e
-      smallest m f least j d g (inr x) = least d (x .1) (falls-match d .0 (j, g))
-      smallest m f least j d g (inl lt) = go (decLt d e) (decLt e d)
-        where
-          go : Dec (d < e) → Dec (e < d) → ⊥
-          go (yes x) y = least d x (falls-match d .0 (j, g))
-          go (no x) (yes y) = omega (arith, later j d m e g f y)
-          go (no x) (no y) =
-              let q : d ≡ e = omega arith in
-              omega (arith, one-moment j m e (subst (λ (k : ℕ). Falls bytes r j k) q g) f)
+
+-- of one rule, the earlier of two pairs is the one that stands before the other in the list
+pub earlier-before : (j d m e i : ℕ) → Earlier j d m e ↔ Before (entry j d i) (entry m e i)
+earlier-before j d m e i = (
+  λ h. elim h [ inl x ↦ inl x | inr x ↦ inr (x .0, inl (x .1)) ],
+  λ h. elim h [ inl x ↦ inl x | inr x ↦ elim (x .1) [ inl u ↦ inr (x .0, u) | inr u ↦ absurd (omega (arith, u .1)) ] ],
+)
 
 module _ (rules : List Rule) (bytes : List ℕ) (l : List Entry) (is : IsList rules bytes l) where
   -- Demand 2, of the list: a rule's pair is in it exactly if it is reported.
@@ -85,22 +69,26 @@ module _ (rules : List Rule) (bytes : List ℕ) (l : List Entry) (is : IsList ru
       let q : x .0 ≡ y .0 = distinct (x .0) (y .0) (x .1) (y .1) (x .2 ∙ sym (y .2)) in
       one-moment bytes (y .0) m j e (subst (λ (r : Rule). Stays bytes r m e) q (x .3) .falls) (y .3 .falls)
 
-  -- In the base the list goes by end offset: no entry has a smaller offset than one before it.
-  pub by-offset : (m e i j d k : ℕ) → List·Memᴰ (entry m e i) l → List·Memᴰ (entry j d k) l → Before (entry m e i) (entry j d k) → e ≤ d
-  by-offset m e i j d k a b lt =
+  -- While bytes come the list goes by end offset: no entry has a smaller offset than one before it.
+  pub by-offset : (m e i j d k : ℕ) → m ≤ length bytes → j ≤ length bytes → List·Memᴰ (entry m e i) l → List·Memᴰ (entry j d k) l
+      → Before (entry m e i) (entry j d k) → e ≤ d
+  by-offset m e i j d k lm lj a b lt =
       let x = is .exactly (entry m e i) .0 a in
       let y = is .exactly (entry j d k) .0 b in
-      go lt (falls-when bytes (x .0) m e (x .3 .falls)) (falls-when bytes (y .0) j d (y .3 .falls))
+      go lt (at-last (x .0) m e lm (falls-when bytes (x .0) m e (x .3 .falls))) (at-last (y .0) j d lj (falls-when bytes (y .0) j d (y .3 .falls)))
     where
-      n : ℕ
-      n = length bytes
+      at-last : (r : Rule) (m e : ℕ) → m ≤ length bytes → Moment bytes r m e → m ≡ e
+      at-last r m e h (inl x) = x .0
+      at-last r m e h (inr x) = absurd (omega (arith, x .0))
 
-      go : Before (entry m e i) (entry j d k) → ((m ≡ e) × (e ≤ n)) ⊎ ((m ≡ closing-moment bytes) × (e ≡ n)) → ((j ≡ d) × (d ≤ n)) ⊎ ((j ≡ closing-moment bytes) × (d ≡ n)) → e ≤ d
-      go (inl x) (inl y) (inl z) = omega (arith, y .0, z .0)
-      go (inl x) (inl y) (inr z) = omega (arith, y .1, z .1)
-      go (inl x) (inr y) (inl z) = absurd (omega (arith, y .0, z .0, z .1))
-      go (inl x) (inr y) (inr z) = omega (arith, y .1, z .1)
-      go (inr x) y z = elim (x .1) [ inl u ↦ omega arith | inr u ↦ omega (arith, u .0) ]
+      go : Before (entry m e i) (entry j d k) → m ≡ e → j ≡ d → e ≤ d
+      go (inl x) p q = omega arith
+      go (inr x) p q = elim (x .1) [ inl u ↦ omega arith | inr u ↦ omega (arith, u .0) ]
+
+  -- What the closing gives comes last.
+  pub closing-last : (e i j d k : ℕ) → List·Memᴰ (entry j d k) l → Before (entry (closing-moment bytes) e i) (entry j d k) → j ≡ closing-moment bytes
+  closing-last e i j d k b (inl x) = omega (arith, is .exactly (entry j d k) .0 b .3 .falls .by-closing)
+  closing-last e i j d k b (inr x) = sym (x .0)
 
 map-in : {l : List Entry} {x : Entry} → List·Memᴰ x l → List·Memᴰ (pair x) (map pair l)
 map-in (List·Memᴰ·head e) = List·Memᴰ·head (ap pair e)

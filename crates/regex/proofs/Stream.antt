@@ -1,14 +1,14 @@
 -- The automaton over a stream of bytes: what is reached up to the bytes so far does not depend on what comes later, what one byte more
--- reaches, and where a match ends. For any assertions that look one byte ahead (`Near`). Assumes nothing.
+-- reaches, and where a match ends. For any assertions, where what is known at the gaps so far stays as it is (`Same`). Assumes nothing.
 use mathlib.Core.Path.{_≡_, sym, subst, ap, ap₂, _∙_, fun-ext}
 use mathlib.Core.Logic.{_⊎_, inl, inr, _↔_}
-use mathlib.Core.Bool.{Bool, false}
+use mathlib.Core.Bool.{Bool}
 use mathlib.Core.List.{List, [], _∷_, _++_}
 use Prim.Native.Nat.{ℕ, suc, _+_, _<_}
 use native.Mathlib.Omega.{arith}
 use lib.Dec.{T, ltb, lt→ltb, ltb→lt}
-use lib.ListN.{length, getD, take, drop, List·getD-append, length-append}
-use lib.Seq.{getD-append-seam, take-append-le, take-append-seam, drop-append-seam, drop-cons}
+use lib.ListN.{length, getD, List·getD-append, length-append}
+use lib.Seq.{getD-append-seam, take-append-seam, drop-append-seam}
 use Rattle.regex.specs.Tree.{Text}
 use Rattle.regex.specs.Form.{Form, Match, Reach}
 use Rattle.regex.specs.Live.{Reached}
@@ -16,17 +16,11 @@ use Rattle.regex.specs.Gap.{Gap, text}
 use Rattle.regex.proofs.Relations.{First, Last, Follow, Takes}
 use Rattle.regex.proofs.Logic.{and-T}
 use Rattle.regex.proofs.Step.{step-anywhere, end}
-use Rattle.regex.proofs.Local.{reach-local, match-local, reach-up}
+use Rattle.regex.proofs.Local.{reach-local, reach-up}
 
 -- the gap between these bytes and those, after which the stream has ended or may go on
 abbrev pub between : List ℕ → List ℕ → Bool → Gap
 between before after ended = record { before = before; after = after; ended = ended }
-
--- Assertions that look one byte ahead: where a byte is after the gap, nothing behind that byte matters. Asked separately of streams that
--- have ended and of those that may go on, since an assertion could look at a last newline.
-abbrev pub Near : {A : Type 0} → (A → Gap → Bool) → Bool → Type 0
-Near {A} holds ended = (a : A) (before : List ℕ) (x : ℕ) (rest : List ℕ)
-    → holds a (between before (x ∷ rest) ended) ≡ holds a (between before (x ∷ []) false)
 
 module _ {C A : Type 0} (has : C → ℕ → Bool) (holds : A → Gap → Bool) where
   abbrev On : List ℕ → Bool → Text C A
@@ -49,82 +43,64 @@ module _ {C A : Type 0} (has : C → ℕ → Bool) (holds : A → Gap → Bool) 
   pub seam : (bs r : List ℕ) (e : Bool) → _≡_ {A = A → Bool} (λ a. On (bs ++ r) e .known a (length bs)) (λ a. holds a (between bs r e))
   seam bs r e = fun-ext (λ a. ap₂ (λ (p n : List ℕ). holds a (between p n e)) (take-append-seam bs r) (drop-append-seam bs r))
 
-  -- a gap with a byte after it, by that byte
-  at : (e : Bool) → Near holds e → (bs : List ℕ) (a : A) (j : ℕ) → j < length bs
-      → On bs e .known a j ≡ holds a (between (take j bs) (getD bs j 0 ∷ []) false)
-  at e near bs a j lt =
-      ap (λ (n : List ℕ). holds a (between (take j bs) n e)) (drop-cons bs j 0 lt) ∙ near a (take j bs) (getD bs j 0) (drop (suc j) bs)
+  -- What is known at the gaps before the end of bs is the same where r follows: d says whether the stream has ended after bs, e whether it has after r.
+  abbrev pub Same : List ℕ → List ℕ → (d e : Bool) → Type 0
+  Same bs r d e = (a : A) (j : ℕ) → j < length bs → On (bs ++ r) e .known a j ≡ On bs d .known a j
 
-  -- d says whether the shorter text has ended, e whether the longer has
-  module _ (d e : Bool) (near-d : Near holds d) (near-e : Near holds e) where
-    pub known-same : (bs r : List ℕ) (a : A) (j : ℕ) → j < length bs → On (bs ++ r) e .known a j ≡ On bs d .known a j
-    known-same bs r a j lt =
-        at e near-e (bs ++ r) a j (omega (arith, length-append bs r))
-        ∙ ap₂ (λ (p : List ℕ) (x : ℕ). holds a (between p (x ∷ []) false)) (take-append-le j bs r (omega arith)) (List·getD-append bs r 0 j lt)
-        ∙ sym (at d near-d bs a j lt)
-
+  module _ (bs r : List ℕ) (d e : Bool) (same : Same bs r d e) where
     -- What is reached up to bs depends on bs only.
-    pub prefix : (f : Form C A) (b : ℕ) (bs r : List ℕ) (s q : ℕ)
+    pub prefix : (f : Form C A) (b s q : ℕ)
         → Reach (On (bs ++ r) e) f b s q (length bs) ↔ Reach (On bs d) f b s q (length bs)
-    prefix f b bs r s q = (
+    prefix f b s q = (
       λ h. reach-local (On (bs ++ r) e) (On bs d) (length bs) (λ c j lt x. hit-shorter bs r d e c j lt x)
-          (λ a j lt x. subst T (known-same bs r a j lt) x) f b s q (length bs) (omega arith) h,
+          (λ a j lt x. subst T (same a j lt) x) f b s q (length bs) (omega arith) h,
       λ h. reach-local (On bs d) (On (bs ++ r) e) (length bs) (λ c j lt x. hit-longer bs r d e c j x)
-          (λ a j lt x. subst T (sym (known-same bs r a j lt)) x) f b s q (length bs) (omega arith) h,
-    )
-
-    -- Likewise a match that ends before the last byte of bs.
-    pub ended-before : (f : Form C A) (bs r : List ℕ) (s k : ℕ) → k < length bs → Match (On (bs ++ r) e) f s k ↔ Match (On bs d) f s k
-    ended-before f bs r s k lt = (
-      λ h. match-local (On (bs ++ r) e) (On bs d) (length bs) (λ c j lt x. hit-shorter bs r d e c j lt x)
-          (λ a j lt x. subst T (known-same bs r a j lt) x) f s k lt h,
-      λ h. match-local (On bs d) (On (bs ++ r) e) (length bs) (λ c j lt x. hit-longer bs r d e c j x)
-          (λ a j lt x. subst T (sym (known-same bs r a j lt)) x) f s k lt h,
+          (λ a j lt x. subst T (sym (same a j lt)) x) f b s q (length bs) (omega arith) h,
     )
 
     -- A match ends after bs, where r follows: a position reached by bs is last in the world between bs and r.
-    pub over : (f : Form C A) (b : ℕ) (bs r : List ℕ) (s : ℕ) → s < length bs → Match (On (bs ++ r) e) f s (length bs)
+    pub over : (f : Form C A) (b s : ℕ) → s < length bs → Match (On (bs ++ r) e) f s (length bs)
         ↔ ((p : ℕ) × Reach (On bs d) f b s p (length bs) × Last (λ a. holds a (between bs r e)) f b p)
-    over f b bs r s lt =
+    over f b s lt =
         let k : ℕ = length bs in
         let both = end (On (bs ++ r) e) f b s k lt in (
           λ m. let h = both .0 m in
-              (h .0, prefix f b bs r s (h .0) .0 (h .1), subst (λ (u : A → Bool). Last u f b (h .0)) (seam bs r e) (h .2)),
-          λ h. both .1 (h .0, prefix f b bs r s (h .0) .1 (h .1), subst (λ (u : A → Bool). Last u f b (h .0)) (sym (seam bs r e)) (h .2)),
+              (h .0, prefix f b s (h .0) .0 (h .1), subst (λ (u : A → Bool). Last u f b (h .0)) (seam bs r e) (h .2)),
+          λ h. both .1 (h .0, prefix f b s (h .0) .1 (h .1), subst (λ (u : A → Bool). Last u f b (h .0)) (sym (seam bs r e)) (h .2)),
         )
 
-    module _ (tab : ℕ → C) (f : Form C A) (b : ℕ) (takes : Takes tab f b) (bs : List ℕ) where
-      -- One byte more: from what bs reached to what bs and x reach. The world is that of the gap between bs and x.
-      pub next : (x q : ℕ) → Reached (On (bs ++ x ∷ []) e) f b q (suc (length bs))
-          ↔ (T (has (tab q) x)
-          × (First (λ a. holds a (between bs (x ∷ []) false)) f b q
-          ⊎ ((p : ℕ) × Reached (On bs d) f b p (length bs) × Follow (λ a. holds a (between bs (x ∷ []) false)) f b p q)))
-      next x q =
-          let k : ℕ = length bs in
-          let new : List ℕ = bs ++ x ∷ [] in
-          let is-x : getD new k 0 ≡ x = getD-append-seam bs x [] 0 in
-          let w : _≡_ {A = A → Bool} (λ a. On new e .known a k) (λ a. holds a (between bs (x ∷ []) false)) =
-          seam bs (x ∷ []) e ∙ fun-ext (λ a. near-e a bs x []) in
-          let both = step-anywhere (On new e) tab f b takes q k in (
-            λ l.
-                let h = both .0 l in (
-                  subst (λ (y : ℕ). T (has (tab q) y)) is-x (and-T (ltb k (length new)) (has (tab q) (getD new k 0)) .0 (h .0) .1),
-                  elim (h .1) [
-                    | inl v ↦ inl (subst (λ (u : A → Bool). First u f b q) w v)
-                    | inr v ↦ inr
-                        (v .0, (v .1 .0, prefix f b bs (x ∷ []) (v .1 .0) (v .0) .0 (v .1 .1)), subst (λ (u : A → Bool). Follow u f b (v .0) q) w (v .2))
-                  ],
-                ),
-            λ h. both .1 (
-              and-T (ltb k (length new)) (has (tab q) (getD new k 0)) .1
-                  (lt→ltb k (length new) (omega (arith, length-append bs (x ∷ []))), subst (λ (y : ℕ). T (has (tab q) y)) (sym is-x) (h .0)),
-              elim (h .1) [
-                | inl v ↦ inl (subst (λ (u : A → Bool). First u f b q) (sym w) v)
-                | inr v ↦ inr
-                    (v .0, (v .1 .0, prefix f b bs (x ∷ []) (v .1 .0) (v .0) .1 (v .1 .1)), subst (λ (u : A → Bool). Follow u f b (v .0) q) (sym w) (v .2))
-              ],
-            ),
-          )
+  module _ (tab : ℕ → C) (f : Form C A) (b : ℕ) (takes : Takes tab f b) (bs : List ℕ) (x : ℕ) (d e : Bool) (same : Same bs (x ∷ []) d e) where
+    -- One byte more: from what bs reached to what bs and x reach. The world is that of the gap between bs and x.
+    pub next : (q : ℕ) → Reached (On (bs ++ x ∷ []) e) f b q (suc (length bs))
+        ↔ (T (has (tab q) x)
+        × (First (λ a. holds a (between bs (x ∷ []) e)) f b q
+        ⊎ ((p : ℕ) × Reached (On bs d) f b p (length bs) × Follow (λ a. holds a (between bs (x ∷ []) e)) f b p q)))
+    next q =
+        let k : ℕ = length bs in
+        let new : List ℕ = bs ++ x ∷ [] in
+        let is-x : getD new k 0 ≡ x = getD-append-seam bs x [] 0 in
+        let w : _≡_ {A = A → Bool} (λ a. On new e .known a k) (λ a. holds a (between bs (x ∷ []) e)) =
+        seam bs (x ∷ []) e in
+        let both = step-anywhere (On new e) tab f b takes q k in (
+          λ l.
+              let h = both .0 l in (
+                subst (λ (y : ℕ). T (has (tab q) y)) is-x (and-T (ltb k (length new)) (has (tab q) (getD new k 0)) .0 (h .0) .1),
+                elim (h .1) [
+                  | inl v ↦ inl (subst (λ (u : A → Bool). First u f b q) w v)
+                  | inr v ↦ inr
+                      (v .0, (v .1 .0, prefix bs (x ∷ []) d e same f b (v .1 .0) (v .0) .0 (v .1 .1)), subst (λ (u : A → Bool). Follow u f b (v .0) q) w (v .2))
+                ],
+              ),
+          λ h. both .1 (
+            and-T (ltb k (length new)) (has (tab q) (getD new k 0)) .1
+                (lt→ltb k (length new) (omega (arith, length-append bs (x ∷ []))), subst (λ (y : ℕ). T (has (tab q) y)) (sym is-x) (h .0)),
+            elim (h .1) [
+              | inl v ↦ inl (subst (λ (u : A → Bool). First u f b q) (sym w) v)
+              | inr v ↦ inr
+                  (v .0, (v .1 .0, prefix bs (x ∷ []) d e same f b (v .1 .0) (v .0) .1 (v .1 .1)), subst (λ (u : A → Bool). Follow u f b (v .0) q) (sym w) (v .2))
+            ],
+          ),
+        )
 
   -- Before the first byte nothing is reached.
   pub nothing-yet : (f : Form C A) (b : ℕ) (e : Bool) (q : ℕ) → ¬ Reached (On [] e) f b q 0

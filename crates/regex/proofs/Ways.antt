@@ -1,20 +1,18 @@
--- A form matches a span exactly if some way through it runs over the span; and what that says of moments in the base: a pair falls
--- with its last byte exactly if some way of it passes no end assertion, and at the closing exactly if each of its ways passes one. Assumes nothing.
+-- A form matches a span exactly if some way through it runs over the span; and what that says of moments: a pair falls
+-- with its last byte exactly if some way of it passes neither `$` nor `\z`, and at the closing exactly if each of its ways passes one. Assumes nothing.
 use mathlib.Core.Path.{_≡_, refl, sym, subst}
 use mathlib.Core.Logic.{_⊎_, inl, inr, _↔_}
 use mathlib.Core.Bool.{true, false}
 use mathlib.Core.List.{List, [], _∷_, _++_, List·Memᴰ·head, List·Memᴰ·tail, List·Memᴰ·cases-cons, List·Memᴰ·not-nil}
 use Prim.Native.Nat.{ℕ, suc, _+_, _<_}
 use native.Mathlib.Omega.{arith}
-use lib.ListN.{length, drop}
+use lib.ListN.{length}
 use Rattle.regex.specs.Tree.{Text, Means}
 use Rattle.regex.specs.Form.{Form, eps, take, check, seq, alt, plus, opt, Star, done, more, Match, write}
 use Rattle.regex.specs.Way.{Step, takes, passes, Way, w-eps, w-take, w-check, w-seq, w-left, w-right, w-one, w-more, w-none, w-some, Runs, SomeWay, Passes}
-use Rattle.regex.specs.Gap.{no-bytes}
-use Rattle.regex.specs.Rule.{Rule, Assertion, at-start, at-end, ByteSet, stream, MatchEnds}
+use Rattle.regex.specs.Rule.{Rule, Assertion, at-start, at-last-line, at-end, ByteSet, stream, MatchEnds}
 use Rattle.regex.specs.Ordered.{closing-moment, Settled, Falls}
 use Rattle.regex.proofs.Written.{written, unwritten}
-use Rattle.regex.proofs.Logic.{and-T}
 use Rattle.regex.proofs.Moments.{open-end, within, by-byte, stays-settled, falls-at, falls-when, falls-at-closing}
 use Rattle.regex.proofs.Reports.{falls-match}
 
@@ -74,23 +72,39 @@ module _ {C A : Type 0} (t : Text C A) where
   pub by-ways : (f : Form C A) (s e : ℕ) → Match t f s e ↔ SomeWay t f s e
   by-ways f s e = (λ h. match-way f s e h, λ h. way-match (h .1) s e (h .2))
 
-abbrev PassesEnd : List (Step ByteSet Assertion) → Type 0
-PassesEnd u = Passes at-end u
+-- the way passes an assertion on the stream's end, `$` or `\z`
+abbrev pub PassesEnd : List (Step ByteSet Assertion) → Type 0
+PassesEnd u = Passes at-last-line u ⊎ Passes at-end u
 
--- a step that is not the end assertion does not make the way pass one
-after-other : (x : Step ByteSet Assertion) (u : List (Step ByteSet Assertion)) → (passes at-end ≡ x → _≡_ {A = ℕ} 0 1)
-    → PassesEnd u ⊎ (¬ PassesEnd u) → PassesEnd (x ∷ u) ⊎ (¬ PassesEnd (x ∷ u))
-after-other x u other (inl m) = inl (List·Memᴰ·tail m)
-after-other x u other (inr n) = inr (λ m. elim (List·Memᴰ·cases-cons m) [
-  | inl q ↦ (let z : _≡_ {A = ℕ} 0 1 = other q in omega arith)
-  | inr k ↦ n k
-])
+-- one step more
+later-passes : (x : Step ByteSet Assertion) (u : List (Step ByteSet Assertion)) → PassesEnd u → PassesEnd (x ∷ u)
+later-passes x u (inl m) = inl (List·Memᴰ·tail m)
+later-passes x u (inr m) = inr (List·Memᴰ·tail m)
+
+-- a step that is none of the two does not make the way pass one
+abbrev Neither : Step ByteSet Assertion → Type 0
+Neither x = (passes at-last-line ≡ x → _≡_ {A = ℕ} 0 1) × (passes at-end ≡ x → _≡_ {A = ℕ} 0 1)
+
+not-first : (x : Step ByteSet Assertion) (u : List (Step ByteSet Assertion)) → Neither x → PassesEnd (x ∷ u) → PassesEnd u
+not-first x u other (inl m) = elim (List·Memᴰ·cases-cons m) [ inl q ↦ (let z : _≡_ {A = ℕ} 0 1 = other .0 q in absurd (omega arith)) | inr k ↦ inl k ]
+not-first x u other (inr m) = elim (List·Memᴰ·cases-cons m) [ inl q ↦ (let z : _≡_ {A = ℕ} 0 1 = other .1 q in absurd (omega arith)) | inr k ↦ inr k ]
+
+start-neither : Neither (passes at-start)
+start-neither = (λ q. cc, λ q. cc)
+
+takes-neither : (c : ByteSet) → Neither (takes c)
+takes-neither c = (λ q. cc, λ q. cc)
+
+none-passes : ¬ PassesEnd []
+none-passes (inl m) = List·Memᴰ·not-nil m
+none-passes (inr m) = List·Memᴰ·not-nil m
 
 passes-dec : (u : List (Step ByteSet Assertion)) → PassesEnd u ⊎ (¬ PassesEnd u)
-passes-dec [] = inr (λ m. List·Memᴰ·not-nil m)
-passes-dec (passes at-end ∷ u) = inl (List·Memᴰ·head refl)
-passes-dec (passes at-start ∷ u) = after-other (passes at-start) u (λ q. cc) (passes-dec u)
-passes-dec (takes c ∷ u) = after-other (takes c) u (λ q. cc) (passes-dec u)
+passes-dec [] = inr none-passes
+passes-dec (passes at-last-line ∷ u) = inl (inl (List·Memᴰ·head refl))
+passes-dec (passes at-end ∷ u) = inl (inr (List·Memᴰ·head refl))
+passes-dec (passes at-start ∷ u) = elim (passes-dec u) [ inl m ↦ inl (later-passes (passes at-start) u m) | inr n ↦ inr (λ m. n (not-first (passes at-start) u start-neither m)) ]
+passes-dec (takes c ∷ u) = elim (passes-dec u) [ inl m ↦ inl (later-passes (takes c) u m) | inr n ↦ inr (λ m. n (not-first (takes c) u (takes-neither c) m)) ]
 
 -- a way that runs while the stream may go on runs when it has ended
 close-run : (bytes : List ℕ) (u : List (Step ByteSet Assertion)) (s e : ℕ) → Runs (stream bytes false) s u e → Runs (stream bytes true) s u e
@@ -98,29 +112,26 @@ unfolding Runs
 close-run bytes [] s e h = h
 close-run bytes (takes c ∷ u) s e h = (h .0, close-run bytes u (suc s) e (h .1))
 close-run bytes (passes at-start ∷ u) s e h = (h .0, close-run bytes u s e (h .1))
-close-run bytes (passes at-end ∷ u) s e h = absurd (and-T (no-bytes (drop s bytes)) false .0 (h .0) .1)
+close-run bytes (passes at-last-line ∷ u) s e h = absurd (h .0)
+close-run bytes (passes at-end ∷ u) s e h = absurd (h .0)
 
--- a way that passes no end assertion runs whether or not the stream ends
+-- a way that passes no assertion on the end runs whether or not the stream ends
 open-run : (bytes : List ℕ) (u : List (Step ByteSet Assertion)) (s e : ℕ) → ¬ PassesEnd u → Runs (stream bytes true) s u e → Runs (stream bytes false) s u e
 unfolding Runs
 open-run bytes [] s e n h = h
-open-run bytes (takes c ∷ u) s e n h = (h .0, open-run bytes u (suc s) e (λ m. n (List·Memᴰ·tail m)) (h .1))
-open-run bytes (passes at-start ∷ u) s e n h = (h .0, open-run bytes u s e (λ m. n (List·Memᴰ·tail m)) (h .1))
-open-run bytes (passes at-end ∷ u) s e n h = absurd (n (List·Memᴰ·head refl))
+open-run bytes (takes c ∷ u) s e n h = (h .0, open-run bytes u (suc s) e (λ m. n (later-passes (takes c) u m)) (h .1))
+open-run bytes (passes at-start ∷ u) s e n h = (h .0, open-run bytes u s e (λ m. n (later-passes (passes at-start) u m)) (h .1))
+open-run bytes (passes at-last-line ∷ u) s e n h = absurd (n (inl (List·Memᴰ·head refl)))
+open-run bytes (passes at-end ∷ u) s e n h = absurd (n (inr (List·Memᴰ·head refl)))
 
 -- and a way that runs while the stream may go on passes none
 none-passed : (bytes : List ℕ) (u : List (Step ByteSet Assertion)) (s e : ℕ) → Runs (stream bytes false) s u e → ¬ PassesEnd u
 unfolding Runs
-none-passed bytes [] s e h m = List·Memᴰ·not-nil m
-none-passed bytes (takes c ∷ u) s e h m = elim (List·Memᴰ·cases-cons m) [
-  | inl q ↦ (let z : _≡_ {A = ℕ} 0 1 = cc in omega arith)
-  | inr k ↦ none-passed bytes u (suc s) e (h .1) k
-]
-none-passed bytes (passes at-start ∷ u) s e h m = elim (List·Memᴰ·cases-cons m) [
-  | inl q ↦ (let z : _≡_ {A = ℕ} 0 1 = cc in omega arith)
-  | inr k ↦ none-passed bytes u s e (h .1) k
-]
-none-passed bytes (passes at-end ∷ u) s e h m = and-T (no-bytes (drop s bytes)) false .0 (h .0) .1
+none-passed bytes [] s e h m = none-passes m
+none-passed bytes (takes c ∷ u) s e h m = none-passed bytes u (suc s) e (h .1) (not-first (takes c) u (takes-neither c) m)
+none-passed bytes (passes at-start ∷ u) s e h m = none-passed bytes u s e (h .1) (not-first (passes at-start) u start-neither m)
+none-passed bytes (passes at-last-line ∷ u) s e h m = h .0
+none-passed bytes (passes at-end ∷ u) s e h m = h .0
 
 module _ (bytes : List ℕ) (r : Rule) (e : ℕ) where
   -- the ways of the pair's matches on the whole stream
@@ -130,8 +141,8 @@ module _ (bytes : List ℕ) (r : Rule) (e : ℕ) where
   open-means : (u : List (Step ByteSet Assertion)) → (w : WayOf u) → ¬ PassesEnd u → Means (stream bytes false) (r .tree) (w .0) e
   open-means u w n = unwritten (stream bytes false) (r .tree) (w .0) e (way-match (stream bytes false) (w .2) (w .0) e (open-run bytes u (w .0) e n (w .3)))
 
-  -- A pair falls with its last byte exactly if some way of it passes no end assertion ..
-  pub with-last-byte : Falls bytes r e e ↔ ((u : List (Step ByteSet Assertion)) × WayOf u × (¬ Passes at-end u))
+  -- A pair falls with its last byte exactly if some way of it passes neither `$` nor `\z` ..
+  pub with-last-byte : Falls bytes r e e ↔ ((u : List (Step ByteSet Assertion)) × WayOf u × (¬ PassesEnd u))
   with-last-byte = (
     λ f.
         let g = open-end bytes r e .0 (stays-settled bytes r e (length bytes) e (within bytes r e e (f .settled) .1) (omega arith) (f .settled)) in
@@ -144,14 +155,14 @@ module _ (bytes : List ℕ) (r : Rule) (e : ℕ) where
         falls-at bytes r e (by-byte bytes r e e (omega arith) (w .1) .1 (by-byte bytes r (length bytes) e (w .0) (omega arith) .0 s)),
   )
 
-  -- .. and at the closing exactly if it has a way and each of its ways passes an end assertion.
-  pub at-the-closing : Falls bytes r (closing-moment bytes) e ↔ (MatchEnds r bytes e × ((u : List (Step ByteSet Assertion)) → WayOf u → Passes at-end u))
+  -- .. and at the closing exactly if it has a way and each of its ways passes `$` or `\z`.
+  pub at-the-closing : Falls bytes r (closing-moment bytes) e ↔ (MatchEnds r bytes e × ((u : List (Step ByteSet Assertion)) → WayOf u → PassesEnd u))
   at-the-closing = (
     λ f. (
-      falls-at-closing bytes r e .0 f .1,
+      falls-at-closing bytes r e .0 f .0,
       λ u w. elim (passes-dec u) [
         | inl m ↦ m
-        | inr n ↦ absurd (falls-at-closing bytes r e .0 f .2 (w .0, w .1, open-means u w n))
+        | inr n ↦ absurd (falls-at-closing bytes r e .0 f .1 (w .0, w .1, open-means u w n))
       ],
     ),
     λ h. let f = falls-match bytes r e .1 (h .0) in

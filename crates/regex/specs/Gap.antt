@@ -2,7 +2,7 @@
 use mathlib.Core.Bool.{Bool, true, false, _&&_}
 use mathlib.Core.List.{List, [], _∷_}
 use Prim.Native.Nat.{ℕ}
-use lib.Dec.{ltb}
+use lib.Dec.{eqb, ltb}
 use lib.ListN.{length, getD, take, drop}
 use Rattle.regex.specs.Tree.{Text}
 
@@ -27,3 +27,9 @@ text has holds bytes ended = record {
 abbrev pub no-bytes : List ℕ → Bool
 no-bytes [] = true
 no-bytes (x ∷ l) = false
+
+-- there are no bytes here, or a newline alone
+abbrev pub last-line : List ℕ → Bool
+last-line [] = true
+last-line (x ∷ []) = eqb x 10
+last-line (x ∷ y ∷ l) = false

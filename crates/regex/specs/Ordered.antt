@@ -8,7 +8,7 @@ use Prim.Native.Nat.{ℕ, suc, _≤_, _<_}
 use lib.Dec.{T, eqb, ltb}
 use lib.ListN.{length, take}
 use Rattle.regex.specs.Tree.{Text, Means}
-use Rattle.regex.specs.Rule.{Rule, Assertion, ByteSet, stream}
+use Rattle.regex.specs.Rule.{Rule, Assertion, ByteSet, stream, MatchEnds}
 
 -- "Its moments are the bytes in order, then the closing": moment m, from 1 to n, comes when m bytes are taken, and n + 1 is the
 -- closing. No pair falls at moment 0.
@@ -47,6 +47,11 @@ module _ (bytes : List ℕ) (r : Rule) where
   pub record Stays (m e : ℕ) : Type 0 where
     pub falls : Falls m e
     pub first : (j d : ℕ) → Falls j d → ¬ Hides j d m e
+
+-- Demand 2's meaning: the pair of the rule's id and e is reported, "exactly when some earlier start matches the rule up to there under its flags"; "A
+-- single-match rule reports the pair first delivered, perhaps not its smallest offset."
+abbrev pub Reported : Rule → List ℕ → ℕ → Type 0
+Reported r bytes e = MatchEnds r bytes e × (T (r .single) → (m j d : ℕ) → Falls bytes r m e → Falls bytes r j d → ¬ Earlier j d m e)
 
 -- a report with the moment at which it is given
 pub data Entry : Type 0 where

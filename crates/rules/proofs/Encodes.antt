@@ -2,7 +2,7 @@
 -- in the order of their ids and each at its own positions. It holds of no rules, and one rule more keeps it: the sets of the old positions are kept among
 -- themselves, the new rule's come from its parts, and no set of a form reaches outside the form's positions.
 use mathlib.Core.Path.{_≡_, refl, sym, ap, ap₂, _∙_, subst}
-use mathlib.Core.Bool.{Bool, false, _&&_, _||_, or-false}
+use mathlib.Core.Bool.{Bool, true, false, _&&_, _||_, or-false}
 use mathlib.Core.List.{List, [], _++_, map, append-nil, List·Memᴰ, Memᴰ·of-map}
 use mathlib.Core.Logic.{_⊎_, inl, inr}
 use Prim.Native.Nat.{ℕ, suc, _+_, _-_, _*_, _≤_, _<_}
@@ -15,7 +15,7 @@ use lib.Seq.{getD-append-add}
 use borrow.Author.Tests.{lt-ltb, le-ltb, eq-eqb, ne-eqb}
 use Rattle.sets.specs.Set.{has}
 use Rattle.table.specs.Layout.{maxPositions, bytes, rowHas, from-to}
-use Rattle.table.specs.Automaton.{Automaton}
+use Rattle.table.specs.Automaton.{Automaton, firstIn, startIn, followIn, lastIn}
 use Rattle.table.proofs.Over.{from-to-in, from-to-below}
 use Rattle.table.proofs.Emptying.{noRules}
 use Rattle.regex.specs.Form.{Form, eps, take, check, seq, alt, plus, opt, write, positions}
@@ -31,7 +31,7 @@ use Rattle.automaton.specs.Parts.{inside, atStart, atEnd, formParts}
 use Rattle.automaton.specs.declared.Parts.{Parts}
 use Rattle.rules.specs.Additions.{Accepted, size, ruleOf}
 use Rattle.rules.proofs.Views.{putIn, Extended}
-use Rattle.rules.proofs.Parts.{parts-positions, parts-first, parts-start, parts-last, parts-end, parts-follow, parts-takes}
+use Rattle.rules.proofs.Parts.{firstOf, startOf, lastOf, followOf, parts-positions, parts-first, parts-start, parts-last, parts-end, parts-follow, parts-takes}
 use Rattle.rules.proofs.Sorted.{Placed, at, insert, byId, byId-mem, mem-at, laid-mem, place, length-insert, place-within, smaller-before, larger-there, insert-before, insert-there, insert-after}
 
 -- ---- what is said of a table's automaton
@@ -56,12 +56,13 @@ pub record Stands (w : Automaton) (a : ℕ) (p : Placed) : Type 0 where
   pub full : nullable (p .rule .tree) ≡ false
   pub within : p .from + size (p .rule) ≤ w .positions
   pub takes-is : (x q : ℕ) → x < bytes → Of p q → w .takes x q ≡ has (itemOf p q) x
-  pub first-is : (q : ℕ) → Of p q → w .first q ≡ first inside (formOf p) (p .from) q
-  pub start-is : (q : ℕ) → Of p q → w .firstAtStart q ≡ first atStart (formOf p) (p .from) q
+  -- at a gap where the last line ends, and elsewhere
+  pub first-is : (line : Bool) (q : ℕ) → Of p q → firstIn w line q ≡ first (inside line) (formOf p) (p .from) q
+  pub start-is : (line : Bool) (q : ℕ) → Of p q → startIn w line q ≡ first (atStart line) (formOf p) (p .from) q
   -- a position of another rule does not come before it
-  pub follow-is : (o q : ℕ) → Of p q → w .follow o q ≡ follow inside (formOf p) (p .from) o q
+  pub follow-is : (line : Bool) (o q : ℕ) → Of p q → followIn w line o q ≡ follow (inside line) (formOf p) (p .from) o q
   -- nor end it
-  pub last-is : (q : ℕ) → q < w .positions → w .last a q ≡ last inside (formOf p) (p .from) q
+  pub last-is : (line : Bool) (q : ℕ) → q < w .positions → lastIn w line a q ≡ last (inside line) (formOf p) (p .from) q
   pub end-is : (q : ℕ) → q < w .positions → w .lastAtEnd a q ≡ last atEnd (formOf p) (p .from) q
 
 -- the automaton w is that of the rules ps, by rising id
@@ -73,7 +74,7 @@ pub record Encodes (w : Automaton) (ps : List Placed) : Type 0 where
   pub covered : (q : ℕ) → q < w .positions → (a : ℕ) × (a < length ps) × Of (at ps a) q
   pub apart : (a b q : ℕ) → a < length ps → b < length ps → Of (at ps a) q → Of (at ps b) q → a ≡ b
   -- nothing follows what is no position
-  pub rest : (o q : ℕ) → w .positions ≤ o → w .follow o q ≡ false
+  pub rest : (line : Bool) (o q : ℕ) → w .positions ≤ o → followIn w line o q ≡ false
 
 -- ---- no set of a form reaches outside its positions
 
@@ -104,8 +105,12 @@ encodes-none =
       rising = λ a b h l. absurd (not-suc-le-zero l);
       covered = λ q h. absurd (not-suc-le-zero h);
       apart = λ a b q h l i j. absurd (not-suc-le-zero h);
-      rest = λ o q h. refl;
+      rest = λ line o q h. nothing line o q;
     }
+  where
+    nothing : (line : Bool) (o q : ℕ) → followIn noRules line o q ≡ false
+    nothing true o q = refl
+    nothing false o q = refl
 
 -- ---- one rule more
 
@@ -127,24 +132,24 @@ module _ (w v : Automaton) (k : ℕ) (r : Accepted) (parts : Parts) (x : Extende
   grown = x .positions ∙ ap (λ (m : ℕ). n + m) more
 
   -- the new rule's sets, below 256
-  new-first : (q : ℕ) → q < maxPositions → has (parts .first) q ≡ first inside f n q
-  new-first q h = ap (λ (p : Parts). has (p .first) q) is ∙ parts-first f n q h
+  new-first : (line : Bool) (q : ℕ) → q < maxPositions → has (firstOf parts line) q ≡ first (inside line) f n q
+  new-first line q h = ap (λ (p : Parts). has (firstOf p line) q) is ∙ parts-first f n line q h
 
-  new-start : (q : ℕ) → q < maxPositions → has (parts .start) q ≡ first atStart f n q
-  new-start q h = ap (λ (p : Parts). has (p .start) q) is ∙ parts-start f n q h
+  new-start : (line : Bool) (q : ℕ) → q < maxPositions → has (startOf parts line) q ≡ first (atStart line) f n q
+  new-start line q h = ap (λ (p : Parts). has (startOf p line) q) is ∙ parts-start f n line q h
 
-  new-last : (q : ℕ) → q < maxPositions → has (parts .last) q ≡ last inside f n q
-  new-last q h = ap (λ (p : Parts). has (p .last) q) is ∙ parts-last f n q h
+  new-last : (line : Bool) (q : ℕ) → q < maxPositions → has (lastOf parts line) q ≡ last (inside line) f n q
+  new-last line q h = ap (λ (p : Parts). has (lastOf p line) q) is ∙ parts-last f n line q h
 
   new-end : (q : ℕ) → q < maxPositions → has (parts .«end») q ≡ last atEnd f n q
   new-end q h = ap (λ (p : Parts). has (p .«end») q) is ∙ parts-end f n q h
 
-  new-follow : (o q : ℕ) → n ≤ o → o < n + positions f → q < maxPositions → v .follow o q ≡ follow inside f n o q
-  new-follow o q h l m =
+  new-follow : (line : Bool) (o q : ℕ) → n ≤ o → o < n + positions f → q < maxPositions → followIn v line o q ≡ follow (inside line) f n o q
+  new-follow line o q h l m =
       let e : n + (o - n) ≡ o = omega arith in
-      ap (λ (j : ℕ). v .follow j q) (sym e) ∙ x .follow-new (o - n) q (omega (arith, more)) m
-      ∙ ap (λ (p : Parts). rowHas (p .follow) ((o - n) * 4) q) is ∙ parts-follow (r .tree) n room (o - n) q (omega arith) m
-      ∙ ap (λ (j : ℕ). follow inside f n j q) e
+      ap (λ (j : ℕ). followIn v line j q) (sym e) ∙ x .follow-new line (o - n) q (omega (arith, more)) m
+      ∙ ap (λ (p : Parts). rowHas (followOf p line) ((o - n) * 4) q) is ∙ parts-follow (r .tree) n room line (o - n) q (omega arith) m
+      ∙ ap (λ (j : ℕ). follow (inside line) f n j q) e
 
   -- nothing of the new rule comes before its positions, or after them
   low : (q : ℕ) → q < n → (n ≤ q) → (q < n + positions f) → ⊥
@@ -156,7 +161,7 @@ module _ (w v : Automaton) (k : ℕ) (r : Accepted) (parts : Parts) (x : Extende
   -- ---- an old rule
 
   module _ (p : Placed) (a c : ℕ) (s : Stands w a p) (id-kept : v .id c ≡ w .id a) (flags-kept : v .flags c ≡ w .flags a)
-      (last-kept : (q : ℕ) → q < maxPositions → v .last c q ≡ (ltb q n && w .last a q)) (end-kept : (q : ℕ) → q < maxPositions → v .lastAtEnd c q ≡ (ltb q n && w .lastAtEnd a q)) where
+      (last-kept : (line : Bool) (q : ℕ) → q < maxPositions → lastIn v line c q ≡ (ltb q n && lastIn w line a q)) (end-kept : (q : ℕ) → q < maxPositions → v .lastAtEnd c q ≡ (ltb q n && w .lastAtEnd a q)) where
     -- its positions are old ones
     old : (q : ℕ) → Of p q → q < n
     old q h = omega (arith, s .within, h .1)
@@ -173,21 +178,21 @@ module _ (w v : Automaton) (k : ℕ) (r : Accepted) (parts : Parts) (x : Extende
             ap (λ (i : Bool). i && b) (le-ltb q n (omega arith))
             ∙ sym (last-out (formOf p) (p .from) g q (λ i j. l (old q (i, j))))
 
-    kept-follow : (o q : ℕ) → Of p q → v .follow o q ≡ follow inside (formOf p) (p .from) o q
-    kept-follow o q h = go (decLt o n) (decLt o (n + positions f))
+    kept-follow : (line : Bool) (o q : ℕ) → Of p q → followIn v line o q ≡ follow (inside line) (formOf p) (p .from) o q
+    kept-follow line o q h = go (decLt o n) (decLt o (n + positions f))
       where
         below : q < n
         below = old q h
 
-        outside : n ≤ o → follow inside (formOf p) (p .from) o q ≡ false
-        outside l = follow-out-from (formOf p) (p .from) inside o q (λ i j. omega (arith, s .within))
+        outside : n ≤ o → follow (inside line) (formOf p) (p .from) o q ≡ false
+        outside l = follow-out-from (formOf p) (p .from) (inside line) o q (λ i j. omega (arith, s .within))
 
-        go : Dec (o < n) → Dec (o < n + positions f) → v .follow o q ≡ follow inside (formOf p) (p .from) o q
+        go : Dec (o < n) → Dec (o < n + positions f) → followIn v line o q ≡ follow (inside line) (formOf p) (p .from) o q
         go (yes l) m =
-            x .follow-old o q l (omega arith) ∙ ap (λ (b : Bool). b && w .follow o q) (lt-ltb q n below) ∙ s .follow-is o q h
+            x .follow-old line o q l (omega arith) ∙ ap (λ (b : Bool). b && followIn w line o q) (lt-ltb q n below) ∙ s .follow-is line o q h
         go (no l) (yes m) =
-            new-follow o q (omega arith) m (omega arith) ∙ follow-out-to f n inside o q (low q below) ∙ sym (outside (omega arith))
-        go (no l) (no m) = x .follow-rest o q (omega (arith, more)) ∙ s .follow-is o q h
+            new-follow line o q (omega arith) m (omega arith) ∙ follow-out-to f n (inside line) o q (low q below) ∙ sym (outside (omega arith))
+        go (no l) (no m) = x .follow-rest line o q (omega (arith, more)) ∙ s .follow-is line o q h
 
     stands-old : Stands v c p
     stands-old =
@@ -202,39 +207,39 @@ module _ (w v : Automaton) (k : ℕ) (r : Accepted) (parts : Parts) (x : Extende
               ∙ joined q below (w .takes y q) (from-to n (n + parts .positions) q && rowHas (parts .takes) ((q - n) * 4) y)
               (ap (λ (b : Bool). b && rowHas (parts .takes) ((q - n) * 4) y) (from-to-below n (n + parts .positions) q below))
               ∙ s .takes-is y q l h;
-          first-is = λ q h.
+          first-is = λ line q h.
               let below : q < n = old q h in
-              x .first q (omega arith)
-              ∙ joined q below (w .first q) (has (parts .first) q) (new-first q (omega arith) ∙ first-out f n inside q (low q below))
-              ∙ s .first-is q h;
-          start-is = λ q h.
+              x .first line q (omega arith)
+              ∙ joined q below (firstIn w line q) (has (firstOf parts line) q) (new-first line q (omega arith) ∙ first-out f n (inside line) q (low q below))
+              ∙ s .first-is line q h;
+          start-is = λ line q h.
               let below : q < n = old q h in
-              x .firstAtStart q (omega arith)
-              ∙ joined q below (w .firstAtStart q) (has (parts .start) q) (new-start q (omega arith) ∙ first-out f n atStart q (low q below))
-              ∙ s .start-is q h;
+              x .firstAtStart line q (omega arith)
+              ∙ joined q below (startIn w line q) (has (startOf parts line) q) (new-start line q (omega arith) ∙ first-out f n (atStart line) q (low q below))
+              ∙ s .start-is line q h;
           follow-is = kept-follow;
-          last-is = λ q h. last-kept q (omega (arith, grown)) ∙ ends q (omega (arith, grown)) (w .last a q) inside (λ l. s .last-is q l);
+          last-is = λ line q h. last-kept line q (omega (arith, grown)) ∙ ends q (omega (arith, grown)) (lastIn w line a q) (inside line) (λ l. s .last-is line q l);
           end-is = λ q h. end-kept q (omega (arith, grown)) ∙ ends q (omega (arith, grown)) (w .lastAtEnd a q) atEnd (λ l. s .end-is q l);
         }
 
   -- ---- the new rule
 
   module _ (full : nullable (r .tree) ≡ false) (id-new : v .id k ≡ r .id) (flags-new : v .flags k ≡ r .flags)
-      (last-here : (q : ℕ) → q < maxPositions → v .last k q ≡ has (parts .last) q) (end-here : (q : ℕ) → q < maxPositions → v .lastAtEnd k q ≡ has (parts .«end») q)
-      (nothing-after : (o q : ℕ) → n ≤ o → w .follow o q ≡ false) where
+      (last-here : (line : Bool) (q : ℕ) → q < maxPositions → lastIn v line k q ≡ has (lastOf parts line) q) (end-here : (q : ℕ) → q < maxPositions → v .lastAtEnd k q ≡ has (parts .«end») q)
+      (nothing-after : (line : Bool) (o q : ℕ) → n ≤ o → followIn w line o q ≡ false) where
     -- an old set has none of its positions
     masked : (q : ℕ) → n ≤ q → (b d : Bool) → ((ltb q n && b) || d) ≡ d
     masked q h b d = ap (λ (i : Bool). (i && b) || d) (le-ltb q n h)
 
-    own-follow : (o q : ℕ) → Of new q → v .follow o q ≡ follow inside f n o q
-    own-follow o q h = go (decLt o n) (decLt o (n + positions f))
+    own-follow : (line : Bool) (o q : ℕ) → Of new q → followIn v line o q ≡ follow (inside line) f n o q
+    own-follow line o q h = go (decLt o n) (decLt o (n + positions f))
       where
-        go : Dec (o < n) → Dec (o < n + positions f) → v .follow o q ≡ follow inside f n o q
+        go : Dec (o < n) → Dec (o < n + positions f) → followIn v line o q ≡ follow (inside line) f n o q
         go (yes l) m =
-            x .follow-old o q l (omega arith) ∙ ap (λ (b : Bool). b && w .follow o q) (le-ltb q n (h .0)) ∙ sym (follow-out-from f n inside o q (low o l))
-        go (no l) (yes m) = new-follow o q (omega arith) m (omega arith)
+            x .follow-old line o q l (omega arith) ∙ ap (λ (b : Bool). b && followIn w line o q) (le-ltb q n (h .0)) ∙ sym (follow-out-from f n (inside line) o q (low o l))
+        go (no l) (yes m) = new-follow line o q (omega arith) m (omega arith)
         go (no l) (no m) =
-            x .follow-rest o q (omega (arith, more)) ∙ nothing-after o q (omega arith) ∙ sym (follow-out-from f n inside o q (high o (omega arith)))
+            x .follow-rest line o q (omega (arith, more)) ∙ nothing-after line o q (omega arith) ∙ sym (follow-out-from f n (inside line) o q (high o (omega arith)))
 
     stands-new : Stands v k new
     stands-new =
@@ -248,10 +253,10 @@ module _ (w v : Automaton) (k : ℕ) (r : Accepted) (parts : Parts) (x : Extende
               ∙ masked q (h .0) (w .takes y q) (from-to n (n + parts .positions) q && rowHas (parts .takes) ((q - n) * 4) y)
               ∙ ap (λ (b : Bool). b && rowHas (parts .takes) ((q - n) * 4) y) (from-to-in n (n + parts .positions) q (h .0) (omega (arith, more, h .1)))
               ∙ ap (λ (p : Parts). rowHas (p .takes) ((q - n) * 4) y) is ∙ parts-takes (r .tree) n room (q - n) y (omega arith) l;
-          first-is = λ q h. x .first q (omega arith) ∙ masked q (h .0) (w .first q) (has (parts .first) q) ∙ new-first q (omega arith);
-          start-is = λ q h. x .firstAtStart q (omega arith) ∙ masked q (h .0) (w .firstAtStart q) (has (parts .start) q) ∙ new-start q (omega arith);
+          first-is = λ line q h. x .first line q (omega arith) ∙ masked q (h .0) (firstIn w line q) (has (firstOf parts line) q) ∙ new-first line q (omega arith);
+          start-is = λ line q h. x .firstAtStart line q (omega arith) ∙ masked q (h .0) (startIn w line q) (has (startOf parts line) q) ∙ new-start line q (omega arith);
           follow-is = own-follow;
-          last-is = λ q h. last-here q (omega (arith, grown)) ∙ new-last q (omega (arith, grown));
+          last-is = λ line q h. last-here line q (omega (arith, grown)) ∙ new-last line q (omega (arith, grown));
           end-is = λ q h. end-here q (omega (arith, grown)) ∙ new-end q (omega (arith, grown));
         }
 
@@ -296,14 +301,14 @@ module _ (w v : Automaton) (k : ℕ) (r : Accepted) (parts : Parts) (x : Extende
             (stands-old (at ps a) a a (e .rule a (omega (arith, k-le)))
             (x .id-in a (omega (arith, e .rules)) ∙ put-before (r .id) (w .id) a l)
             (x .flags-in a (omega (arith, e .rules)) ∙ put-before (r .flags) (w .flags) a l)
-            (λ q i. x .last a q (omega (arith, e .rules)) i ∙ put-before (has (parts .last) q) (λ b. ltb q n && w .last b q) a l)
+            (λ line q i. x .last line a q (omega (arith, e .rules)) i ∙ put-before (has (lastOf parts line) q) (λ b. ltb q n && lastIn w line b q) a l)
             (λ q i. x .lastAtEnd a q (omega (arith, e .rules)) i ∙ put-before (has (parts .«end») q) (λ b. ltb q n && w .lastAtEnd b q) a l))
         go (no l) (yes m) =
             subst (Stands v a) (sym (at-after a m))
             (stands-old (at ps (a - 1)) (a - 1) a (e .rule (a - 1) (omega arith))
             (x .id-in a (omega (arith, e .rules)) ∙ put-after (r .id) (w .id) a m)
             (x .flags-in a (omega (arith, e .rules)) ∙ put-after (r .flags) (w .flags) a m)
-            (λ q i. x .last a q (omega (arith, e .rules)) i ∙ put-after (has (parts .last) q) (λ b. ltb q n && w .last b q) a m)
+            (λ line q i. x .last line a q (omega (arith, e .rules)) i ∙ put-after (has (lastOf parts line) q) (λ b. ltb q n && lastIn w line b q) a m)
             (λ q i. x .lastAtEnd a q (omega (arith, e .rules)) i ∙ put-after (has (parts .«end») q) (λ b. ltb q n && w .lastAtEnd b q) a m))
         go (no l) (no m) =
             let z : k ≡ a = omega arith in
@@ -312,7 +317,7 @@ module _ (w v : Automaton) (k : ℕ) (r : Accepted) (parts : Parts) (x : Extende
             (stands-new full
             (x .id-in k (omega (arith, e .rules)) ∙ put-here (r .id) (w .id))
             (x .flags-in k (omega (arith, e .rules)) ∙ put-here (r .flags) (w .flags))
-            (λ q i. x .last k q (omega (arith, e .rules)) i ∙ put-here (has (parts .last) q) (λ b. ltb q n && w .last b q))
+            (λ line q i. x .last line k q (omega (arith, e .rules)) i ∙ put-here (has (lastOf parts line) q) (λ b. ltb q n && lastIn w line b q))
             (λ q i. x .lastAtEnd k q (omega (arith, e .rules)) i ∙ put-here (has (parts .«end») q) (λ b. ltb q n && w .lastAtEnd b q))
             (e .rest)))
 
@@ -399,8 +404,8 @@ module _ (w v : Automaton) (k : ℕ) (r : Accepted) (parts : Parts) (x : Extende
             found a i o (no d) =
                 (suc a, omega arith, subst (λ (p : Placed). Of p q) (sym (insert-after new ps a (omega (arith, here)))) o)
 
-    nothing-past : (o q : ℕ) → n + positions f ≤ o → v .follow o q ≡ false
-    nothing-past o q h = x .follow-rest o q (omega (arith, more)) ∙ e .rest o q (omega arith)
+    nothing-past : (line : Bool) (o q : ℕ) → n + positions f ≤ o → followIn v line o q ≡ false
+    nothing-past line o q h = x .follow-rest line o q (omega (arith, more)) ∙ e .rest line o q (omega arith)
 
     pub encodes-more : Encodes v (insert (record { rule = r; from = w .positions }) ps)
     encodes-more =
@@ -410,7 +415,7 @@ module _ (w v : Automaton) (k : ℕ) (r : Accepted) (parts : Parts) (x : Extende
           rising = λ a b h l. rises a b h (omega (arith, long));
           covered = λ q h. let s = some-place q (omega (arith, grown)) in (s .0, omega (arith, long, s .1), s .2);
           apart = λ a b q h l i j. one-place a b q (omega (arith, long)) (omega (arith, long)) i j;
-          rest = λ o q h. nothing-past o q (omega (arith, grown));
+          rest = λ line o q h. nothing-past line o q (omega (arith, grown));
         }
 
 -- ---- as the theory of the position automaton wants it

@@ -11,7 +11,7 @@ use lib.Seq.{take-at, drop-at}
 use borrow.Author.Tests.{leb-true, ltb-true}
 use Rattle.sets.specs.Set.{has, setOf, any, count}
 use Rattle.sets.proofs.Laws.{any-ext, count-ext}
-use Rattle.table.specs.Layout.{tableWords, maxRules, maxPositions, bytes, rulesOf, positionsOf, firstAt, firstAtStartAt, recordAt, lastAt, lastAtEndAt, followAt, takersAt, recordWord, rowHas, from-to}
+use Rattle.table.specs.Layout.{tableWords, maxRules, maxPositions, bytes, rulesOf, positionsOf, firstAt, firstAtStartAt, lineFirstAt, lineFirstAtStartAt, stride, recordAt, lastAt, lastAtEndAt, lineLastAt, span, followAt, takersAt, lineFollowAt, recordWord, rowHas, from-to}
 use Rattle.table.specs.Table.{isTable}
 use Rattle.table.proofs.Rows.{row-same}
 use Rattle.table.proofs.Test.{passes}
@@ -48,7 +48,7 @@ module _ (t u : List ℕ) (same : take tableWords t ≡ take tableWords u) where
   positions : positionsOf t ≡ positionsOf u
   positions = same-word t u same 2 (omega arith)
 
-  field : (a i : ℕ) → a < maxRules → i < 16 → recordWord t a i ≡ recordWord u a i
+  field : (a i : ℕ) → a < maxRules → i < stride → recordWord t a i ≡ recordWord u a i
   field a i h l = same-word t u same (recordAt a + i) (omega arith)
 
   old-row : (at : ℕ) → at + 4 ≤ tableWords → oldRow t at ≡ oldRow u at
@@ -72,17 +72,19 @@ module _ (t u : List ℕ) (same : take tableWords t ≡ take tableWords u) where
       new-record : (i : ℕ) → newRecord t id flags parts i ≡ newRecord u id flags parts i
       unfolding newRecord
       new-record i =
-          ap (λ (n : ℕ). cond (eqb i 0) id (cond (eqb i 1) flags (cond (eqb i 2) n (cond (eqb i 3) (n + parts .positions)
-          (cond (from-to 4 8 i) (getD (parts .last) (i - 4) 0) (cond (from-to 8 12 i) (getD (parts .«end») (i - 8) 0) 0)))))) positions
+          ap (λ (n : ℕ). cond (eqb i 0) id (cond (eqb i 1) flags (cond (eqb i 2) (span n (n + parts .positions))
+          (cond (from-to 3 7 i) (getD (parts .last) (i - 3) 0) (cond (from-to 7 11 i) (getD (parts .«end») (i - 7) 0)
+          (cond (from-to 11 15 i) (getD (parts .«line_last») (i - 11) 0) 0)))))) positions
 
-      old-record : (a i : ℕ) → a < maxRules → i < 16 → oldRecord t id flags parts a i ≡ oldRecord u id flags parts a i
+      old-record : (a i : ℕ) → a < maxRules → i < stride → oldRecord t id flags parts a i ≡ oldRecord u id flags parts a i
       unfolding oldRecord
       old-record a i h l = λ j.
-          cond (from-to 4 8 i) (getD (setOf (old-row (lastAt a) (omega arith) j)) (i - 4) 0)
-          (cond (from-to 8 12 i) (getD (setOf (old-row (lastAtEndAt a) (omega arith) j)) (i - 8) 0)
-          (field a i h l j))
+          cond (from-to 3 7 i) (getD (setOf (old-row (lastAt a) (omega arith) j)) (i - 3) 0)
+          (cond (from-to 7 11 i) (getD (setOf (old-row (lastAtEndAt a) (omega arith) j)) (i - 7) 0)
+          (cond (from-to 11 15 i) (getD (setOf (old-row (lineLastAt a) (omega arith) j)) (i - 11) 0)
+          (field a i h l j)))
 
-      record-words : (a i : ℕ) → a < maxRules → i < 16 → recordWords t id flags parts a i ≡ recordWords u id flags parts a i
+      record-words : (a i : ℕ) → a < maxRules → i < stride → recordWords t id flags parts a i ≡ recordWords u id flags parts a i
       unfolding recordWords
       record-words a i h l = λ j.
           cond (ltb a (place j)) (old-record a i h l j)
@@ -90,12 +92,12 @@ module _ (t u : List ℕ) (same : take tableWords t ≡ take tableWords u) where
           (cond (leb a (rules j)) (old-record (a - 1) i (omega arith) l j)
           (field a i h l j)))
 
-      follow-words : (p i : ℕ) → p < maxPositions → i < 4 → followWords t id flags parts p i ≡ followWords u id flags parts p i
+      follow-words : (at : ℕ → ℕ) (new : List ℕ) (p i : ℕ) → at p + 4 ≤ tableWords → i < 4 → followWords t id flags parts at new p i ≡ followWords u id flags parts at new p i
       unfolding followWords
-      follow-words p i h l = λ j.
-          cond (ltb p (positions j)) (getD (setOf (old-row (followAt p) (omega arith) j)) i 0)
-          (cond (ltb p (positions j + parts .positions)) (getD (parts .follow) ((p - positions j) * 4 + i) 0)
-          (same-word t u same (followAt p + i) (omega arith) j))
+      follow-words at new p i h l = λ j.
+          cond (ltb p (positions j)) (getD (setOf (old-row (at p) h j)) i 0)
+          (cond (ltb p (positions j + parts .positions)) (getD new ((p - positions j) * 4 + i) 0)
+          (same-word t u same (at p + i) (omega arith) j))
 
       takers-words : (x i : ℕ) → x < bytes → takersWords t id flags parts x i ≡ takersWords u id flags parts x i
       unfolding takersWords newTaker
@@ -109,10 +111,13 @@ module _ (t u : List ℕ) (same : take tableWords t ≡ take tableWords u) where
           header _ _ _ _ _ _ rules positions
           (within firstAt (firstAt + 4) w _ _ _ _ (λ a b. λ j. getD (setOf (λ q. old-row firstAt (omega arith) j q || has (parts .first) q)) (w - firstAt) 0)
           (within firstAtStartAt (firstAtStartAt + 4) w _ _ _ _ (λ a b. λ j. getD (setOf (λ q. old-row firstAtStartAt (omega arith) j q || has (parts .start) q)) (w - firstAtStartAt) 0)
-          (within (recordAt 0) (recordAt maxRules) w _ _ _ _ (λ a b. record-words ((w - recordAt 0) / 16) ((w - recordAt 0) % 16) (omega arith) (omega arith))
-          (within (followAt 0) (followAt maxPositions) w _ _ _ _ (λ a b. follow-words ((w - followAt 0) / 4) ((w - followAt 0) % 4) (omega arith) (omega arith))
+          (within lineFirstAt (lineFirstAt + 4) w _ _ _ _ (λ a b. λ j. getD (setOf (λ q. old-row lineFirstAt (omega arith) j q || has (parts .«line_first») q)) (w - lineFirstAt) 0)
+          (within lineFirstAtStartAt (lineFirstAtStartAt + 4) w _ _ _ _ (λ a b. λ j. getD (setOf (λ q. old-row lineFirstAtStartAt (omega arith) j q || has (parts .«line_start») q)) (w - lineFirstAtStartAt) 0)
+          (within (recordAt 0) (recordAt maxRules) w _ _ _ _ (λ a b. record-words ((w - recordAt 0) / stride) ((w - recordAt 0) % stride) (omega arith) (omega arith))
+          (within (followAt 0) (followAt maxPositions) w _ _ _ _ (λ a b. follow-words followAt (parts .follow) ((w - followAt 0) / 4) ((w - followAt 0) % 4) (omega arith) (omega arith))
           (within (takersAt 0) (takersAt bytes) w _ _ _ _ (λ a b. takers-words ((w - takersAt 0) / 4) ((w - takersAt 0) % 4) (omega arith))
-          (same-word t u same w h))))))
+          (within (lineFollowAt 0) (lineFollowAt maxPositions) w _ _ _ _ (λ a b. follow-words lineFollowAt (parts .«line_follow») ((w - lineFollowAt 0) / 4) ((w - lineFollowAt 0) % 4) (omega arith) (omega arith))
+          (same-word t u same w h)))))))))
         where
           header : (r r' p p' x x' : ℕ) → r ≡ r' → p ≡ p' → x ≡ x'
               → cond (eqb w 1) (r + 1) (cond (eqb w 2) (p + parts .positions) x) ≡ cond (eqb w 1) (r' + 1) (cond (eqb w 2) (p' + parts .positions) x')

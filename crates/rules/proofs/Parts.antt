@@ -1,6 +1,7 @@
 -- What the parts of a rule say: the words of the builder's sets, read back as the sets of the written-out form. The builder's laws give the rows as four
 -- words (`follow-row`, `takes-row`); here they are read by their members.
 use mathlib.Core.Path.{_≡_, refl, sym, ap, _∙_}
+use mathlib.Core.Bool.{Bool, true, false}
 use mathlib.Core.List.{List, []}
 use Prim.Native.Nat.{ℕ, _+_, _*_, _/_, _%_, _≤_, _<_}
 use lib.ListN.{getD, drop}
@@ -17,7 +18,25 @@ use Rattle.nodes.specs.Nodes.{Syntax}
 use Rattle.automaton.specs.Parts.{fourWords, inside, atStart, atEnd, formParts, partsOf}
 use Rattle.automaton.specs.declared.Parts.{Parts}
 use Rattle.automaton.proofs.Words.{has-four}
-use Rattle.automaton.proofs.Padded.{parts-whole, follow-row, takes-row}
+use Rattle.automaton.proofs.Padded.{parts-whole, follow-row, line-follow-row, takes-row}
+
+-- ---- the parts at a gap where the last line ends, and elsewhere
+
+abbrev pub firstOf : Parts → Bool → List ℕ
+firstOf parts true = parts .«line_first»
+firstOf parts false = parts .first
+
+abbrev pub startOf : Parts → Bool → List ℕ
+startOf parts true = parts .«line_start»
+startOf parts false = parts .start
+
+abbrev pub lastOf : Parts → Bool → List ℕ
+lastOf parts true = parts .«line_last»
+lastOf parts false = parts .last
+
+abbrev pub followOf : Parts → Bool → List ℕ
+followOf parts true = parts .«line_follow»
+followOf parts false = parts .follow
 
 -- ---- the sets and the count
 
@@ -26,17 +45,20 @@ module _ (f : Form ByteSet Assertion) (b : ℕ) where
   unfolding formParts
   parts-positions = refl
 
-  pub parts-first : (q : ℕ) → q < 256 → has (formParts f b .first) q ≡ first inside f b q
+  pub parts-first : (line : Bool) (q : ℕ) → q < 256 → has (firstOf (formParts f b) line) q ≡ first (inside line) f b q
   unfolding formParts
-  parts-first = has-setOf (first inside f b)
+  parts-first true = has-setOf (first (inside true) f b)
+  parts-first false = has-setOf (first (inside false) f b)
 
-  pub parts-start : (q : ℕ) → q < 256 → has (formParts f b .start) q ≡ first atStart f b q
+  pub parts-start : (line : Bool) (q : ℕ) → q < 256 → has (startOf (formParts f b) line) q ≡ first (atStart line) f b q
   unfolding formParts
-  parts-start = has-setOf (first atStart f b)
+  parts-start true = has-setOf (first (atStart true) f b)
+  parts-start false = has-setOf (first (atStart false) f b)
 
-  pub parts-last : (q : ℕ) → q < 256 → has (formParts f b .last) q ≡ last inside f b q
+  pub parts-last : (line : Bool) (q : ℕ) → q < 256 → has (lastOf (formParts f b) line) q ≡ last (inside line) f b q
   unfolding formParts
-  parts-last = has-setOf (last inside f b)
+  parts-last true = has-setOf (last (inside true) f b)
+  parts-last false = has-setOf (last (inside false) f b)
 
   pub parts-end : (q : ℕ) → q < 256 → has (formParts f b .«end») q ≡ last atEnd f b q
   unfolding formParts
@@ -51,10 +73,13 @@ row-four l at q h =
 
 module _ (t : Syntax) (b : ℕ) (fits : b + positions (write t) ≤ limit) where
   -- row i of the follow sets
-  pub parts-follow : (i q : ℕ) → i < positions (write t) → q < 256 → rowHas (formParts (write t) b .follow) (i * 4) q ≡ follow inside (write t) b (b + i) q
-  parts-follow i q h l =
+  pub parts-follow : (line : Bool) (i q : ℕ) → i < positions (write t) → q < 256 → rowHas (followOf (formParts (write t) b) line) (i * 4) q ≡ follow (inside line) (write t) b (b + i) q
+  parts-follow true i q h l =
+      ap (λ (p : Parts). rowHas (p .«line_follow») (i * 4) q) (parts-whole t b fits) ∙ row-four (partsOf t b .«line_follow») (i * 4) q l
+      ∙ ap (λ (s : List ℕ). has s q) (line-follow-row t b i fits h) ∙ has-setOf (follow (inside true) (write t) b (b + i)) q l
+  parts-follow false i q h l =
       ap (λ (p : Parts). rowHas (p .follow) (i * 4) q) (parts-whole t b fits) ∙ row-four (partsOf t b .follow) (i * 4) q l
-      ∙ ap (λ (s : List ℕ). has s q) (follow-row t b i fits h) ∙ has-setOf (follow inside (write t) b (b + i)) q l
+      ∙ ap (λ (s : List ℕ). has s q) (follow-row t b i fits h) ∙ has-setOf (follow (inside false) (write t) b (b + i)) q l
 
   -- row i of the byte sets
   pub parts-takes : (i x : ℕ) → i < positions (write t) → x < 256 → rowHas (formParts (write t) b .takes) (i * 4) x ≡ has (getD (items (write t)) i []) x

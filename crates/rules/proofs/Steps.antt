@@ -12,7 +12,7 @@ use lib.ListN.{length, getD}
 use borrow.Author.Tests.{lt-ltb, le-ltb, eq-eqb, ne-eqb}
 use Rattle.sets.specs.Set.{setOf, emptySet, inserted, unionOf, keptBelow, count, asOne}
 use Rattle.sets.proofs.Laws.{setOf-ext, inserted-setOf}
-use Rattle.table.specs.Layout.{tableWords, maxRules, recordAt, recordWord, rowHas, from-to}
+use Rattle.table.specs.Layout.{tableWords, maxRules, stride, recordAt, lastAt, recordWord, rowHas, from-to}
 use Rattle.table.proofs.Over.{from-to-in, from-to-below, from-to-above, over, length-over, over-in, over-below, over-above, over-is, Written, written-none, written-above, written-block, written-all}
 use Rattle.table.proofs.Writes.{copied, movedUp}
 use Rattle.rules.specs.Invariants.{merged, mergedRow, rowsWord, mergedRows, maskedRows, maskedWord, recordsWord, maskedRecords, smaller, newTakers, recordAtPlace, recordPut}
@@ -62,42 +62,42 @@ MaskedTo a n t s = Written (recordAt 0) (recordAt a) (recordsWord n t) t s
 pub records-none : (n : ℕ) (t : List ℕ) → MaskedTo 0 n t t
 records-none n t = written-none (omega arith)
 
-pub records-turn : (a n : ℕ) (t s s' : List ℕ) → a < maxRules → tableWords ≤ length t → MaskedTo a n t s → s' ≡ maskedRows (recordAt a + 4) 2 n s → MaskedTo (a + 1) n t s'
+pub records-turn : (a n : ℕ) (t s s' : List ℕ) → a < maxRules → tableWords ≤ length t → MaskedTo a n t s → s' ≡ maskedRows (recordAt a + 3) 3 n s → MaskedTo (a + 1) n t s'
 unfolding maskedRows mergedRows rowsWord maskedWord recordsWord
 records-turn a n t s s' few long r e =
     subst (λ (l : List ℕ). Written (recordAt 0) (recordAt (a + 1)) (recordsWord n t) t l) (sym whole)
     (written-block r (omega arith) (omega arith) same)
   where
     at : ℕ
-    at = recordAt a + 4
+    at = recordAt a + 3
 
     g : ℕ → ℕ
     g w = getD (mergedRow s (at + (w - at) / 4 * 4) n emptySet) ((w - at) % 4) 0
 
     low : (w : ℕ) → w < at → getD s' w 0 ≡ getD s w 0
-    low w h = ap (λ (l : List ℕ). getD l w 0) e ∙ over-below at (at + 2 * 4) g s w h
+    low w h = ap (λ (l : List ℕ). getD l w 0) e ∙ over-below at (at + 3 * 4) g s w h
 
-    high : (w : ℕ) → at + 8 ≤ w → getD s' w 0 ≡ getD s w 0
-    high w h = ap (λ (l : List ℕ). getD l w 0) e ∙ over-above at (at + 2 * 4) g s w h
+    high : (w : ℕ) → at + 12 ≤ w → getD s' w 0 ≡ getD s w 0
+    high w h = ap (λ (l : List ℕ). getD l w 0) e ∙ over-above at (at + 3 * 4) g s w h
 
-    mid : (w : ℕ) → at ≤ w → w < at + 8 → getD s' w 0 ≡ g w
-    mid w h l = ap (λ (l : List ℕ). getD l w 0) e ∙ over-in at (at + 2 * 4) g s w h l (omega (arith, r .long))
+    mid : (w : ℕ) → at ≤ w → w < at + 12 → getD s' w 0 ≡ g w
+    mid w h l = ap (λ (l : List ℕ). getD l w 0) e ∙ over-in at (at + 3 * 4) g s w h l (omega (arith, r .long))
 
     whole : s' ≡ over (recordAt a) (recordAt (a + 1)) (λ w. getD s' w 0) s
     whole =
-        over-is (recordAt a) (recordAt (a + 1)) (λ w. getD s' w 0) s s' (ap length e ∙ length-over at (at + 2 * 4) g s)
+        over-is (recordAt a) (recordAt (a + 1)) (λ w. getD s' w 0) s s' (ap length e ∙ length-over at (at + 3 * 4) g s)
         (λ w x y l. refl) (λ w x. low w (omega arith)) (λ w x. high w (omega arith))
 
     old : (w : ℕ) → recordAt a ≤ w → getD s w 0 ≡ getD t w 0
     old w h = written-above r w h
 
     same : (w : ℕ) → recordAt a ≤ w → w < recordAt (a + 1) → w < length t → getD s' w 0 ≡ recordsWord n t w
-    same w x y l = go (decLt w at) (decLt w (at + 8))
+    same w x y l = go (decLt w at) (decLt w (at + 12))
       where
-        quot : (w - recordAt 0) / 16 ≡ a
+        quot : (w - recordAt 0) / stride ≡ a
         quot = omega arith
 
-        rest : (w - recordAt 0) % 16 ≡ w - recordAt a
+        rest : (w - recordAt 0) % stride ≡ w - recordAt a
         rest = omega arith
 
         word : maskedWord t n a (w - recordAt a) ≡ recordsWord n t w
@@ -106,21 +106,21 @@ records-turn a n t s s' few long r e =
         back : recordWord t a (w - recordAt a) ≡ getD t w 0
         back = let z : recordAt a + (w - recordAt a) ≡ w = omega arith in ap (λ (i : ℕ). getD t i 0) z
 
-        go : Dec (w < at) → Dec (w < at + 8) → getD s' w 0 ≡ recordsWord n t w
+        go : Dec (w < at) → Dec (w < at + 12) → getD s' w 0 ≡ recordsWord n t w
         go (yes p) q =
             low w p ∙ old w x ∙ sym back
-            ∙ sym (ap (λ (b : Bool). cond b (getD (mergedRow t (recordAt a + (w - recordAt a) / 4 * 4) n emptySet) ((w - recordAt a) % 4) 0) (recordWord t a (w - recordAt a))) (from-to-below 4 12 (w - recordAt a) (omega arith)))
+            ∙ sym (ap (λ (b : Bool). cond b (getD (mergedRow t (lastAt a + (w - recordAt a - 3) / 4 * 4) n emptySet) ((w - recordAt a - 3) % 4) 0) (recordWord t a (w - recordAt a))) (from-to-below 3 15 (w - recordAt a) (omega arith)))
             ∙ word
         go (no p) (yes q) =
-            let z : at + (w - at) / 4 * 4 ≡ recordAt a + (w - recordAt a) / 4 * 4 = omega arith in
-            let m : (w - at) % 4 ≡ (w - recordAt a) % 4 = omega arith in
+            let z : at + (w - at) / 4 * 4 ≡ lastAt a + (w - recordAt a - 3) / 4 * 4 = omega arith in
+            let m : (w - at) % 4 ≡ (w - recordAt a - 3) % 4 = omega arith in
             mid w (omega arith) q
             ∙ ap₂ (λ (l : List ℕ) (i : ℕ). getD l i 0) (merged-same s t (at + (w - at) / 4 * 4) n emptySet (λ i h. old (at + (w - at) / 4 * 4 + i) (omega arith)) ∙ ap (λ (i : ℕ). mergedRow t i n emptySet) z) m
-            ∙ sym (ap (λ (b : Bool). cond b (getD (mergedRow t (recordAt a + (w - recordAt a) / 4 * 4) n emptySet) ((w - recordAt a) % 4) 0) (recordWord t a (w - recordAt a))) (from-to-in 4 12 (w - recordAt a) (omega arith) (omega arith)))
+            ∙ sym (ap (λ (b : Bool). cond b (getD (mergedRow t (lastAt a + (w - recordAt a - 3) / 4 * 4) n emptySet) ((w - recordAt a - 3) % 4) 0) (recordWord t a (w - recordAt a))) (from-to-in 3 15 (w - recordAt a) (omega arith) (omega arith)))
             ∙ word
         go (no p) (no q) =
             high w (omega arith) ∙ old w x ∙ sym back
-            ∙ sym (ap (λ (b : Bool). cond b (getD (mergedRow t (recordAt a + (w - recordAt a) / 4 * 4) n emptySet) ((w - recordAt a) % 4) 0) (recordWord t a (w - recordAt a))) (from-to-above 4 12 (w - recordAt a) (omega arith)))
+            ∙ sym (ap (λ (b : Bool). cond b (getD (mergedRow t (lastAt a + (w - recordAt a - 3) / 4 * 4) n emptySet) ((w - recordAt a - 3) % 4) 0) (recordWord t a (w - recordAt a))) (from-to-above 3 15 (w - recordAt a) (omega arith)))
             ∙ word
 
 pub records-whole : (a rules n : ℕ) (t s : List ℕ) → MaskedTo a n t s → a ≡ rules → s ≡ maskedRecords rules n t
@@ -192,7 +192,7 @@ module _ (takes : List ℕ) (n x : ℕ) where
 -- ---- the parts, put together
 
 pub record-is : (rules n k : ℕ) (r t s1 s2 s3 : List ℕ) → k ≡ count rules (smaller t (getD r 0 0)) → s1 ≡ maskedRecords rules n t
-    → s2 ≡ movedUp (recordAt k) ((rules - k) * 16) s1 → s3 ≡ copied (recordAt k) 16 r s2 → s3 ≡ recordPut rules n r t
+    → s2 ≡ movedUp (recordAt k) ((rules - k) * stride) s1 → s3 ≡ copied (recordAt k) stride r s2 → s3 ≡ recordPut rules n r t
 unfolding recordPut recordAtPlace
 record-is rules n k r t s1 s2 s3 place a b c =
-    c ∙ ap (copied (recordAt k) 16 r) (b ∙ ap (movedUp (recordAt k) ((rules - k) * 16)) a) ∙ ap (λ (j : ℕ). recordAtPlace rules n j r t) place
+    c ∙ ap (copied (recordAt k) stride r) (b ∙ ap (movedUp (recordAt k) ((rules - k) * stride)) a) ∙ ap (λ (j : ℕ). recordAtPlace rules n j r t) place

@@ -5,9 +5,10 @@ use Prim.Native.Nat.{ℕ, _+_, _-_, _*_, _/_, _%_}
 use lib.Dec.{leb, ltb}
 use lib.ListN.{getD}
 use Rattle.sets.specs.Set.{has, setOf, emptySet, count}
-use Rattle.table.specs.Layout.{maxRules, bytes, rulesOf, firstAt, firstAtStartAt, recordAt, followAt, takersAt, recordWord, rowHas, from-to}
+use Rattle.table.specs.Layout.{maxRules, bytes, rulesOf, firstAt, lineFirstAt, stride, recordAt, lastAt, followAt, takersAt, lineFollowAt, recordWord, rowHas, from-to}
 use Rattle.table.specs.Table.{isTable}
 use Rattle.table.specs.Invariants.{over, copied, movedUp}
+use Rattle.automaton.specs.declared.Parts.{Parts}
 use Rattle.rules.specs.Add.{unknownFlag, hasId}
 
 -- ---- the checks before the pattern is read
@@ -35,13 +36,13 @@ mergedRows at rows n new t = over at (at + rows * 4) (rowsWord at n new t) t
 unfoldable pub maskedRows : (at rows n : ℕ) → List ℕ → List ℕ
 maskedRows at rows n t = mergedRows at rows n (λ k. emptySet) t
 
--- word i of record a, with its two sets kept to the positions below n
+-- word i of record a, with its three sets kept to the positions below n
 unfoldable pub maskedWord : List ℕ → (n a i : ℕ) → ℕ
 maskedWord t n a i =
-    cond (from-to 4 12 i) (getD (mergedRow t (recordAt a + i / 4 * 4) n emptySet) (i % 4) 0) (recordWord t a i)
+    cond (from-to 3 15 i) (getD (mergedRow t (lastAt a + (i - 3) / 4 * 4) n emptySet) ((i - 3) % 4) 0) (recordWord t a i)
 
 unfoldable pub recordsWord : ℕ → List ℕ → ℕ → ℕ
-recordsWord n t w = maskedWord t n ((w - recordAt 0) / 16) ((w - recordAt 0) % 16)
+recordsWord n t w = maskedWord t n ((w - recordAt 0) / stride) ((w - recordAt 0) % stride)
 
 unfoldable pub maskedRecords : (rules n : ℕ) → List ℕ → List ℕ
 maskedRecords rules n t = over (recordAt 0) (recordAt rules) (recordsWord n t) t
@@ -51,25 +52,27 @@ abbrev pub smaller : List ℕ → (id a : ℕ) → Bool
 smaller t id a = ltb (recordWord t a 0) id
 
 -- the words of a rule's record
-abbrev pub recordOf : (id flags from to : ℕ) → (last lastAtEnd : List ℕ) → List ℕ
-recordOf id flags from to last lastAtEnd =
-    id ∷ flags ∷ from ∷ to
+abbrev pub recordOf : (id flags positions : ℕ) → (last lastAtEnd lineLast : List ℕ) → List ℕ
+recordOf id flags positions last lastAtEnd lineLast =
+    id ∷ flags ∷ positions
     ∷ getD last 0 0 ∷ getD last 1 0 ∷ getD last 2 0 ∷ getD last 3 0
     ∷ getD lastAtEnd 0 0 ∷ getD lastAtEnd 1 0 ∷ getD lastAtEnd 2 0 ∷ getD lastAtEnd 3 0
-    ∷ 0 ∷ 0 ∷ 0 ∷ 0 ∷ []
+    ∷ getD lineLast 0 0 ∷ getD lineLast 1 0 ∷ getD lineLast 2 0 ∷ getD lineLast 3 0 ∷ []
 
 -- a record at place k, with those from there on one up
 unfoldable pub recordAtPlace : (rules n k : ℕ) → List ℕ → List ℕ → List ℕ
-recordAtPlace rules n k r t = copied (recordAt k) 16 r (movedUp (recordAt k) ((rules - k) * 16) (maskedRecords rules n t))
+recordAtPlace rules n k r t = copied (recordAt k) stride r (movedUp (recordAt k) ((rules - k) * stride) (maskedRecords rules n t))
 
 unfoldable pub recordPut : (rules n : ℕ) → List ℕ → List ℕ → List ℕ
 recordPut rules n r t = recordAtPlace rules n (count rules (smaller t (getD r 0 0))) r t
 
-unfoldable pub startsPut : ℕ → List ℕ → List ℕ → List ℕ → List ℕ
-startsPut n first start t = merged firstAtStartAt n start (merged firstAt n first t)
+-- two sets of first positions, one after the other at `at`
+unfoldable pub startsPut : (at n : ℕ) → List ℕ → List ℕ → List ℕ → List ℕ
+startsPut at n first start t = merged (at + 4) n start (merged at n first t)
 
-unfoldable pub followPut : ℕ → List ℕ → ℕ → List ℕ → List ℕ
-followPut n follow more t = copied (followAt n) (more * 4) follow (maskedRows (followAt 0) n n t)
+-- follow sets from `at` on: those of the n old positions, and after them the new ones
+unfoldable pub followPut : (at n : ℕ) → List ℕ → ℕ → List ℕ → List ℕ
+followPut at n follow more t = copied (at + n * 4) (more * 4) follow (maskedRows at n n t)
 
 -- the new positions, from n on, that take byte x
 unfoldable pub newTakers : List ℕ → (n more x : ℕ) → List ℕ
@@ -77,6 +80,15 @@ newTakers takes n more x = setOf (λ q. from-to n (n + more) q && rowHas takes (
 
 unfoldable pub takersPut : ℕ → List ℕ → ℕ → List ℕ → List ℕ
 takersPut n takes more t = mergedRows (takersAt 0) bytes n (newTakers takes n more) t
+
+-- the sets of the parts, but for those of the record
+unfoldable pub partsPut : ℕ → Parts → List ℕ → List ℕ
+partsPut n parts t =
+    followPut (lineFollowAt 0) n (parts .«line_follow») (parts .positions)
+    (takersPut n (parts .takes) (parts .positions)
+    (followPut (followAt 0) n (parts .follow) (parts .positions)
+    (startsPut lineFirstAt n (parts .«line_first») (parts .«line_start»)
+    (startsPut firstAt n (parts .first) (parts .start) t))))
 
 unfoldable pub countsPut : (rules positions : ℕ) → List ℕ → List ℕ
 countsPut rules positions t = copied 1 2 (rules ∷ positions ∷ []) t

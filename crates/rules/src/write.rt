@@ -2,24 +2,26 @@
 // the table. specs/Invariants.antt says what each makes, and `add_rule` makes the words of specs/Words.antt.
 use automaton::Parts;
 use table::layout::FIRST_AT;
-use table::layout::FIRST_AT_START_AT;
 use table::layout::FOLLOW_AT;
 use table::layout::ID;
 use table::layout::LAST;
+use table::layout::LINE_FIRST_AT;
+use table::layout::LINE_FOLLOW_AT;
 use table::layout::POSITIONS_AT;
 use table::layout::RECORD_WORDS;
 use table::layout::RECORDS_AT;
 use table::layout::RULES_AT;
 use table::layout::SET_WORDS;
+use table::layout::SPAN_TO;
 use table::layout::TAKERS_AT;
 ghost use mathlib.Core.Path.{_≡_};
 ghost use Prim.Native.Nat.{_+_, _*_, _≤_, _<_};
 ghost use lib.ListN.{length};
 ghost use Rattle.sets.specs.Set.{count};
-ghost use Rattle.table.specs.Layout.{tableWords, maxRules, maxPositions, rulesOf, positionsOf};
+ghost use Rattle.table.specs.Layout.{tableWords, stride, maxRules, maxPositions, rulesOf, positionsOf};
 ghost use Rattle.table.specs.Invariants.{copied, movedUp};
 ghost use Rattle.rules.specs.Words.{added};
-ghost use Rattle.rules.specs.Invariants.{merged, maskedRows, maskedRecords, smaller, newTakers, takersPut, recordOf, recordPut, startsPut, followPut, countsPut};
+ghost use Rattle.rules.specs.Invariants.{merged, maskedRows, maskedRecords, smaller, newTakers, takersPut, recordOf, recordPut, startsPut, followPut, partsPut, countsPut};
 
 // n words of src at `at`.
 fn put_words(words: &mut [u64], at: usize, src: &[u64], n: usize)
@@ -35,7 +37,7 @@ fn put_words(words: &mut [u64], at: usize, src: &[u64], n: usize)
 
 // The n words from `at` on, one record up.
 fn move_up(words: &mut [u64], at: usize, n: usize)
-    requires { ⌜ at + 16 + n ≤ length (now words) ⌝ }
+    requires { ⌜ at + stride + n ≤ length (now words) ⌝ }
     ensures { λ r. ⌜ now (words .exit) ≡ movedUp at n (now (words .entry)) ⌝ }
 {
     let mut i = n;
@@ -69,14 +71,14 @@ fn mask_rows(words: &mut [u64], at: usize, rows: usize, n: usize)
     }
 }
 
-// Keeps the two sets of each rule's record to the positions below n.
+// Keeps the three sets of each rule's record to the positions below n.
 fn mask_records(words: &mut [u64], rules: usize, n: usize)
     requires { ⌜ (tableWords ≤ length (now words)) × (rules ≤ maxRules) ⌝ }
     ensures { λ r. ⌜ now (words .exit) ≡ maskedRecords rules n (now (words .entry)) ⌝ }
 {
     let mut a: usize = 0;
     while a < rules {
-        mask_rows(words, RECORDS_AT + a * RECORD_WORDS + LAST, 2, n);
+        mask_rows(words, RECORDS_AT + a * RECORD_WORDS + LAST, 3, n);
         a += 1;
     }
 }
@@ -98,14 +100,20 @@ fn place_of(words: &[u64], rules: usize, id: u64) -> usize
 }
 
 // The words of a rule's record.
-fn record_of(id: u64, flags: u64, from: u64, to: u64, last: [u64; 4], end: [u64; 4]) -> [u64; 16]
-    ensures { λ r. ⌜ r ≡ recordOf id flags from to last «end» ⌝ }
+fn record_of(
+    id: u64,
+    flags: u64,
+    positions: u64,
+    last: [u64; 4],
+    end: [u64; 4],
+    line: [u64; 4],
+) -> [u64; 15]
+    ensures { λ r. ⌜ r ≡ recordOf id flags positions last «end» line ⌝ }
 {
     [
         id,
         flags,
-        from,
-        to,
+        positions,
         last[0],
         last[1],
         last[2],
@@ -114,15 +122,15 @@ fn record_of(id: u64, flags: u64, from: u64, to: u64, last: [u64; 4], end: [u64;
         end[1],
         end[2],
         end[3],
-        0,
-        0,
-        0,
-        0,
+        line[0],
+        line[1],
+        line[2],
+        line[3],
     ]
 }
 
 // Puts a record at the place of its id, after the sets of the others are kept to the positions below n.
-fn put_record(words: &mut [u64], rules: usize, n: usize, record: [u64; 16])
+fn put_record(words: &mut [u64], rules: usize, n: usize, record: [u64; 15])
     requires { ⌜ (tableWords ≤ length (now words)) × (rules < maxRules) ⌝ }
     ensures { λ r. ⌜ now (words .exit) ≡ recordPut rules n «record» (now (words .entry)) ⌝ }
 {
@@ -133,22 +141,22 @@ fn put_record(words: &mut [u64], rules: usize, n: usize, record: [u64; 16])
     put_words(words, at, &record, RECORD_WORDS);
 }
 
-// The sets of first positions.
-fn put_starts(words: &mut [u64], n: usize, first: [u64; 4], start: [u64; 4])
-    requires { ⌜ tableWords ≤ length (now words) ⌝ }
-    ensures { λ r. ⌜ now (words .exit) ≡ startsPut n first start (now (words .entry)) ⌝ }
+// Two sets of first positions, one after the other at `at`.
+fn put_starts(words: &mut [u64], at: usize, n: usize, first: [u64; 4], start: [u64; 4])
+    requires { ⌜ at + 8 ≤ length (now words) ⌝ }
+    ensures { λ r. ⌜ now (words .exit) ≡ startsPut at n first start (now (words .entry)) ⌝ }
 {
-    merge_row(words, FIRST_AT, n, first);
-    merge_row(words, FIRST_AT_START_AT, n, start);
+    merge_row(words, at, n, first);
+    merge_row(words, at + SET_WORDS, n, start);
 }
 
-// The follow sets: those of the n old positions, and after them the new ones.
-fn put_follow(words: &mut [u64], n: usize, follow: &[u64; 1024], more: usize)
-    requires { ⌜ (tableWords ≤ length (now words)) × (n + more ≤ maxPositions) ⌝ }
-    ensures { λ r. ⌜ now (words .exit) ≡ followPut n (now (follow .entry)) more (now (words .entry)) ⌝ }
+// Follow sets from `at` on: those of the n old positions, and after them the new ones.
+fn put_follow(words: &mut [u64], at: usize, n: usize, follow: &[u64; 1024], more: usize)
+    requires { ⌜ (at + 1024 ≤ length (now words)) × (n + more ≤ maxPositions) ⌝ }
+    ensures { λ r. ⌜ now (words .exit) ≡ followPut at n (now (follow .entry)) more (now (words .entry)) ⌝ }
 {
-    mask_rows(words, FOLLOW_AT, n, n);
-    put_words(words, FOLLOW_AT + n * SET_WORDS, follow, more * SET_WORDS);
+    mask_rows(words, at, n, n);
+    put_words(words, at + n * SET_WORDS, follow, more * SET_WORDS);
 }
 
 // The new positions, from n on, that take byte x.
@@ -182,6 +190,26 @@ fn put_takers(words: &mut [u64], n: usize, takes: &[u64; 1024], more: usize)
     }
 }
 
+// The sets of the parts, but for those of the record.
+fn put_parts(words: &mut [u64], n: usize, parts: Parts)
+    requires { ⌜ (tableWords ≤ length (now words)) × (n + parts .positions ≤ maxPositions) ⌝ }
+    ensures { λ r. ⌜ now (words .exit) ≡ partsPut n parts (now (words .entry)) ⌝ }
+{
+    let more = parts.positions;
+    let first = parts.first;
+    let start = parts.start;
+    put_starts(words, FIRST_AT, n, first, start);
+    let line_first = parts.line_first;
+    let line_start = parts.line_start;
+    put_starts(words, LINE_FIRST_AT, n, line_first, line_start);
+    let follow = parts.follow;
+    put_follow(words, FOLLOW_AT, n, &follow, more);
+    let takes = parts.takes;
+    put_takers(words, n, &takes, more);
+    let line_follow = parts.line_follow;
+    put_follow(words, LINE_FOLLOW_AT, n, &line_follow, more);
+}
+
 // The counts of rules and positions.
 fn put_counts(words: &mut [u64], rules: u64, positions: u64)
     requires { ⌜ tableWords ≤ length (now words) ⌝ }
@@ -201,21 +229,16 @@ pub(super) fn add_rule(words: &mut [u64], id: u32, flags: u32, parts: Parts)
     let more = parts.positions;
     let last = parts.last;
     let end = parts.end;
+    let line = parts.line_last;
     let record = record_of(
         id as u64,
         flags as u64,
-        n as u64,
-        (n + more) as u64,
+        n as u64 + SPAN_TO * (n + more) as u64,
         last,
         end,
+        line,
     );
     put_record(words, rules, n, record);
-    let first = parts.first;
-    let start = parts.start;
-    put_starts(words, n, first, start);
-    let follow = parts.follow;
-    put_follow(words, n, &follow, more);
-    let takes = parts.takes;
-    put_takers(words, n, &takes, more);
+    put_parts(words, n, parts);
     put_counts(words, rules as u64 + 1, (n + more) as u64);
 }

@@ -12,7 +12,7 @@ use denote.Array.{Array}
 use borrow.Author.Needs.{needs}
 use borrow.Kind.Array.{eInt, good-length}
 use Rattle.sets.proofs.Laws.{Words, words-owned}
-use Rattle.table.specs.Layout.{tableWords, maxRules, recordAt}
+use Rattle.table.specs.Layout.{tableWords, maxRules, stride, recordAt}
 
 -- a place is one more, or has reached the end
 pub up : (a n : ℕ) → a < n → a + 1 ≤ n
@@ -35,23 +35,23 @@ module _ (a : ℕ) (h : a < maxRules) where
   pub place-digit : a < 64
   place-digit = omega arith
 
-  pub place-fits : Fits w64 (a * 16)
+  pub place-fits : Fits w64 (a * stride)
   place-fits = record { fits = omega arith }
 
   pub record-fits : Fits w64 (recordAt a)
   record-fits = record { fits = omega arith }
 
-  pub field-fits : (i : ℕ) → i ≤ 12 → Fits w64 (recordAt a + i)
+  pub field-fits : (i : ℕ) → i ≤ 11 → Fits w64 (recordAt a + i)
   field-fits i l = record { fits = omega arith }
 
-  pub field-bytes-fit : (i : ℕ) → i ≤ 12 → Fits w64 ((recordAt a + i) * 8)
+  pub field-bytes-fit : (i : ℕ) → i ≤ 11 → Fits w64 ((recordAt a + i) * 8)
   field-bytes-fit i l = record { fits = omega arith }
 
   -- a word of the record is inside a table, and so are four
-  pub field-inside : (i n : ℕ) → i ≤ 12 → tableWords ≤ n → recordAt a + i < n
+  pub field-inside : (i n : ℕ) → i ≤ 11 → tableWords ≤ n → recordAt a + i < n
   field-inside i n l m = omega arith
 
-  pub set-inside : (i n : ℕ) → i ≤ 12 → tableWords ≤ n → recordAt a + i + 4 ≤ n
+  pub set-inside : (i n : ℕ) → i ≤ 11 → tableWords ≤ n → recordAt a + i + 4 ≤ n
   set-inside i n l m = omega arith
 
   pub next-place-fits : Fits w64 (a + 1)

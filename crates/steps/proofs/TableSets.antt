@@ -16,7 +16,7 @@ use Rattle.sets.proofs.Laws.{has-setOf, has-intersection, union-setOf, setOf-ex
 use Rattle.table.specs.Layout.{tableWords, maxRules, maxPositions, rulesOf, recordAt, lastAt, recordWord, rowHas}
 use Rattle.table.specs.Automaton.{automaton, single}
 use Rattle.table.proofs.Rows.{under}
-use Rattle.steps.specs.Step.{setOn, numberOn, ends, endsAtEnd, lastsOf, rulesWhere}
+use Rattle.steps.specs.Step.{setOn, numberOn, ends, endsLine, endsAtEnd, lastsOf, rulesWhere}
 use Rattle.steps.proofs.Members.{placesBelow, places-capped, places-without}
 
 -- ---- words enough for a table, and fewer
@@ -83,18 +83,27 @@ module _ (t live : List ℕ) (field : ℕ) where
       ∙ places-capped guarded n maxRules guarded-past
 
 -- in their last sets: those that end plainly
-pub ends-word : (t live : List ℕ) → placesBelow (min (rulesOf t) maxRules) (meeting t live 4) ≡ rulesWhere (automaton t) (ends (automaton t) live)
+pub ends-word : (t live : List ℕ) → placesBelow (min (rulesOf t) maxRules) (meeting t live 3) ≡ rulesWhere (automaton t) (ends (automaton t) live)
 unfolding ends automaton guarded
-ends-word t live = meeting-word t live 4 (rulesOf t)
+ends-word t live = meeting-word t live 3 (rulesOf t)
 
 -- in their last sets at the stream's end and not in these: those that need the end
-pub closing-word : (t live : List ℕ) (x y : ℕ)
-    → x ≡ placesBelow (min (rulesOf t) maxRules) (meeting t live 8) → y ≡ rulesWhere (automaton t) (ends (automaton t) live)
-    → bitAnd x (2 ^ 64 - 1 - y) ≡ rulesWhere (automaton t) (λ a. endsAtEnd (automaton t) live a && not (ends (automaton t) live a))
+pub closing-word : (t all live : List ℕ) (x y : ℕ)
+    → x ≡ placesBelow (min (rulesOf t) maxRules) (meeting t all 7) → y ≡ rulesWhere (automaton t) (ends (automaton t) live)
+    → bitAnd x (2 ^ 64 - 1 - y) ≡ rulesWhere (automaton t) (λ a. endsAtEnd (automaton t) all a && not (ends (automaton t) live a))
 unfolding ends endsAtEnd automaton guarded
-closing-word t live x y ex ey =
-    ap₂ (λ (a b : ℕ). bitAnd a (2 ^ 64 - 1 - b)) (ex ∙ meeting-word t live 8 (rulesOf t)) ey
-    ∙ places-without (rulesOf t) (endsAtEnd (automaton t) live) (ends (automaton t) live)
+closing-word t all live x y ex ey =
+    ap₂ (λ (a b : ℕ). bitAnd a (2 ^ 64 - 1 - b)) (ex ∙ meeting-word t all 7 (rulesOf t)) ey
+    ∙ places-without (rulesOf t) (endsAtEnd (automaton t) all) (ends (automaton t) live)
+
+-- and where the last line ends: those that need that
+pub line-word : (t live : List ℕ) (x y : ℕ)
+    → x ≡ placesBelow (min (rulesOf t) maxRules) (meeting t live 11) → y ≡ rulesWhere (automaton t) (ends (automaton t) live)
+    → bitAnd x (2 ^ 64 - 1 - y) ≡ rulesWhere (automaton t) (λ a. endsLine (automaton t) live a && not (ends (automaton t) live a))
+unfolding ends endsLine automaton guarded
+line-word t live x y ex ey =
+    ap₂ (λ (a b : ℕ). bitAnd a (2 ^ 64 - 1 - b)) (ex ∙ meeting-word t live 11 (rulesOf t)) ey
+    ∙ places-without (rulesOf t) (endsLine (automaton t) live) (ends (automaton t) live)
 
 -- ---- the last sets
 

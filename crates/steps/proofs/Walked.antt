@@ -1,4 +1,4 @@
--- The walk over the words of a live set joins what follows each live position: after n turns over word i, those below the place where the word is cleared;
+-- The walk over the words of a live set joins the row of each live position: after n turns over word i, those below the place where the word is cleared;
 -- after all, those of the word.
 use mathlib.Core.Path.{_≡_, sym, ap, _∙_}
 use mathlib.Core.Bool.{Bool, false, _||_, _&&_, or-false}
@@ -10,13 +10,13 @@ use lib.Count.{ones}
 use lib.ListN.{getD}
 use Rattle.sets.specs.Set.{on, has, setOf, any, unionOf, sizeOf}
 use Rattle.sets.proofs.Laws.{Words, has-at, setOf-has, setOf-ext, size-words}
-use Rattle.table.specs.Layout.{followAt, rowHas}
+use Rattle.table.specs.Layout.{rowHas}
 use Rattle.steps.specs.Walk.{asked}
 use Rattle.steps.specs.Invariants.{joined}
 use Rattle.steps.proofs.Asked.{place, after, some-left, from-place, lowest-inside, lowest-set, between, none-past}
 use Rattle.steps.proofs.Steps.{reached, reached-hit, reached-skip}
 
-module _ (t live : List ℕ) (from : ℕ → Bool) (i : ℕ) (fits : getD live i 0 < 2 ^ 64) where
+module _ (t : List ℕ) (rows : ℕ) (live : List ℕ) (from : ℕ → Bool) (i : ℕ) (fits : getD live i 0 < 2 ^ 64) where
   -- the digits of the word that are off are positions that are not live
   off : (a b : ℕ) → b ≤ 64 → ((k : ℕ) → a ≤ k → k < b → on (getD live i 0) k ≡ false)
       → (p : ℕ) → i * 64 + a ≤ p → p < i * 64 + b → has live p ≡ false
@@ -25,9 +25,9 @@ module _ (t live : List ℕ) (from : ℕ → Bool) (i : ℕ) (fits : getD live i
       ap (has live) (sym at) ∙ has-at live i (p - i * 64) (omega arith) ∙ e (p - i * 64) (omega arith) (omega arith)
 
   walked : (n : ℕ) → n ≤ ones (getD live i 0)
-      → joined t (getD live i 0) (i * 64) (reached t live from (i * 64)) n ≡ reached t live from (i * 64 + place (getD live i 0) fits n)
+      → joined t rows (getD live i 0) (i * 64) (reached t rows live from (i * 64)) n ≡ reached t rows live from (i * 64 + place (getD live i 0) fits n)
   unfolding joined place
-  walked zero h = ap (reached t live from) (sym (add-zero (i * 64)))
+  walked zero h = ap (reached t rows live from) (sym (add-zero (i * 64)))
   walked (suc n) h =
       let w : ℕ = getD live i 0 in
       let a = after w fits n (omega arith) in
@@ -35,40 +35,40 @@ module _ (t live : List ℕ) (from : ℕ → Bool) (i : ℕ) (fits : getD live i
       let p : ℕ = asked w n in
       let low = lowest-inside w fits n a some in
       let next : i * 64 + p + 1 ≡ i * 64 + suc p = omega arith in
-      ap (λ (s : List ℕ). unionOf s (setOf (rowHas t (followAt (i * 64 + p)))))
+      ap (λ (s : List ℕ). unionOf s (setOf (rowHas t (rows + (i * 64 + p) * 4))))
       (walked n (omega arith)
-      ∙ reached-skip t live from (i * 64 + place w fits n) (i * 64 + p) (omega (arith, from-place w fits n a some))
+      ∙ reached-skip t rows live from (i * 64 + place w fits n) (i * 64 + p) (omega (arith, from-place w fits n a some))
       (off (place w fits n) p (omega (arith, low)) (between w fits n a some)))
-      ∙ reached-hit t live from (i * 64 + p) (has-at live i p low ∙ lowest-set w fits n a some)
-      ∙ ap (reached t live from) next
+      ∙ reached-hit t rows live from (i * 64 + p) (has-at live i p low ∙ lowest-set w fits n a some)
+      ∙ ap (reached t rows live from) next
 
-  pub walked-word : joined t (getD live i 0) (i * 64) (reached t live from (i * 64)) (ones (getD live i 0)) ≡ reached t live from (i * 64 + 64)
+  pub walked-word : joined t rows (getD live i 0) (i * 64) (reached t rows live from (i * 64)) (ones (getD live i 0)) ≡ reached t rows live from (i * 64 + 64)
   walked-word =
       let w : ℕ = getD live i 0 in
       let a = after w fits (ones w) (omega arith) in
       walked (ones w) (omega arith)
-      ∙ reached-skip t live from (i * 64 + place w fits (ones w)) (i * 64 + 64) (omega (arith, a .inside))
+      ∙ reached-skip t rows live from (i * 64 + place w fits (ones w)) (i * 64 + 64) (omega (arith, a .inside))
       (off (place w fits (ones w)) 64 (omega arith) (λ k h l. none-past w fits k h))
 
 -- before the first turn
-pub reached-none : (t live s : List ℕ) → Words s → s ≡ reached t live (has s) 0
+pub reached-none : (t : List ℕ) (rows : ℕ) (live s : List ℕ) → Words s → s ≡ reached t rows live (has s) 0
 unfolding any
-reached-none t live s h = sym (setOf-has s h) ∙ setOf-ext (has s) (λ q. has s q || any 0 (λ p. has live p && rowHas t (followAt p) q)) (λ q l. sym (or-false (has s q)))
+reached-none t rows live s h = sym (setOf-has s h) ∙ setOf-ext (has s) (λ q. has s q || any 0 (λ p. has live p && rowHas t (rows + p * 4) q)) (λ q l. sym (or-false (has s q)))
 
 -- the four words, one after the other
-pub walked-all : (t live s a b c d : List ℕ) → Words live → Words s
-    → a ≡ joined t (getD live 0 0) 0 s (ones (getD live 0 0)) → b ≡ joined t (getD live 1 0) 64 a (ones (getD live 1 0))
-    → c ≡ joined t (getD live 2 0) 128 b (ones (getD live 2 0)) → d ≡ joined t (getD live 3 0) 192 c (ones (getD live 3 0))
-    → d ≡ reached t live (has s) 256
-walked-all t live s a b c d l h ea eb ec ed = word 3 (omega arith) d (ed ∙ joining 3 c (word 2 (omega arith) c (ec ∙ joining 2 b (word 1 (omega arith) b (eb ∙ joining 1 a (word 0 (omega arith) a (ea ∙ joining 0 s (reached-none t live s h))))))))
+pub walked-all : (t : List ℕ) (rows : ℕ) (live s a b c d : List ℕ) → Words live → Words s
+    → a ≡ joined t rows (getD live 0 0) 0 s (ones (getD live 0 0)) → b ≡ joined t rows (getD live 1 0) 64 a (ones (getD live 1 0))
+    → c ≡ joined t rows (getD live 2 0) 128 b (ones (getD live 2 0)) → d ≡ joined t rows (getD live 3 0) 192 c (ones (getD live 3 0))
+    → d ≡ reached t rows live (has s) 256
+walked-all t rows live s a b c d l h ea eb ec ed = word 3 (omega arith) d (ed ∙ joining 3 c (word 2 (omega arith) c (ec ∙ joining 2 b (word 1 (omega arith) b (eb ∙ joining 1 a (word 0 (omega arith) a (ea ∙ joining 0 s (reached-none t rows live s h))))))))
   where
-    joining : (i : ℕ) (x : List ℕ) → x ≡ reached t live (has s) (i * 64)
-        → joined t (getD live i 0) (i * 64) x (ones (getD live i 0)) ≡ joined t (getD live i 0) (i * 64) (reached t live (has s) (i * 64)) (ones (getD live i 0))
-    joining i x e = ap (λ (y : List ℕ). joined t (getD live i 0) (i * 64) y (ones (getD live i 0))) e
+    joining : (i : ℕ) (x : List ℕ) → x ≡ reached t rows live (has s) (i * 64)
+        → joined t rows (getD live i 0) (i * 64) x (ones (getD live i 0)) ≡ joined t rows (getD live i 0) (i * 64) (reached t rows live (has s) (i * 64)) (ones (getD live i 0))
+    joining i x e = ap (λ (y : List ℕ). joined t rows (getD live i 0) (i * 64) y (ones (getD live i 0))) e
 
     word : (i : ℕ) → i < 4 → (x : List ℕ)
-        → x ≡ joined t (getD live i 0) (i * 64) (reached t live (has s) (i * 64)) (ones (getD live i 0)) → x ≡ reached t live (has s) (i * 64 + 64)
-    word i g x e = e ∙ walked-word t live (has s) i (l .small i g)
+        → x ≡ joined t rows (getD live i 0) (i * 64) (reached t rows live (has s) (i * 64)) (ones (getD live i 0)) → x ≡ reached t rows live (has s) (i * 64 + 64)
+    word i g x e = e ∙ walked-word t rows live (has s) i (l .small i g)
 
 -- in as many turns as the live set has members
 pub turns-all : (live : List ℕ) → Words live → (a b c d : ℕ) → a ≡ ones (getD live 0 0) → b ≡ ones (getD live 1 0) → c ≡ ones (getD live 2 0) → d ≡ ones (getD live 3 0)

@@ -7,7 +7,7 @@ use lib.Dec.{eqb, leb, ltb}
 use lib.ListN.{length}
 use Rattle.sets.specs.Set.{has, setOf, wordOf, any, emptySet}
 use Rattle.table.specs.Layout.{tableWords, maxPositions}
-use Rattle.table.specs.Automaton.{Automaton}
+use Rattle.table.specs.Automaton.{Automaton, firstIn, startIn, followIn}
 
 -- a set, and a number, that is given of words enough for a table; of fewer it is empty, and 0
 unfoldable pub setOn : (t s : List ℕ) → List ℕ
@@ -17,19 +17,23 @@ unfoldable pub numberOn : (t : List ℕ) → ℕ → ℕ
 numberOn t n = cond (leb tableWords (length t)) n 0
 
 module _ (w : Automaton) where
-  -- the positions at which a match can start with the next byte, `taken` bytes into the stream; `^` and `\A` "hold at offset 0 only"
-  unfoldable pub starts : (taken : ℕ) → ℕ → Bool
-  starts taken q = cond (eqb taken 0) (w .firstAtStart q) (w .first q)
+  -- The positions at which a match can start with the next byte, `taken` bytes into the stream; `^` and `\A` "hold at offset 0 only". Where `line` is true, the
+  -- last line ends before that byte.
+  unfoldable pub starts : (line : Bool) → (taken : ℕ) → ℕ → Bool
+  starts line taken q = cond (eqb taken 0) (startIn w line q) (firstIn w line q)
 
   -- The live set after byte x: the positions below n, the number that there are, that take x, and are first or follow a live one. A match may start at every
-  -- byte.
-  unfoldable pub stepped : (n : ℕ) → (live : List ℕ) → (taken x : ℕ) → List ℕ
-  stepped n live taken x =
-      setOf (λ q. ltb q n && (w .takes x q && (starts taken q || any maxPositions (λ p. has live p && w .follow p q))))
+  -- byte. Where `line` is true, as if the last line ended before x.
+  unfoldable pub stepped : (line : Bool) → (n : ℕ) → (live : List ℕ) → (taken x : ℕ) → List ℕ
+  stepped line n live taken x =
+      setOf (λ q. ltb q n && (w .takes x q && (starts line taken q || any maxPositions (λ p. has live p && followIn w line p q))))
 
-  -- some live position ends a match of the rule in place a: plainly, or if the stream ends here
+  -- some live position ends a match of the rule in place a: plainly, if the last line ends here, or if the stream does
   unfoldable pub ends : List ℕ → ℕ → Bool
   ends live a = any maxPositions (λ p. has live p && w .last a p)
+
+  unfoldable pub endsLine : List ℕ → ℕ → Bool
+  endsLine live a = any maxPositions (λ p. has live p && w .lineLast a p)
 
   unfoldable pub endsAtEnd : List ℕ → ℕ → Bool
   endsAtEnd live a = any maxPositions (λ p. has live p && w .lastAtEnd a p)

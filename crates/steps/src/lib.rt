@@ -10,6 +10,7 @@ pub use byte::takers;
 pub use rows::closing;
 pub use rows::ending;
 pub use rows::lasts;
+pub use rows::line_ending;
 pub use rows::meets;
 pub use rows::rule_id;
 pub use rows::singles;

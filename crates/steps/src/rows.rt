@@ -5,6 +5,7 @@ use table::layout::FLAGS;
 use table::layout::ID;
 use table::layout::LAST;
 use table::layout::LAST_AT_END;
+use table::layout::LINE_LAST;
 use table::layout::MAX_RULES;
 use table::layout::RECORD_WORDS;
 use table::layout::RECORDS_AT;
@@ -15,10 +16,10 @@ ghost use mathlib.Core.Bool.{not, _&&_};
 ghost use Prim.Native.Nat.{_+_, _≤_, min};
 ghost use lib.Dec.{ltb};
 ghost use lib.ListN.{length};
-ghost use Rattle.sets.specs.Set.{has, setOf, wordOf, any};
+ghost use Rattle.sets.specs.Set.{has, setOf, wordOf, any, unionOf};
 ghost use Rattle.table.specs.Layout.{tableWords, maxRules, maxPositions, rulesOf, recordAt, rowHas};
 ghost use Rattle.table.specs.Automaton.{automaton, single};
-ghost use Rattle.steps.specs.Step.{setOn, numberOn, ends, endsAtEnd, lastsOf, rulesWhere};
+ghost use Rattle.steps.specs.Step.{setOn, numberOn, ends, endsLine, endsAtEnd, lastsOf, rulesWhere};
 
 // The set whose four words stand at `at`.
 pub(super) fn row(words: &[u64], at: usize) -> [u64; 4]
@@ -77,9 +78,9 @@ pub fn lasts(words: &[u64]) -> [u64; 4]
     s
 }
 
-// The rules that have a live position in the set at this word of their record, which is LAST or LAST_AT_END.
+// The rules that have a live position in the set at this word of their record, which is LAST, LAST_AT_END or LINE_LAST.
 fn meeting(live: [u64; 4], words: &[u64], field: usize) -> u64
-    requires { ⌜ (tableWords ≤ length (now words)) × (field ≤ 12) ⌝ }
+    requires { ⌜ (tableWords ≤ length (now words)) × (field ≤ 11) ⌝ }
     ensures { λ r. ⌜ r ≡ wordOf 64 (λ a. ltb a (min (rulesOf (now (words .entry))) maxRules) && any maxPositions (λ p. has live p && rowHas (now (words .entry)) (recordAt a + field) p)) ⌝ }
 {
     let rules = rule_count(words);
@@ -104,16 +105,28 @@ pub fn ending(live: [u64; 4], words: &[u64]) -> u64
     meeting(live, words, LAST)
 }
 
-// The rules of which a match ends with a live position if the stream ends here, and not otherwise.
-pub fn closing(live: [u64; 4], words: &[u64]) -> u64
-    ensures { λ r. ⌜ r ≡ numberOn (now (words .entry)) (rulesWhere (automaton (now (words .entry))) (λ a. endsAtEnd (automaton (now (words .entry))) live a && not (ends (automaton (now (words .entry))) live a))) ⌝ }
+// The rules of which a match ends with a live or held position if the stream ends here, and with no live one otherwise.
+pub fn closing(live: [u64; 4], held: [u64; 4], words: &[u64]) -> u64
+    ensures { λ r. ⌜ r ≡ numberOn (now (words .entry)) (rulesWhere (automaton (now (words .entry))) (λ a. endsAtEnd (automaton (now (words .entry))) (unionOf live held) a && not (ends (automaton (now (words .entry))) live a))) ⌝ }
 {
     if words.len() < TABLE_WORDS {
         return 0;
     }
-    let at_end = meeting(live, words, LAST_AT_END);
+    let at_end = meeting(sets::union(live, held), words, LAST_AT_END);
     let plainly = ending(live, words);
     at_end & !plainly
+}
+
+// The rules of which a match ends with a live position if the last line ends here, and not otherwise.
+pub fn line_ending(live: [u64; 4], words: &[u64]) -> u64
+    ensures { λ r. ⌜ r ≡ numberOn (now (words .entry)) (rulesWhere (automaton (now (words .entry))) (λ a. endsLine (automaton (now (words .entry))) live a && not (ends (automaton (now (words .entry))) live a))) ⌝ }
+{
+    if words.len() < TABLE_WORDS {
+        return 0;
+    }
+    let at_line = meeting(live, words, LINE_LAST);
+    let plainly = ending(live, words);
+    at_line & !plainly
 }
 
 // Flag 8 in a rule's flags.

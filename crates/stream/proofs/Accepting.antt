@@ -1,23 +1,23 @@
 -- When a call is accepted. Each test of a state is read off words, the number of a call is settled by the first test that fails, and number 0 says that all
 -- of them hold (`Accepted`).
 use mathlib.Core.Path.{_≡_, refl, sym, ap, ap₂, _∙_}
-use mathlib.Core.Bool.{Bool, true, false, true≢false, cond, not, _&&_, and-eq-true-iff}
+use mathlib.Core.Bool.{Bool, true, false, true≢false, cond, not, _&&_, and-false, and-eq-true-iff}
 use mathlib.Core.List.{List}
-use Prim.Native.Nat.{ℕ, _+_, _-_, _^_, _<_, _≤_}
-use native.Mathlib.Nat.{lt-of-le-of-lt}
+use Prim.Native.Nat.{ℕ, _+_, _-_, _*_, _/_, _^_, _<_, _≤_}
+use native.Mathlib.Nat.{lt-of-le-of-lt, div-le-self}
 use native.Mathlib.Omega.{arith}
 use lib.Bits.{bitAnd, and-le-l}
 use lib.Dec.{eqb, leb, ltb}
-use borrow.Author.Tests.{eq-eqb, ne-eqb, lt-ltb, le-ltb, ltb-false, le-leb, leb-true, eqb-true}
+use borrow.Author.Tests.{not-true, eq-eqb, ne-eqb, lt-ltb, le-ltb, ltb-false, le-leb, leb-true, eqb-true}
 use Rattle.sets.specs.Set.{on, has, wordOf, any, fullSet, intersectionOf, complementOf, keptBelow, isEmpty}
-use Rattle.sets.proofs.Digits.{on-zero, on-wordOf, wordOf-lt, off-zero}
-use Rattle.sets.proofs.Laws.{has-full, has-intersection, has-complement, has-below, any-none, any-some, any-ext}
+use Rattle.sets.proofs.Digits.{on-zero, on-shr, on-bound, on-wordOf, wordOf-lt, off-zero}
+use Rattle.sets.proofs.Laws.{has-full, has-intersection, has-complement, has-below, any-none, any-some, any-never, any-ext}
 use Rattle.table.specs.Layout.{maxPositions, rulesOf}
 use Rattle.table.specs.Table.{isTable}
 use Rattle.table.specs.Automaton.{Automaton, automaton}
 use Rattle.steps.proofs.Members.{not-below, on-without}
 use Rattle.stream.specs.declared.Stream.{Stream}
-use Rattle.stream.specs.Valid.{streamLimit, sameCounts, liveInside, marksSingle, underLimit, valid}
+use Rattle.stream.specs.Valid.{streamLimit, sameCounts, liveInside, marksSingle, underLimit, heldInside, pendingInside, pendingLate, valid}
 use Rattle.stream.specs.Calls.{spaceNumber, scanNumber, closeNumber}
 
 -- ---- the tests in words
@@ -52,6 +52,37 @@ marks-test marks singles f h e = go (any 64 (λ a. on marks a && not (f a))) ref
         ∙ eq-eqb rest 0 (off-zero 64 rest (lt-of-le-of-lt (and-le-l marks (2 ^ 64 - 1 - wordOf 64 f)) h)
         (λ a l. digit a l ∙ any-none 64 (λ a. on marks a && not (f a)) p a l)) ∙ ap not (sym p)
 
+-- no digit of a word stands from n on, of which there are 64 at most
+module _ (word n : ℕ) where
+  abbrev pub past : ℕ → Bool
+  past a = on word a && not (ltb a n)
+
+  pub none-past : 64 ≤ n → true ≡ not (any 64 past)
+  none-past h = sym (ap not (any-never 64 past (λ a l. ap (λ (b : Bool). on word a && not b) (lt-ltb a n (omega arith)) ∙ and-false (on word a))))
+
+  pub past-test : word < 2 ^ 64 → eqb (word / 2 ^ n) 0 ≡ not (any 64 past)
+  past-test small = go (any 64 past) refl
+    where
+      go : (b : Bool) → any 64 past ≡ b → eqb (word / 2 ^ n) 0 ≡ not (any 64 past)
+      go true p =
+          let r = any-some 64 past p in
+          let a = r .0 in
+          let both = and-eq-true-iff (on word a) (not (ltb a n)) .0 (r .2) in
+          let late : n ≤ a = ltb-false a n (not-true (ltb a n) (both .1)) in
+          let place : n + (a - n) ≡ a = omega arith in
+          ne-eqb (word / 2 ^ n) 0 (λ z. true≢false (sym (both .0) ∙ ap (on word) (sym place) ∙ sym (on-shr word n (a - n)) ∙ ap (λ (x : ℕ). on x (a - n)) z ∙ on-zero (a - n)))
+          ∙ ap not (sym p)
+      go false p =
+          eq-eqb (word / 2 ^ n) 0 (off-zero 64 (word / 2 ^ n) (lt-of-le-of-lt (div-le-self word (2 ^ n)) small) (λ k l. off k (on (word / 2 ^ n) k) refl))
+          ∙ ap not (sym p)
+        where
+          off : (k : ℕ) (b : Bool) → on (word / 2 ^ n) k ≡ b → on (word / 2 ^ n) k ≡ false
+          off k false e = e
+          off k true e =
+              let digit : on word (n + k) ≡ true = sym (on-shr word n k) ∙ e in
+              absurd (true≢false (sym (ap₂ (λ (x y : Bool). x && not y) digit (le-ltb (n + k) n (omega arith)))
+              ∙ any-none 64 past p (n + k) (on-bound 64 word (n + k) small digit)))
+
 -- ---- what a valid state gives
 
 pub record Fitting (w : Automaton) (s : Stream) : Type 0 where
@@ -60,6 +91,9 @@ pub record Fitting (w : Automaton) (s : Stream) : Type 0 where
   pub live : liveInside w s ≡ true
   pub marks : marksSingle w s ≡ true
   pub limit : s .taken ≤ streamLimit
+  pub held : heldInside w s ≡ true
+  pub pending : pendingInside w s ≡ true
+  pub late : pendingLate s ≡ true
 
 pub fitting : (w : Automaton) (s : Stream) → valid w s ≡ true → Fitting w s
 unfolding valid sameCounts underLimit
@@ -67,13 +101,19 @@ fitting w s e =
     let p = and-eq-true-iff (sameCounts w s) _ .0 e in
     let q = and-eq-true-iff (liveInside w s) _ .0 (p .1) in
     let r = and-eq-true-iff (marksSingle w s) _ .0 (q .1) in
+    let u = and-eq-true-iff (leb (s .taken) streamLimit) _ .0 (r .1) in
+    let g = and-eq-true-iff (heldInside w s) _ .0 (u .1) in
+    let d = and-eq-true-iff (pendingInside w s) _ .0 (g .1) in
     let c = and-eq-true-iff (eqb (s .rules) (w .rules)) _ .0 (p .0) in
     record {
       rules-same = eqb-true (s .rules) (w .rules) (c .0);
       positions-same = eqb-true (s .positions) (w .positions) (c .1);
       live = q .0;
       marks = r .0;
-      limit = leb-true (s .taken) streamLimit (r .1);
+      limit = leb-true (s .taken) streamLimit (u .0);
+      held = g .0;
+      pending = d .0;
+      late = d .1;
     }
 
 pub fitted : (w : Automaton) (s : Stream) → Fitting w s → valid w s ≡ true
@@ -81,7 +121,8 @@ unfolding valid sameCounts underLimit
 fitted w s h =
     ap₂ (λ (a b : Bool). a && b)
     (ap₂ (λ (a b : Bool). a && b) (eq-eqb (s .rules) (w .rules) (h .rules-same)) (eq-eqb (s .positions) (w .positions) (h .positions-same)))
-    (ap₂ (λ (a b : Bool). a && b) (h .live) (ap₂ (λ (a b : Bool). a && b) (h .marks) (le-leb (s .taken) streamLimit (h .limit))))
+    (ap₂ (λ (a b : Bool). a && b) (h .live) (ap₂ (λ (a b : Bool). a && b) (h .marks)
+    (ap₂ (λ (a b : Bool). a && b) (le-leb (s .taken) streamLimit (h .limit)) (ap₂ (λ (a b : Bool). a && b) (h .held) (ap₂ (λ (a b : Bool). a && b) (h .pending) (h .late))))))
 
 -- ---- the number of a call
 
@@ -106,13 +147,13 @@ module _ (t : List ℕ) (s : Stream) (len room : ℕ) where
         refused-long h = rw (table, state, open-still, lt-ltb streamLimit (s .taken + len) h)
 
         module _ (short : s .taken + len ≤ streamLimit) where
-          pub refused-space : room < rulesOf t → 20 ≡ scanNumber t s len room
+          pub refused-space : room < 2 * rulesOf t → 20 ≡ scanNumber t s len room
           unfolding scanNumber spaceNumber
-          refused-space h = rw (table, state, open-still, le-ltb streamLimit (s .taken + len) short, lt-ltb room (rulesOf t) h)
+          refused-space h = rw (table, state, open-still, le-ltb streamLimit (s .taken + len) short, lt-ltb room (2 * rulesOf t) h)
 
-          pub not-refused : rulesOf t ≤ room → 0 ≡ scanNumber t s len room
+          pub not-refused : 2 * rulesOf t ≤ room → 0 ≡ scanNumber t s len room
           unfolding scanNumber spaceNumber
-          not-refused h = rw (table, state, open-still, le-ltb streamLimit (s .taken + len) short, le-ltb room (rulesOf t) h)
+          not-refused h = rw (table, state, open-still, le-ltb streamLimit (s .taken + len) short, le-ltb room (2 * rulesOf t) h)
 
 -- number 0 says that all holds
 pub record Accepted (t : List ℕ) (s : Stream) (len room : ℕ) : Type 0 where
@@ -120,15 +161,15 @@ pub record Accepted (t : List ℕ) (s : Stream) (len room : ℕ) : Type 0 where
   pub state : Fitting (automaton t) s
   pub still-open : s .closed ≡ false
   pub short : s .taken + len ≤ streamLimit
-  pub space : rulesOf t ≤ room
+  pub space : 2 * rulesOf t ≤ room
 
 pub accepted : (t : List ℕ) (s : Stream) (len room : ℕ) → scanNumber t s len room ≡ 0 → Accepted t s len room
 unfolding scanNumber spaceNumber
 accepted t s len room e =
-    go (isTable t) refl (valid (automaton t) s) refl (s .closed) refl (ltb streamLimit (s .taken + len)) refl (ltb room (rulesOf t)) refl e
+    go (isTable t) refl (valid (automaton t) s) refl (s .closed) refl (ltb streamLimit (s .taken + len)) refl (ltb room (2 * rulesOf t)) refl e
   where
     go : (a : Bool) → isTable t ≡ a → (b : Bool) → valid (automaton t) s ≡ b → (c : Bool) → s .closed ≡ c
-        → (d : Bool) → ltb streamLimit (s .taken + len) ≡ d → (f : Bool) → ltb room (rulesOf t) ≡ f
+        → (d : Bool) → ltb streamLimit (s .taken + len) ≡ d → (f : Bool) → ltb room (2 * rulesOf t) ≡ f
         → _≡_ {A = ℕ} (cond a (cond b (cond c 19 (cond d 21 (cond f 20 0))) 18) 1) 0 → Accepted t s len room
     go true a true b false c false d false f z =
         record {
@@ -136,7 +177,7 @@ accepted t s len room e =
           state = fitting (automaton t) s b;
           still-open = c;
           short = ltb-false streamLimit (s .taken + len) d;
-          space = ltb-false room (rulesOf t) f;
+          space = ltb-false room (2 * rulesOf t) f;
         }
     go true a true b false c false d true f z = absurd (omega arith)
     go true a true b false c true d f g z = absurd (omega arith)

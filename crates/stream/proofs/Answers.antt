@@ -1,25 +1,24 @@
 -- The answers of the calls, from what their parts promise. A state counts by its live set, its marks and its bytes taken, so the loop may take these alone
 -- (`parts-after`); each call's definition is then settled by its number.
-use mathlib.Core.Path.{_≡_, refl, sym, ap, ap₂, _∙_}
-use mathlib.Core.Bool.{Bool, true, false, cond, not, _&&_}
+use mathlib.Core.Path.{_≡_, refl, sym, ap, ap₂, _∙_, subst}
+use mathlib.Core.Bool.{Bool, true, false, cond, not, _&&_, and-false}
 use mathlib.Core.List.{List, _++_}
-use Prim.Native.Nat.{ℕ, zero, suc, _+_, _≤_}
+use Prim.Native.Nat.{ℕ, zero, suc, _+_, _-_, _<_, _≤_}
 use native.Mathlib.Omega.{arith}
-use lib.Dec.{eqb, leb}
+use lib.Dec.{eqb, leb, ltb}
 use lib.ListN.{length, getD, replicate}
-use borrow.Author.Tests.{eq-eqb, ne-eqb}
-use Rattle.sets.specs.Set.{on}
-use Rattle.table.specs.Layout.{maxRules, rulesOf, positionsOf}
+use borrow.Author.Tests.{eq-eqb, ne-eqb, eqb-true, eqb-false, lt-ltb}
+use Rattle.sets.specs.Set.{emptySet}
+use Rattle.table.specs.Layout.{tableWords, rulesOf, positionsOf}
 use Rattle.table.specs.Table.{isTable}
 use Rattle.table.specs.Automaton.{Automaton, automaton}
-use Rattle.steps.specs.Step.{stepped, ends, endsAtEnd, rulesWhere}
-use Rattle.steps.proofs.Members.{on-places}
+use Rattle.steps.specs.Step.{setOn, numberOn, stepped, ends, endsLine, rulesWhere}
+use Rattle.steps.proofs.TableSets.{set-on, number-on}
 use Rattle.stream.specs.declared.Stream.{Stream}
-use Rattle.stream.specs.Byte.{nextLive, runIds, runMarks, byteIds, byteState, stateAfter, idsOf, endsOf, fits, closeIds}
+use Rattle.stream.specs.Byte.{nextLive, nextHeld, nextPending, runIds, runMarks, byteIds, byteState, stateAfter, idsOf, endsOf, fits}
 use Rattle.stream.specs.Calls.{fresh, opened, space, scanNumber, closeNumber, takenBy, written, scanned, scannedIds, scannedOffsets, shut, closed, closedIds, closedOffsets}
-use Rattle.stream.specs.Invariants.{stateOf, Wrote, Ran}
-use Rattle.stream.proofs.Runs.{run-ext}
-use Rattle.stream.proofs.Blocks.{taken-after, rules-after, positions-after, closed-after}
+use Rattle.stream.specs.Invariants.{stateOf, Left, Ended, Ran}
+use Rattle.stream.proofs.Blocks.{state-more, taken-after, rules-after, positions-after, closed-after}
 
 -- ---- the parts of a state that count
 
@@ -27,10 +26,18 @@ pub byte-live : (w : Automaton) (s : Stream) (x : ℕ) → byteState w s x .live
 unfolding byteState
 byte-live w s x = refl
 
+byte-held : (w : Automaton) (s : Stream) (x : ℕ) → nextHeld w s x ≡ byteState w s x .held
+unfolding byteState
+byte-held w s x = refl
+
+byte-pending : (w : Automaton) (s : Stream) (x : ℕ) → nextPending w s x ≡ byteState w s x .pending
+unfolding byteState
+byte-pending w s x = refl
+
 -- one byte
 module _ (w : Automaton) (s z : Stream) (live : s .live ≡ z .live) (marks : s .reported ≡ z .reported) (taken : s .taken ≡ z .taken) (x : ℕ) where
   next-alike : nextLive w s x ≡ nextLive w z x
-  next-alike = ap₂ (λ (l : List ℕ) (n : ℕ). stepped w (w .positions) l n x) live taken
+  next-alike = ap₂ (λ (l : List ℕ) (n : ℕ). stepped w false (w .positions) l n x) live taken
 
   marks-alike : byteState w s x .reported ≡ byteState w z x .reported
   unfolding byteState
@@ -39,6 +46,16 @@ module _ (w : Automaton) (s z : Stream) (live : s .live ≡ z .live) (marks : s 
   ids-alike : byteIds w s x ≡ byteIds w z x
   unfolding byteIds
   ids-alike = ap₂ (λ (l : List ℕ) (m : ℕ). runIds w (ends w l) m (w .rules)) next-alike marks
+
+-- what waits after a byte
+module _ (w : Automaton) (s z : Stream) (live : s .live ≡ z .live) (taken : s .taken ≡ z .taken) (x : ℕ) where
+  held-alike : nextHeld w s x ≡ nextHeld w z x
+  unfolding nextHeld
+  held-alike = ap₂ (λ (l : List ℕ) (n : ℕ). cond (eqb x 10) (stepped w true (w .positions) l n x) emptySet) live taken
+
+  pending-alike : nextPending w s x ≡ nextPending w z x
+  unfolding nextPending
+  pending-alike = ap₂ (λ (l : List ℕ) (n : ℕ). cond (eqb x 10 && ltb 0 n) (rulesWhere w (λ a. endsLine w l a && not (ends w l a))) 0) live taken
 
 -- some bytes
 module _ (w : Automaton) (s z : Stream) (live : s .live ≡ z .live) (marks : s .reported ≡ z .reported) (taken : s .taken ≡ z .taken) (block : List ℕ) where
@@ -79,6 +96,102 @@ module _ (w : Automaton) (s z : Stream) (live : s .live ≡ z .live) (marks : s 
   all-fit room zero = refl
   all-fit room (suc k) = ap₂ (λ (l : List ℕ) (n : ℕ). cond (leb (length l) room) (suc k) n) (all-ids (suc k)) (all-fit room k)
 
+-- ---- what waits for the stream's end
+
+-- only a newline may end the last line
+module _ (w : Automaton) (s : Stream) (x : ℕ) (other : x ≡ 10 → ⊥) where
+  pub none-held : (held : List ℕ) → held ≡ emptySet → held ≡ nextHeld w s x
+  unfolding nextHeld
+  none-held held e = e ∙ ap (λ (b : Bool). cond b (stepped w true (w .positions) (s .live) (s .taken) x) emptySet) (sym (ne-eqb x 10 other))
+
+  pub none-pending : 0 ≡ nextPending w s x
+  unfolding nextPending
+  none-pending = ap (λ (b : Bool). cond (b && ltb 0 (s .taken)) (rulesWhere w (λ a. endsLine w (s .live) a && not (ends w (s .live) a))) 0) (sym (ne-eqb x 10 other))
+
+module _ (t : List ℕ) (long : tableWords ≤ length t) (s : Stream) (x : ℕ) (newline : x ≡ 10) where
+  pub line-held : (held : List ℕ) → held ≡ setOn t (stepped (automaton t) true (positionsOf t) (s .live) (s .taken) x) → held ≡ nextHeld (automaton t) s x
+  unfolding nextHeld automaton
+  line-held held e =
+      e ∙ set-on t (stepped (automaton t) true (positionsOf t) (s .live) (s .taken) x) long
+      ∙ ap (λ (b : Bool). cond b (stepped (automaton t) true (positionsOf t) (s .live) (s .taken) x) emptySet) (sym (eq-eqb x 10 newline))
+
+  -- before the first byte no pair ends
+  pub start-pending : s .taken ≡ 0 → 0 ≡ nextPending (automaton t) s x
+  unfolding nextPending
+  start-pending e =
+      ap (λ (b : Bool). cond b (rulesWhere (automaton t) (λ a. endsLine (automaton t) (s .live) a && not (ends (automaton t) (s .live) a))) 0)
+      (sym (ap (λ (n : ℕ). eqb x 10 && ltb 0 n) e ∙ and-false (eqb x 10)))
+
+  pub line-pending : (s .taken ≡ 0 → ⊥) → (pending : ℕ)
+      → pending ≡ numberOn t (rulesWhere (automaton t) (λ a. endsLine (automaton t) (s .live) a && not (ends (automaton t) (s .live) a))) → pending ≡ nextPending (automaton t) s x
+  unfolding nextPending
+  line-pending later pending e =
+      e ∙ number-on t (rulesWhere (automaton t) (λ a. endsLine (automaton t) (s .live) a && not (ends (automaton t) (s .live) a))) long
+      ∙ ap (λ (b : Bool). cond b (rulesWhere (automaton t) (λ a. endsLine (automaton t) (s .live) a && not (ends (automaton t) (s .live) a))) 0)
+      (sym (ap₂ (λ (b c : Bool). b && c) (eq-eqb x 10 newline) (lt-ltb 0 (s .taken) (omega (arith, later)))))
+
+module _ (w : Automaton) (s : Stream) (block before : List ℕ) (n : ℕ) where
+  pub left-none : n ≡ 0 → Left w s block before n (s .held) (s .pending)
+  left-none e = record {
+    held-is = ap (λ (b : Bool). cond b (s .held) (nextHeld w (stateOf before 0 (s .taken + (n - 1))) (getD block (n - 1) 0))) (sym (eq-eqb n 0 e));
+    pending-is = ap (λ (b : Bool). cond b (s .pending) (nextPending w (stateOf before 0 (s .taken + (n - 1))) (getD block (n - 1) 0))) (sym (eq-eqb n 0 e));
+  }
+
+  pub left-some : (n ≡ 0 → ⊥) → (held : List ℕ) (pending : ℕ) → held ≡ nextHeld w (stateOf before 0 (s .taken + (n - 1))) (getD block (n - 1) 0)
+      → pending ≡ nextPending w (stateOf before 0 (s .taken + (n - 1))) (getD block (n - 1) 0) → Left w s block before n held pending
+  left-some e held pending h p = record {
+    held-is = h ∙ ap (λ (b : Bool). cond b (s .held) (nextHeld w (stateOf before 0 (s .taken + (n - 1))) (getD block (n - 1) 0))) (sym (ne-eqb n 0 e));
+    pending-is = p ∙ ap (λ (b : Bool). cond b (s .pending) (nextPending w (stateOf before 0 (s .taken + (n - 1))) (getD block (n - 1) 0))) (sym (ne-eqb n 0 e));
+  }
+
+-- what waits after some bytes of a block
+pub record Waits (w : Automaton) (s : Stream) (block : List ℕ) (taken : ℕ) (held : List ℕ) (pending : ℕ) : Type 0 where
+  pub held-is : held ≡ stateAfter w s block taken .held
+  pub pending-is : pending ≡ stateAfter w s block taken .pending
+
+-- what the state had, where there are none
+none-wait : (w : Automaton) (s : Stream) (block : List ℕ) → Waits w s block 0 (s .held) (s .pending)
+unfolding stateAfter
+none-wait w s block = record { held-is = refl; pending-is = refl }
+
+-- what the last of them leaves, from the live set before it
+module _ (w : Automaton) (s : Stream) (block ids offsets live before : List ℕ) (marks taken reports : ℕ) (ids′ offsets′ : List ℕ)
+    (ran : Ran w (stateOf (s .live) (s .reported) (s .taken)) block ids offsets live before marks taken reports ids′ offsets′) where
+  last-waits : 0 < taken
+      → Waits w s block taken (nextHeld w (stateOf before 0 (s .taken + (taken - 1))) (getD block (taken - 1) 0)) (nextPending w (stateOf before 0 (s .taken + (taken - 1))) (getD block (taken - 1) 0))
+  last-waits some =
+      let z : Stream = stateOf (s .live) (s .reported) (s .taken) in
+      let j : ℕ = taken - 1 in
+      let last : stateAfter w s block j .live ≡ before = parts-alike w s z refl refl refl block j .0 ∙ sym (ran .before-is some) in
+      let one : j + 1 ≡ taken = omega arith in
+      let more : byteState w (stateAfter w s block j) (getD block j 0) ≡ stateAfter w s block taken = sym (state-more w s block j) ∙ ap (stateAfter w s block) one in
+      record {
+        held-is =
+            sym (held-alike w (stateAfter w s block j) (stateOf before 0 (s .taken + j)) last (taken-after w s block j) (getD block j 0))
+            ∙ byte-held w (stateAfter w s block j) (getD block j 0) ∙ ap (λ (y : Stream). y .held) more;
+        pending-is =
+            sym (pending-alike w (stateAfter w s block j) (stateOf before 0 (s .taken + j)) last (taken-after w s block j) (getD block j 0))
+            ∙ byte-pending w (stateAfter w s block j) (getD block j 0) ∙ ap (λ (y : Stream). y .pending) more;
+      }
+
+  -- what the loop left, and what came after it
+  pub waits : (held : List ℕ) (pending : ℕ) → Left w s block before taken held pending → Waits w s block taken held pending
+  waits held pending left = go (eqb taken 0) refl
+    where
+      go : (b : Bool) → eqb taken 0 ≡ b → Waits w s block taken held pending
+      go true e =
+          let none = subst (λ (n : ℕ). Waits w s block n (s .held) (s .pending)) (sym (eqb-true taken 0 e)) (none-wait w s block) in
+          record {
+            held-is = left .held-is ∙ ap (λ (b : Bool). cond b (s .held) (nextHeld w (stateOf before 0 (s .taken + (taken - 1))) (getD block (taken - 1) 0))) e ∙ none .held-is;
+            pending-is = left .pending-is ∙ ap (λ (b : Bool). cond b (s .pending) (nextPending w (stateOf before 0 (s .taken + (taken - 1))) (getD block (taken - 1) 0))) e ∙ none .pending-is;
+          }
+      go false e =
+          let last = last-waits (omega (arith, eqb-false taken 0 e)) in
+          record {
+            held-is = left .held-is ∙ ap (λ (b : Bool). cond b (s .held) (nextHeld w (stateOf before 0 (s .taken + (taken - 1))) (getD block (taken - 1) 0))) e ∙ last .held-is;
+            pending-is = left .pending-is ∙ ap (λ (b : Bool). cond b (s .pending) (nextPending w (stateOf before 0 (s .taken + (taken - 1))) (getD block (taken - 1) 0))) e ∙ last .pending-is;
+          }
+
 -- ---- opening
 
 pub opened-refused : (t : List ℕ) (z : Stream) → isTable t ≡ false → z ≡ fresh 0 0 true → record { number = 1; stream = z } ≡ opened t
@@ -110,8 +223,9 @@ module _ (t : List ℕ) (s : Stream) (block ids offsets : List ℕ) (number : �
     scan-refused-offsets = sym (rw shut-test)
 
   -- an accepted scan gives what the loop left, put back into the state
-  module _ (accepted : number ≡ 0) (live : List ℕ) (marks taken reports : ℕ) (ids′ offsets′ : List ℕ)
-      (ran : Ran (automaton t) (stateOf (s .live) (s .reported) (s .taken)) block ids offsets live marks taken reports ids′ offsets′) where
+  module _ (accepted : number ≡ 0) (live before : List ℕ) (marks taken reports : ℕ) (ids′ offsets′ : List ℕ)
+      (ran : Ran (automaton t) (stateOf (s .live) (s .reported) (s .taken)) block ids offsets live before marks taken reports ids′ offsets′)
+      (held : List ℕ) (pending : ℕ) (waits : Waits (automaton t) s block taken held pending) where
     w : Automaton
     w = automaton t
 
@@ -133,13 +247,15 @@ module _ (t : List ℕ) (s : Stream) (block ids offsets : List ℕ) (number : �
     unfolding w z
     ends-are = sym (all-ends w s z refl refl refl block taken) ∙ ap (endsOf (automaton t) s block) taken-is
 
-    state-is : record { live = live; reported = marks; taken = s .taken + taken; rules = s .rules; positions = s .positions; closed = s .closed }
+    state-is : record { live = live; held = held; reported = marks; pending = pending; taken = s .taken + taken; rules = s .rules; positions = s .positions; closed = s .closed }
         ≡ stateAfter (automaton t) s block (takenBy t s block (space ids offsets))
     unfolding w z
     state-is =
         (λ i. record {
           live = (ran .live-is ∙ sym (parts-alike w s z refl refl refl block taken .0)) i;
+          held = waits .held-is i;
           reported = (ran .marks-are ∙ sym (parts-alike w s z refl refl refl block taken .1)) i;
+          pending = waits .pending-is i;
           taken = sym (taken-after w s block taken) i;
           rules = sym (rules-after w s block taken) i;
           positions = sym (positions-after w s block taken) i;
@@ -147,7 +263,7 @@ module _ (t : List ℕ) (s : Stream) (block ids offsets : List ℕ) (number : �
         })
         ∙ ap (stateAfter (automaton t) s block) taken-is
 
-    pub scan-accepted : record { number = 0; taken = taken; reports = reports; stream = record { live = live; reported = marks; taken = s .taken + taken; rules = s .rules; positions = s .positions; closed = s .closed } }
+    pub scan-accepted : record { number = 0; taken = taken; reports = reports; stream = record { live = live; held = held; reported = marks; pending = pending; taken = s .taken + taken; rules = s .rules; positions = s .positions; closed = s .closed } }
         ≡ scanned t s block ids offsets
     unfolding scanned
     scan-accepted =
@@ -181,30 +297,19 @@ module _ (t : List ℕ) (s : Stream) (ids offsets : List ℕ) (number : ℕ) (is
     unfolding closedOffsets
     close-refused-offsets = sym (rw kept-test)
 
-  -- an accepted closing gives its run and sets the mark
-  module _ (accepted : number ≡ 0) (few : rulesOf t ≤ maxRules) (found : ℕ)
-      (found-is : found ≡ rulesWhere (automaton t) (λ a. endsAtEnd (automaton t) (s .live) a && not (ends (automaton t) (s .live) a)))
-      (reports marks : ℕ) (ids′ offsets′ : List ℕ) (wrote : Wrote (automaton t) (on found) (s .reported) (s .taken) ids offsets reports marks ids′ offsets′) where
+  -- an accepted closing gives its runs and sets the mark
+  module _ (accepted : number ≡ 0) (reports : ℕ) (ids′ offsets′ : List ℕ) (ended : Ended (automaton t) s ids offsets reports ids′ offsets′) where
     shut-now : eqb (closeNumber t s (space ids offsets)) 0 ≡ true
     shut-now = eq-eqb (closeNumber t s (space ids offsets)) 0 (sym is ∙ accepted)
 
-    run-is : runIds (automaton t) (on found) (s .reported) (automaton t .rules) ≡ closeIds (automaton t) s
-    unfolding closeIds automaton
-    run-is =
-        run-ext (automaton t) (on found) needs (s .reported) (rulesOf t)
-        (λ a h. ap (λ (x : ℕ). on x a) found-is ∙ on-places needs (rulesOf t) a h (omega arith))
-      where
-        needs : ℕ → Bool
-        needs a = endsAtEnd (automaton t) (s .live) a && not (ends (automaton t) (s .live) a)
-
     pub close-accepted : record { number = 0; reports = reports; stream = shut s } ≡ closed t s ids offsets
     unfolding closed
-    close-accepted = (λ i. record { number = 0; reports = (wrote .reports-are ∙ ap length run-is) i; stream = shut s }) ∙ sym (rw shut-now)
+    close-accepted = (λ i. record { number = 0; reports = ended .reports-are i; stream = shut s }) ∙ sym (rw shut-now)
 
     pub close-accepted-ids : ids′ ≡ closedIds t s ids offsets
     unfolding closedIds
-    close-accepted-ids = wrote .ids-are ∙ ap (λ (l : List ℕ). written l ids) run-is ∙ sym (rw shut-now)
+    close-accepted-ids = ended .ids-are ∙ sym (rw shut-now)
 
     pub close-accepted-offsets : offsets′ ≡ closedOffsets t s ids offsets
     unfolding closedOffsets
-    close-accepted-offsets = wrote .offsets-are ∙ ap (λ (l : List ℕ). written (replicate (length l) (s .taken)) offsets) run-is ∙ sym (rw shut-now)
+    close-accepted-offsets = ended .offsets-are ∙ sym (rw shut-now)

@@ -2,8 +2,9 @@
 -- dear where all that is known of a call is in reach.
 use mathlib.Core.Path.{_≡_}
 use mathlib.Core.List.{List}
-use Prim.Native.Nat.{ℕ, _+_, _*_, _^_, _<_, _≤_, min}
+use Prim.Native.Nat.{ℕ, _+_, _-_, _*_, _^_, _<_, _≤_, min}
 use native.Mathlib.Omega.{arith}
+use lib.ListN.{length, take, drop, length-take, length-drop}
 use mir.Syntax.{w64}
 use mir.Val.{Fits}
 use Rattle.table.specs.Layout.{tableWords, maxRules, rulesOf}
@@ -55,12 +56,34 @@ ids-fit n a b h l = record { fits = omega arith }
 pub offsets-fit : (n a b : ℕ) → n ≤ min a b → b * 8 < 2 ^ 63 → Fits w64 (n * 8)
 offsets-fit n a b h l = record { fits = omega arith }
 
+-- the reports of a run, at most one of a rule
+module _ (n rules : ℕ) (few : n ≤ rules) (h : rules ≤ maxRules) where
+  pub run-ids-fit : Fits w64 (n * 4)
+  run-ids-fit = record { fits = omega arith }
+
+  pub run-offsets-fit : Fits w64 (n * 8)
+  run-offsets-fit = record { fits = omega arith }
+
+  pub runs-fit : (m : ℕ) → m ≤ rules → Fits w64 (n + m)
+  runs-fit m l = record { fits = omega arith }
+
+  -- a list with room for two runs has room for the second behind the first
+  module _ (list : List ℕ) (long : ℕ) (room : 2 * rules ≤ long) (same : length list ≡ long) where
+    pub first-inside : n ≤ length list
+    first-inside = omega (arith, same)
+
+    pub second-room : (m : ℕ) → m ≤ rules → m ≤ length (take (length list - n) (drop n list))
+    second-room m l = omega (arith, same, length-take (length list - n) (drop n list), length-drop n list)
+
 -- ---- the rules of a table
 
 -- a word has a digit for each rule
 pub rules-few : (t : List ℕ) → rulesOf t ≤ maxRules → automaton t .rules ≤ 64
 unfolding automaton
 rules-few t h = omega arith
+
+pub twice-fits : (n : ℕ) → n ≤ maxRules → Fits w64 (2 * n)
+twice-fits n h = record { fits = omega arith }
 
 -- a number up to a rule's place, as that of the reports before it
 module _ (a : ℕ) (h : a < maxRules) (n : ℕ) (few : n ≤ a) where

@@ -2,10 +2,10 @@
 use mathlib.Core.Path.{_≡_, ap, ap₂, _∙_}
 use mathlib.Core.Bool.{Bool, true, false, cond}
 use mathlib.Core.List.{List}
-use Prim.Native.Nat.{ℕ}
+use Prim.Native.Nat.{ℕ, _*_}
 use native.Mathlib.Omega.{arith}
 use lib.Dec.{eqb, ltb}
-use lib.ListN.{length, take, replicate}
+use lib.ListN.{length, take}
 use Rattle.table.specs.Layout.{tableWords, rulesOf, positionsOf}
 use Rattle.table.specs.Table.{isTable}
 use Rattle.table.specs.Automaton.{Automaton, automaton}
@@ -13,7 +13,7 @@ use Rattle.table.proofs.Local.{same-word, automaton-local, isTable-local}
 use Rattle.stream.specs.declared.Stream.{Stream}
 use Rattle.stream.specs.declared.Scanned.{Scanned}
 use Rattle.stream.specs.declared.Closed.{Closed}
-use Rattle.stream.specs.Byte.{stateAfter, idsOf, endsOf, fits, closeIds}
+use Rattle.stream.specs.Byte.{stateAfter, idsOf, endsOf, fits, closeIds, closeEnds}
 use Rattle.stream.specs.Valid.{valid}
 use Rattle.stream.specs.Calls.{fresh, opened, space, spaceNumber, scanNumber, closeNumber, takenBy, written, scanned, scannedIds, scannedOffsets, shut, closed, closedIds, closedOffsets, overLimit}
 
@@ -38,13 +38,13 @@ module _ (t u : List ℕ) (same : take tableWords t ≡ take tableWords u) where
   unfolding scanNumber spaceNumber
   scanNumber-local s len room =
       ap₂ (λ (b : Bool) (w : Automaton). cond b (cond (valid w s) (cond (s .closed) 19 (cond (overLimit s len) 21 (spaceNumber t room))) 18) 1) table machine
-      ∙ ap (λ (n : ℕ). cond (isTable u) (cond (valid (automaton u) s) (cond (s .closed) 19 (cond (overLimit s len) 21 (cond (ltb room n) 20 0))) 18) 1) rules
+      ∙ ap (λ (n : ℕ). cond (isTable u) (cond (valid (automaton u) s) (cond (s .closed) 19 (cond (overLimit s len) 21 (cond (ltb room (2 * n)) 20 0))) 18) 1) rules
 
   pub closeNumber-local : (s : Stream) (room : ℕ) → closeNumber t s room ≡ closeNumber u s room
   unfolding closeNumber spaceNumber
   closeNumber-local s room =
       ap₂ (λ (b : Bool) (w : Automaton). cond b (cond (valid w s) (cond (s .closed) 19 (spaceNumber t room)) 18) 1) table machine
-      ∙ ap (λ (n : ℕ). cond (isTable u) (cond (valid (automaton u) s) (cond (s .closed) 19 (cond (ltb room n) 20 0)) 18) 1) rules
+      ∙ ap (λ (n : ℕ). cond (isTable u) (cond (valid (automaton u) s) (cond (s .closed) 19 (cond (ltb room (2 * n)) 20 0)) 18) 1) rules
 
   module _ (s : Stream) (block ids offsets : List ℕ) where
     pub scanned-local : scanned t s block ids offsets ≡ scanned u s block ids offsets
@@ -84,4 +84,4 @@ module _ (t u : List ℕ) (same : take tableWords t ≡ take tableWords u) where
     pub closedOffsets-local : closedOffsets t s ids offsets ≡ closedOffsets u s ids offsets
     unfolding closedOffsets
     closedOffsets-local =
-        ap₂ (λ (n : ℕ) (w : Automaton). cond (eqb n 0) (written (replicate (length (closeIds w s)) (s .taken)) offsets) offsets) (closeNumber-local s (space ids offsets)) machine
+        ap₂ (λ (n : ℕ) (w : Automaton). cond (eqb n 0) (written (closeEnds w s) offsets) offsets) (closeNumber-local s (space ids offsets)) machine

@@ -1,26 +1,26 @@
 -- What callers may count on. An accepted scan takes some byte, since there is space for the reports of one; the state that comes back is valid again, since a live
 -- set is kept below the count, a mark is set for single-match rules alone, and the bytes stay within the limit.
 use mathlib.Core.Path.{_≡_, refl, sym, ap, ap₂, _∙_}
-use mathlib.Core.Bool.{Bool, true, false, cond, not, _||_, _&&_}
+use mathlib.Core.Bool.{Bool, true, false, cond, not, _||_, _&&_, or-true, and-false}
 use mathlib.Core.List.{List}
 use Prim.Native.Nat.{ℕ, zero, suc, _+_, _<_, _≤_, zero-le}
 use native.Mathlib.Omega.{arith}
 use lib.Dec.{eqb, leb, ltb}
 use lib.ListN.{length, getD}
-use borrow.Author.Tests.{eq-eqb, ne-eqb, eqb-true, not-true}
+use borrow.Author.Tests.{eq-eqb, ne-eqb, eqb-true, not-true, le-leb, ltb-true}
 use Rattle.sets.specs.Set.{on, has, setOf, wordOf, any, emptySet, sizeOf}
 use Rattle.sets.proofs.Digits.{on-zero, on-wordOf}
 use Rattle.sets.proofs.Laws.{has-setOf, has-empty, any-none, any-never, count-never}
 use Rattle.table.specs.Layout.{maxPositions, rulesOf, positionsOf}
 use Rattle.table.specs.Table.{isTable}
-use Rattle.table.specs.Automaton.{Automaton, automaton, single}
-use Rattle.steps.specs.Step.{starts, stepped, ends}
+use Rattle.table.specs.Automaton.{Automaton, automaton, single, followIn}
+use Rattle.steps.specs.Step.{starts, stepped, ends, endsLine, rulesWhere}
 use Rattle.steps.proofs.Members.{not-below}
 use Rattle.stream.specs.declared.Stream.{Stream}
 use Rattle.stream.specs.declared.Scanned.{Scanned}
 use Rattle.stream.specs.declared.Closed.{Closed}
-use Rattle.stream.specs.Byte.{nextLive, runMarks, byteState, stateAfter, idsOf, closeIds}
-use Rattle.stream.specs.Valid.{streamLimit, sameCounts, liveInside, marksSingle, underLimit, valid}
+use Rattle.stream.specs.Byte.{nextLive, nextHeld, nextPending, runMarks, byteState, stateAfter, idsOf, closeIds}
+use Rattle.stream.specs.Valid.{streamLimit, sameCounts, liveInside, marksSingle, underLimit, heldInside, pendingInside, pendingLate, valid}
 use Rattle.stream.specs.Calls.{fresh, opened, space, scanNumber, closeNumber, takenBy, scanned, shut, closed, busyOf}
 use Rattle.stream.proofs.Blocks.{fits-le, one-fits, taken-after, rules-after, positions-after}
 use Rattle.stream.proofs.Accepting.{Fitting, fitted, Accepted, accepted, close-number}
@@ -38,7 +38,7 @@ opened-stream t e = rw e
 
 -- the state is valid for the words
 pub opened-valid : (t : List ℕ) → isTable t ≡ true → valid (automaton t) (opened t .stream) ≡ true
-unfolding automaton liveInside marksSingle
+unfolding automaton liveInside marksSingle heldInside pendingInside pendingLate
 opened-valid t e =
     ap (valid (automaton t)) (opened-stream t e)
     ∙ fitted (automaton t) (fresh (rulesOf t) (positionsOf t) false) (record {
@@ -49,27 +49,74 @@ opened-valid t e =
           ap not (any-never 64 (λ a. on 0 a && not (ltb a (rulesOf t) && single (automaton t) a))
           (λ a h. ap (λ (b : Bool). b && not (ltb a (rulesOf t) && single (automaton t) a)) (on-zero a)));
       limit = zero-le;
+      held = ap not (any-never maxPositions (λ q. has emptySet q && leb (positionsOf t) q) (λ q h. ap (λ (b : Bool). b && leb (positionsOf t) q) (has-empty q h)));
+      pending = ap not (any-never 64 (λ a. on 0 a && not (ltb a (rulesOf t))) (λ a h. ap (λ (b : Bool). b && not (ltb a (rulesOf t))) (on-zero a)));
+      late = refl;
     })
 
 -- ---- a valid state stays valid
 
--- a live set is kept below the count
-inside-next : (w : Automaton) (s : Stream) (x : ℕ) → liveInside w (byteState w s x) ≡ true
-unfolding liveInside byteState stepped
-inside-next w s x =
-    ap not (any-never maxPositions (λ q. has (setOf takers) q && leb (w .positions) q)
-    (λ q h. ap₂ (λ (a b : Bool). a && b) (has-setOf takers q h) (sym (not-below q (w .positions))) ∙ apart (ltb q (w .positions)) (rest q)))
-  where
-    rest : ℕ → Bool
-    rest q = w .takes x q && (starts w (s .taken) q || any maxPositions (λ p. has (s .live) p && w .follow p q))
+-- a step stays below the count
+module _ (w : Automaton) (line : Bool) (live : List ℕ) (taken x : ℕ) where
+  rest : ℕ → Bool
+  rest q = w .takes x q && (starts w line taken q || any maxPositions (λ p. has live p && followIn w line p q))
 
-    takers : ℕ → Bool
-    takers q = ltb q (w .positions) && rest q
+  takers : ℕ → Bool
+  takers q = ltb q (w .positions) && rest q
+
+  apart : (a b : Bool) → ((a && b) && not a) ≡ false
+  apart true true = refl
+  apart true false = refl
+  apart false b = refl
+
+  inside-step : not (any maxPositions (λ q. has (stepped w line (w .positions) live taken x) q && leb (w .positions) q)) ≡ true
+  unfolding stepped rest takers
+  inside-step =
+      ap not (any-never maxPositions (λ q. has (setOf takers) q && leb (w .positions) q)
+      (λ q h. ap₂ (λ (a b : Bool). a && b) (has-setOf takers q h) (sym (not-below q (w .positions))) ∙ apart (ltb q (w .positions)) (rest q)))
+
+inside-next : (w : Automaton) (s : Stream) (x : ℕ) → liveInside w (byteState w s x) ≡ true
+unfolding liveInside byteState
+inside-next w s x = inside-step w false (s .live) (s .taken) x
+
+-- what is held is such a step, or nothing
+held-next : (w : Automaton) (s : Stream) (x : ℕ) → heldInside w (byteState w s x) ≡ true
+unfolding heldInside byteState nextHeld
+held-next w s x = go (eqb x 10)
+  where
+    go : (b : Bool) → not (any maxPositions (λ q. has (cond b (stepped w true (w .positions) (s .live) (s .taken) x) emptySet) q && leb (w .positions) q)) ≡ true
+    go true = inside-step w true (s .live) (s .taken) x
+    go false = ap not (any-never maxPositions (λ q. has emptySet q && leb (w .positions) q) (λ q h. ap (λ (b : Bool). b && leb (w .positions) q) (has-empty q h)))
+
+-- a pair is held for rules of the table alone, and where a byte stands before its end offset
+pending-next : (w : Automaton) (s : Stream) (x : ℕ) → pendingInside w (byteState w s x) ≡ true
+unfolding pendingInside byteState nextPending
+pending-next w s x = go (eqb x 10 && ltb 0 (s .taken))
+  where
+    test : ℕ → Bool
+    test a = ltb a (w .rules) && (endsLine w (s .live) a && not (ends w (s .live) a))
 
     apart : (a b : Bool) → ((a && b) && not a) ≡ false
     apart true true = refl
     apart true false = refl
     apart false b = refl
+
+    go : (b : Bool) → not (any 64 (λ a. on (cond b (wordOf 64 test) 0) a && not (ltb a (w .rules)))) ≡ true
+    go true =
+        ap not (any-never 64 (λ a. on (wordOf 64 test) a && not (ltb a (w .rules)))
+        (λ a h. ap (λ (b : Bool). b && not (ltb a (w .rules))) (on-wordOf 64 test a h) ∙ apart (ltb a (w .rules)) (endsLine w (s .live) a && not (ends w (s .live) a))))
+    go false = ap not (any-never 64 (λ a. on 0 a && not (ltb a (w .rules))) (λ a h. ap (λ (b : Bool). b && not (ltb a (w .rules))) (on-zero a)))
+
+late-next : (w : Automaton) (s : Stream) (x : ℕ) → pendingLate (byteState w s x) ≡ true
+unfolding pendingLate byteState nextPending
+late-next w s x = go (ltb 0 (s .taken)) refl
+  where
+    pairs : ℕ
+    pairs = rulesWhere w (λ a. endsLine w (s .live) a && not (ends w (s .live) a))
+
+    go : (b : Bool) → ltb 0 (s .taken) ≡ b → (eqb (cond (eqb x 10 && b) pairs 0) 0 || leb 2 (suc (s .taken))) ≡ true
+    go true e = ap (λ (b : Bool). eqb (cond (eqb x 10 && true) pairs 0) 0 || b) (le-leb 2 (suc (s .taken)) (omega (arith, ltb-true 0 (s .taken) e))) ∙ or-true (eqb (cond (eqb x 10 && true) pairs 0) 0)
+    go false e = ap (λ (b : Bool). eqb (cond b pairs 0) 0 || leb 2 (suc (s .taken))) (and-false (eqb x 10))
 
 -- a mark is set for single-match rules alone
 single-next : (w : Automaton) (s : Stream) (x : ℕ) → marksSingle w s ≡ true → marksSingle w (byteState w s x) ≡ true
@@ -96,6 +143,21 @@ module _ (w : Automaton) (s : Stream) (block : List ℕ) (h : Fitting w s) where
   live-after zero = h .live
   live-after (suc k) = inside-next w (stateAfter w s block k) (getD block k 0)
 
+  held-after : (k : ℕ) → heldInside w (stateAfter w s block k) ≡ true
+  unfolding stateAfter
+  held-after zero = h .held
+  held-after (suc k) = held-next w (stateAfter w s block k) (getD block k 0)
+
+  pending-after : (k : ℕ) → pendingInside w (stateAfter w s block k) ≡ true
+  unfolding stateAfter
+  pending-after zero = h .pending
+  pending-after (suc k) = pending-next w (stateAfter w s block k) (getD block k 0)
+
+  late-after : (k : ℕ) → pendingLate (stateAfter w s block k) ≡ true
+  unfolding stateAfter
+  late-after zero = h .late
+  late-after (suc k) = late-next w (stateAfter w s block k) (getD block k 0)
+
   marks-after : (k : ℕ) → marksSingle w (stateAfter w s block k) ≡ true
   unfolding stateAfter
   marks-after zero = h .marks
@@ -109,6 +171,9 @@ module _ (w : Automaton) (s : Stream) (block : List ℕ) (h : Fitting w s) where
         live = live-after k;
         marks = marks-after k;
         limit = omega (arith, taken-after w s block k);
+        held = held-after k;
+        pending = pending-after k;
+        late = late-after k;
       }
 
 -- ---- the answer of a scan
@@ -162,7 +227,7 @@ module _ (t : List ℕ) (s : Stream) (block ids offsets : List ℕ) where
     pub progress : 0 < length block → 0 < scanned t s block ids offsets .taken
     unfolding takenBy automaton
     progress h =
-        omega (arith, ap (λ (r : Scanned). r .taken) (accepted-scan is-accepted), one-fits (automaton t) s block (space ids offsets) (length block) h (held .space))
+        omega (arith, ap (λ (r : Scanned). r .taken) (accepted-scan is-accepted), one-fits (automaton t) s block (space ids offsets) (length block) h (omega (arith, held .space)))
 
     -- and gives back a state that is valid for the same words
     pub scanned-valid : valid (automaton t) (scanned t s block ids offsets .stream) ≡ true
@@ -175,7 +240,7 @@ module _ (t : List ℕ) (s : Stream) (block ids offsets : List ℕ) where
 
 -- the closed mark is no part of the test
 shut-valid : (w : Automaton) (s : Stream) → valid w (shut s) ≡ valid w s
-unfolding valid sameCounts liveInside marksSingle underLimit
+unfolding valid sameCounts liveInside marksSingle underLimit heldInside pendingInside pendingLate
 shut-valid w s = refl
 
 module _ (t : List ℕ) (s : Stream) (ids offsets : List ℕ) where

@@ -2,26 +2,27 @@
 -- what holds once `at` bytes are taken: live set, marks and lists are those of the definitions. A byte that is taken and bytes passed over keep it; where the
 -- loop leaves, `at` is what `fits` says.
 use mathlib.Core.Path.{_≡_, refl, sym, ap, ap₂, _∙_, subst}
-use mathlib.Core.Bool.{Bool, true, false, not, _&&_}
+use mathlib.Core.Bool.{Bool, true, false, cond, not, _&&_}
 use mathlib.Core.List.{List, [], _++_, append-nil, append-assoc}
 use Prim.Native.Nat.{ℕ, zero, suc, _+_, _-_, _^_, _<_, _≤_, zero-le}
 use native.Mathlib.Nat.{add-zero, le-refl}
 use native.Mathlib.Omega.{arith}
+use lib.Dec.{ltb}
 use lib.ListN.{length, getD, take, drop, replicate, length-take, length-drop, length-append, length-replicate, drop-of-length-le}
 use lib.Seq.{drop-drop, drop-at, take-at, take-all}
 use borrow.Rule.Slice.PartMut.{putMid}
 use borrow.Author.Count.{below-more}
 use borrow.Author.Tests.{lt-ltb, le-ltb, ltb-true, ltb-false}
-use Rattle.sets.specs.Set.{on, has, any, count, emptySet}
+use Rattle.sets.specs.Set.{on, has, any, count, emptySet, unionOf}
 use Rattle.sets.proofs.Laws.{has-setOf, has-empty, any-none, any-never}
 use Rattle.table.specs.Layout.{maxPositions}
 use Rattle.table.specs.Automaton.{Automaton}
-use Rattle.steps.specs.Step.{stepped, ends, lastsOf, rulesWhere}
+use Rattle.steps.specs.Step.{stepped, ends, endsAtEnd, lastsOf, rulesWhere}
 use Rattle.steps.proofs.Members.{on-places}
 use Rattle.stream.specs.declared.Stream.{Stream}
-use Rattle.stream.specs.Byte.{nextLive, runIds, runMarks, byteIds, byteState, stateAfter, idsOf, endsOf}
+use Rattle.stream.specs.Byte.{nextLive, runIds, runMarks, byteIds, byteState, stateAfter, idsOf, endsOf, lineIds, endIds, closeIds, closeEnds}
 use Rattle.stream.specs.Calls.{space, written}
-use Rattle.stream.specs.Invariants.{Wrote, Delivered, Skipped, Ran}
+use Rattle.stream.specs.Invariants.{Wrote, Delivered, Skipped, Ran, Ended}
 use Rattle.stream.proofs.Runs.{run-ext, run-none, marks-none, marks-small, due-count, wrote-ext, wrote-none}
 use Rattle.stream.proofs.Blocks.{state-more, ids-more, ends-more, taken-after, ends-count, fits-le, fits-is}
 
@@ -97,7 +98,7 @@ module _ (w : Automaton) (block : List ℕ) (taken from : ℕ) where
   pub skipped-none : (live : List ℕ) → from ≤ length block → Skipped w live block taken from from
   skipped-none live h = record { rises = le-refl from; inside = h; empty = λ l. absurd (omega arith); still = λ j l m. absurd (omega arith) }
 
-  pub skipped-more : (at : ℕ) → Skipped w emptySet block taken from at → at < length block → stepped w (w .positions) emptySet (taken + at) (getD block at 0) ≡ emptySet
+  pub skipped-more : (at : ℕ) → Skipped w emptySet block taken from at → at < length block → stepped w false (w .positions) emptySet (taken + at) (getD block at 0) ≡ emptySet
       → Skipped w emptySet block taken from (at + 1)
   skipped-more at h l e =
       record {
@@ -105,7 +106,7 @@ module _ (w : Automaton) (block : List ℕ) (taken from : ℕ) where
         inside = omega arith;
         empty = λ m. refl;
         still = λ j f g.
-            below-more (λ (i : ℕ). from ≤ i → stepped w (w .positions) emptySet (taken + i) (getD block i 0) ≡ emptySet) at (λ i m k. h .still i k m) (λ k. e) j g f;
+            below-more (λ (i : ℕ). from ≤ i → stepped w false (w .positions) emptySet (taken + i) (getD block i 0) ≡ emptySet) at (λ i m k. h .still i k m) (λ k. e) j g f;
       }
 
   pub skipped-live : (at : ℕ) (live : List ℕ) → live ≡ emptySet → Skipped w emptySet block taken from at → Skipped w live block taken from at
@@ -125,6 +126,10 @@ pub record Running (w : Automaton) (s : Stream) (block ids₀ offsets₀ live : 
   pub ids-long : length ids ≡ length ids₀
   pub offsets-long : length offsets ≡ length offsets₀
 
+-- the live set before the last byte taken
+abbrev pub Before : (w : Automaton) (s : Stream) (block before : List ℕ) (at : ℕ) → Type 0
+Before w s block before at = 0 < at → before ≡ stateAfter w s block (at - 1) .live
+
 -- a part from a on that came back: x was I ++ drop a x₀, and D was put at the part's front
 grow : (I D x x₀ last : List ℕ) (a : ℕ) → length I ≡ a → a ≤ length x → x ≡ I ++ drop a x₀ → last ≡ written D (take (length x - a) (drop a x))
     → putMid a (length x - a) x last ≡ (I ++ D) ++ drop (a + length D) x₀
@@ -136,6 +141,58 @@ grow I D x x₀ last a el h ex e =
     (ap₂ (λ (p q : List ℕ). p ++ q) (e ∙ ap (λ (l : List ℕ). D ++ drop (length D) l) (all ∙ d) ∙ ap (λ (l : List ℕ). D ++ l) (drop-drop (length D) a x₀)) none
     ∙ append-nil (D ++ drop (a + length D) x₀))
     ∙ sym (append-assoc I D (drop (a + length D) x₀))
+
+-- ---- the two runs of a closing
+
+module _ (w : Automaton) (s : Stream) (few : w .rules ≤ 64) (ids offsets : List ℕ) where
+  -- the first run, and the rules that need the end
+  module _ (end₁ : ℕ) (before : end₁ ≡ s .taken - 1) (reports₁ marks₁ : ℕ) (ids₁ offsets₁ : List ℕ) (wrote : Wrote w (on (s .pending)) (s .reported) end₁ ids offsets reports₁ marks₁ ids₁ offsets₁)
+      (found : ℕ) (is : found ≡ rulesWhere w (λ a. endsAtEnd w (unionOf (s .live) (s .held)) a && not (ends w (s .live) a))) where
+    line : Wrote w (on (s .pending)) (s .reported) (s .taken - 1) ids offsets reports₁ marks₁ ids₁ offsets₁
+    line = subst (λ (n : ℕ). Wrote w (on (s .pending)) (s .reported) n ids offsets reports₁ marks₁ ids₁ offsets₁) before wrote
+
+    needs : ℕ → Bool
+    needs a = endsAtEnd w (unionOf (s .live) (s .held)) a && not (ends w (s .live) a)
+
+    -- the second run's ids
+    end-run : runIds w (on found) marks₁ (w .rules) ≡ endIds w s
+    unfolding endIds needs
+    end-run =
+        run-ext w (on found) needs marks₁ (w .rules) (λ a h. ap (λ (x : ℕ). on x a) is ∙ on-places needs (w .rules) a h few)
+        ∙ ap (λ (m : ℕ). runIds w needs m (w .rules)) (line .marks-are)
+
+    line-run : runIds w (on (s .pending)) (s .reported) (w .rules) ≡ lineIds w s
+    unfolding lineIds
+    line-run = refl
+
+    -- both are written
+    pub ended : (end₂ : ℕ) → end₂ ≡ s .taken → (reports₂ marks₂ : ℕ) (ilast olast : List ℕ)
+        → Wrote w (on found) marks₁ end₂ (take (length ids₁ - reports₁) (drop reports₁ ids₁)) (take (length offsets₁ - reports₁) (drop reports₁ offsets₁)) reports₂ marks₂ ilast olast
+        → reports₁ ≤ length ids₁ → reports₁ ≤ length offsets₁
+        → Ended w s ids offsets (reports₁ + reports₂) (putMid reports₁ (length ids₁ - reports₁) ids₁ ilast) (putMid reports₁ (length offsets₁ - reports₁) offsets₁ olast)
+    unfolding closeIds closeEnds
+    ended end₂ e reports₂ marks₂ ilast olast end hi ho =
+        let one = lineIds w s in
+        let two = endIds w s in
+        let n₁ : reports₁ ≡ length one = line .reports-are ∙ ap length line-run in
+        let n₂ : reports₂ ≡ length two = end .reports-are ∙ ap length end-run in
+        record {
+          reports-are = ap₂ (λ (x y : ℕ). x + y) n₁ n₂ ∙ sym (length-append one two);
+          ids-are =
+              grow one two ids₁ ids ilast reports₁ (sym n₁) hi
+              (line .ids-are ∙ ap₂ (λ (l : List ℕ) (n : ℕ). l ++ drop n ids) line-run (ap length line-run ∙ sym n₁))
+              (end .ids-are ∙ ap (λ (l : List ℕ). written l (take (length ids₁ - reports₁) (drop reports₁ ids₁))) end-run)
+              ∙ ap (λ (n : ℕ). (one ++ two) ++ drop n ids) (ap (λ (x : ℕ). x + length two) n₁ ∙ sym (length-append one two));
+          offsets-are =
+              grow (replicate (length one) (s .taken - 1)) (replicate (length two) (s .taken)) offsets₁ offsets olast reports₁ (length-replicate (length one) (s .taken - 1) ∙ sym n₁) ho
+              (line .offsets-are ∙ ap₂ (λ (l : List ℕ) (n : ℕ). replicate (length l) (s .taken - 1) ++ drop n offsets) line-run
+              (length-replicate (length (runIds w (on (s .pending)) (s .reported) (w .rules))) (s .taken - 1) ∙ ap length line-run ∙ sym n₁))
+              (end .offsets-are ∙ ap₂ (λ (l : List ℕ) (x : ℕ). written (replicate (length l) x) (take (length offsets₁ - reports₁) (drop reports₁ offsets₁))) end-run e)
+              ∙ ap (λ (n : ℕ). (replicate (length one) (s .taken - 1) ++ replicate (length two) (s .taken)) ++ drop n offsets)
+              (ap₂ (λ (x y : ℕ). x + y) n₁ (length-replicate (length two) (s .taken)) ∙ ap (λ (x : ℕ). x + length two) (sym (length-replicate (length one) (s .taken - 1)))
+              ∙ ap (λ (y : ℕ). length (replicate (length one) (s .taken - 1)) + y) (sym (length-replicate (length two) (s .taken)))
+              ∙ sym (length-append (replicate (length one) (s .taken - 1)) (replicate (length two) (s .taken))));
+        }
 
 module _ (w : Automaton) (s : Stream) (block ids₀ offsets₀ : List ℕ) where
   pub running-start : s .reported < 2 ^ 64 → Running w s block ids₀ offsets₀ (s .live) (s .reported) ids₀ offsets₀ 0 0
@@ -161,12 +218,13 @@ module _ (w : Automaton) (s : Stream) (block ids₀ offsets₀ : List ℕ) where
   offsets-hold live reported ids offsets count at h = omega (arith, h .room, h .offsets-long)
 
   -- where the loop leaves: at the block's end, or before a byte whose reports do not fit
-  pub running-done : (live : List ℕ) (reported : ℕ) (ids offsets : List ℕ) (count at : ℕ) → Running w s block ids₀ offsets₀ live reported ids offsets count at
-      → (at < length block → space ids₀ offsets₀ < length (idsOf w s block (at + 1))) → Ran w s block ids₀ offsets₀ live reported at count ids offsets
-  running-done live reported ids offsets count at h stopped =
+  pub running-done : (live before : List ℕ) (reported : ℕ) (ids offsets : List ℕ) (count at : ℕ) → Running w s block ids₀ offsets₀ live reported ids offsets count at
+      → Before w s block before at → (at < length block → space ids₀ offsets₀ < length (idsOf w s block (at + 1))) → Ran w s block ids₀ offsets₀ live before reported at count ids offsets
+  running-done live before reported ids offsets count at h b stopped =
       record {
         taken-is = sym (fits-is w s block (space ids₀ offsets₀) at (length block) (h .inside) (omega (arith, h .count-is, h .room)) stopped);
         live-is = h .live-is;
+        before-is = b;
         marks-are = h .marks-are;
         reports-are = h .count-is;
         ids-are = h .ids-are ∙ ap (λ (n : ℕ). idsOf w s block at ++ drop n ids₀) (h .count-is);
@@ -174,11 +232,11 @@ module _ (w : Automaton) (s : Stream) (block ids₀ offsets₀ : List ℕ) where
       }
 
   module _ (live : List ℕ) (reported : ℕ) (ids offsets : List ℕ) (count at : ℕ) (h : Running w s block ids₀ offsets₀ live reported ids offsets count at)
-      (next : List ℕ) (step : next ≡ stepped w (w .positions) live (s .taken + at) (getD block at 0)) where
+      (next : List ℕ) (step : next ≡ stepped w false (w .positions) live (s .taken + at) (getD block at 0)) where
     -- what the definitions say of the next byte, in terms of the locals
     next-is : nextLive w (stateAfter w s block at) (getD block at 0) ≡ next
     next-is =
-        ap₂ (λ (l : List ℕ) (n : ℕ). stepped w (w .positions) l n (getD block at 0)) (sym (h .live-is)) (taken-after w s block at) ∙ sym step
+        ap₂ (λ (l : List ℕ) (n : ℕ). stepped w false (w .positions) l n (getD block at 0)) (sym (h .live-is)) (taken-after w s block at) ∙ sym step
 
     live-more : next ≡ stateAfter w s block (at + 1) .live
     unfolding byteState
@@ -294,10 +352,10 @@ module _ (w : Automaton) (s : Stream) (block ids₀ offsets₀ : List ℕ) where
             offsets-long = lo ∙ h .offsets-long;
           }
 
-      pub running-stop : full ≡ true → length (putMid count (length ids - count) ids ilast) ≡ length ids → length (putMid count (length offsets - count) offsets olast) ≡ length offsets
-          → Ran w s block ids₀ offsets₀ live reported at count (putMid count (length ids - count) ids ilast) (putMid count (length offsets - count) offsets olast)
-      running-stop e li lo =
-          running-done live reported (putMid count (length ids - count) ids ilast) (putMid count (length offsets - count) offsets olast) count at (running-kept e li lo) (λ b. running-full e)
+      pub running-stop : (before : List ℕ) → Before w s block before at → full ≡ true → length (putMid count (length ids - count) ids ilast) ≡ length ids → length (putMid count (length offsets - count) offsets olast) ≡ length offsets
+          → Ran w s block ids₀ offsets₀ live before reported at count (putMid count (length ids - count) ids ilast) (putMid count (length offsets - count) offsets olast)
+      running-stop before b e li lo =
+          running-done live before reported (putMid count (length ids - count) ids ilast) (putMid count (length offsets - count) offsets olast) count at (running-kept e li lo) b (λ g. running-full e)
 
     -- a byte with which no rule ends
     pub running-silent : at < length block → ((a : ℕ) → a < w .rules → ends w next a ≡ false) → Running w s block ids₀ offsets₀ next reported ids offsets count (at + 1)
@@ -331,7 +389,7 @@ module _ (w : Automaton) (s : Stream) (block ids₀ offsets₀ : List ℕ) where
         one n l m r =
             let empty : live ≡ emptySet = q .empty (omega arith) in
             running-silent live reported ids offsets count n r live
-            (empty ∙ sym (q .still n l m) ∙ ap (λ (x : List ℕ). stepped w (w .positions) x (s .taken + n) (getD block n 0)) (sym empty)) (omega (arith, q .inside))
+            (empty ∙ sym (q .still n l m) ∙ ap (λ (x : List ℕ). stepped w false (w .positions) x (s .taken + n) (getD block n 0)) (sym empty)) (omega (arith, q .inside))
             (λ a f. ap (λ (x : List ℕ). ends w x a) empty ∙ ends-empty w a)
 
         over : (d : ℕ) → at + d ≤ to → Running w s block ids₀ offsets₀ live reported ids offsets count (at + d)
@@ -340,7 +398,32 @@ module _ (w : Automaton) (s : Stream) (block ids₀ offsets₀ : List ℕ) where
             let next : at + d + 1 ≡ at + suc d = omega arith in
             subst (λ (n : ℕ). Running w s block ids₀ offsets₀ live reported ids offsets count n) next (one (at + d) (omega arith) (omega arith) (over d (omega arith)))
 
+  -- the live set before the last byte: before the first there is none, a byte that is taken leaves the one before it, and bytes passed over leave theirs
+  pub before-start : (before : List ℕ) → Before w s block before 0
+  before-start before l = absurd (omega arith)
+
+  pub before-step : (live : List ℕ) (reported : ℕ) (ids offsets : List ℕ) (count at : ℕ) → Running w s block ids₀ offsets₀ live reported ids offsets count at → Before w s block live (at + 1)
+  before-step live reported ids offsets count at h l =
+      let last : at ≡ at + 1 - 1 = omega arith in
+      h .live-is ∙ ap (λ (n : ℕ). stateAfter w s block n .live) last
+
+  pub before-skip : (live : List ℕ) (reported : ℕ) (ids offsets : List ℕ) (count at to : ℕ) → Running w s block ids₀ offsets₀ live reported ids offsets count at
+      → Skipped w live block (s .taken) at to → at < to → Before w s block live to
+  before-skip live reported ids offsets count at to h q m l =
+      running-skip live reported ids offsets count at (to - 1) h
+      (record { rises = omega arith; inside = omega (arith, q .inside); empty = λ g. q .empty m; still = λ j f g. q .still j f (omega arith) }) .live-is
+
+  pub before-passed : (live before : List ℕ) (reported : ℕ) (ids offsets : List ℕ) (count at to : ℕ) → Running w s block ids₀ offsets₀ live reported ids offsets count at
+      → Before w s block before at → Skipped w live block (s .taken) at to → (now : List ℕ) → now ≡ cond (ltb at to) live before → Before w s block now to
+  before-passed live before reported ids offsets count at to h b q now e = go (ltb at to) refl
+    where
+      go : (x : Bool) → ltb at to ≡ x → Before w s block now to
+      go true x = subst (λ (y : List ℕ). Before w s block y to) (sym (e ∙ ap (λ (z : Bool). cond z live before) x)) (before-skip live reported ids offsets count at to h q (ltb-true at to x))
+      go false x =
+          let same : at ≡ to = omega (arith, q .rises, ltb-false at to x) in
+          subst (λ (y : List ℕ). Before w s block y to) (sym (e ∙ ap (λ (z : Bool). cond z live before) x)) (subst (λ (n : ℕ). Before w s block before n) same b)
+
 -- no more bytes are taken than there are
-pub ran-inside : (w : Automaton) (s : Stream) (block ids offsets live : List ℕ) (reported taken reports : ℕ) (ids′ offsets′ : List ℕ)
-    → Ran w s block ids offsets live reported taken reports ids′ offsets′ → taken ≤ length block
-ran-inside w s block ids offsets live reported taken reports ids′ offsets′ h = omega (arith, h .taken-is, fits-le w s block (space ids offsets) (length block))
+pub ran-inside : (w : Automaton) (s : Stream) (block ids offsets live before : List ℕ) (reported taken reports : ℕ) (ids′ offsets′ : List ℕ)
+    → Ran w s block ids offsets live before reported taken reports ids′ offsets′ → taken ≤ length block
+ran-inside w s block ids offsets live before reported taken reports ids′ offsets′ h = omega (arith, h .taken-is, fits-le w s block (space ids offsets) (length block))

@@ -1,19 +1,28 @@
 -- What one byte does to a stream, and what some bytes do; what closing reports. Over the automaton that the words describe, not over words. Assumes nothing:
 -- these are definitions.
-use mathlib.Core.Bool.{Bool, cond, not, _&&_, _||_}
+use mathlib.Core.Bool.{Bool, true, false, cond, not, _&&_, _||_}
 use mathlib.Core.List.{List, [], _∷_, _++_}
-use Prim.Native.Nat.{ℕ, zero, suc, _+_}
-use lib.Dec.{leb, ltb}
+use Prim.Native.Nat.{ℕ, zero, suc, _+_, _-_}
+use lib.Dec.{eqb, leb, ltb}
 use lib.ListN.{length, getD, replicate}
-use Rattle.sets.specs.Set.{on, wordOf}
+use Rattle.sets.specs.Set.{on, wordOf, emptySet, unionOf}
 use Rattle.table.specs.Automaton.{Automaton, single}
-use Rattle.steps.specs.Step.{stepped, ends, endsAtEnd}
+use Rattle.steps.specs.Step.{stepped, ends, endsLine, endsAtEnd, rulesWhere}
 use Rattle.stream.specs.declared.Stream.{Stream}
 
 module _ (w : Automaton) where
   -- the next live set of a state: what byte x steps to, among the positions of the table
   abbrev pub nextLive : Stream → ℕ → List ℕ
-  nextLive s x = stepped w (w .positions) (s .live) (s .taken) x
+  nextLive s x = stepped w false (w .positions) (s .live) (s .taken) x
+
+  -- "A held position or pair": PCRE "also lets `$` hold just before a newline that is the last byte", so a byte 10 may be the last line's end. The positions that
+  -- it then steps to are held, and so are the rules that end before it and need that; the next byte settles both.
+  unfoldable pub nextHeld : Stream → ℕ → List ℕ
+  nextHeld s x = cond (eqb x 10) (stepped w true (w .positions) (s .live) (s .taken) x) emptySet
+
+  -- a pair has a byte before its end offset
+  unfoldable pub nextPending : Stream → ℕ → ℕ
+  nextPending s x = cond (eqb x 10 && ltb 0 (s .taken)) (rulesWhere w (λ a. endsLine w (s .live) a && not (ends w (s .live) a))) 0
 
   -- A run of reports has one end offset and some rules, "by rising id": places are by rising id, and of the first n those report that pass the test and have
   -- no mark "already reported".
@@ -35,7 +44,9 @@ module _ (w : Automaton) where
   unfoldable pub byteState : Stream → ℕ → Stream
   byteState s x = record {
     live = nextLive s x;
+    held = nextHeld s x;
     reported = runMarks (ends w (nextLive s x)) (s .reported);
+    pending = nextPending s x;
     taken = suc (s .taken);
     rules = s .rules;
     positions = s .positions;
@@ -62,6 +73,16 @@ module _ (w : Automaton) where
   fits s block room zero = 0
   fits s block room (suc k) = cond (leb (length (idsOf s block (suc k))) room) (suc k) (fits s block room k)
 
-  -- "Closing reports, by rising id, pairs not already given whose match needs the end; of a single-match rule that has reported, none."
+  -- "Closing reports pairs at offset n-1 by rising id, then those at n": the pairs held for n-1, and those not already given whose match needs the end; "of a
+  -- single-match rule that has reported, none".
+  unfoldable pub lineIds : Stream → List ℕ
+  lineIds s = runIds (on (s .pending)) (s .reported) (w .rules)
+
+  unfoldable pub endIds : Stream → List ℕ
+  endIds s = runIds (λ a. endsAtEnd w (unionOf (s .live) (s .held)) a && not (ends w (s .live) a)) (runMarks (on (s .pending)) (s .reported)) (w .rules)
+
   unfoldable pub closeIds : Stream → List ℕ
-  closeIds s = runIds (λ a. endsAtEnd w (s .live) a && not (ends w (s .live) a)) (s .reported) (w .rules)
+  closeIds s = lineIds s ++ endIds s
+
+  unfoldable pub closeEnds : Stream → List ℕ
+  closeEnds s = replicate (length (lineIds s)) (s .taken - 1) ++ replicate (length (endIds s)) (s .taken)

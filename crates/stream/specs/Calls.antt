@@ -1,9 +1,9 @@
 -- The four calls on a stream: the answer and both lists afterwards, for any words, state, block and lists. Assumes nothing: these are definitions.
 use mathlib.Core.Bool.{Bool, true, false, cond}
 use mathlib.Core.List.{List, _++_}
-use Prim.Native.Nat.{ℕ, _+_, min}
+use Prim.Native.Nat.{ℕ, _+_, _*_, min}
 use lib.Dec.{eqb, ltb}
-use lib.ListN.{length, drop, replicate}
+use lib.ListN.{length, drop}
 use Rattle.sets.specs.Set.{emptySet, sizeOf}
 use Rattle.table.specs.Layout.{rulesOf, positionsOf}
 use Rattle.table.specs.Table.{isTable}
@@ -12,12 +12,12 @@ use Rattle.stream.specs.declared.Stream.{Stream}
 use Rattle.stream.specs.declared.Opened.{Opened}
 use Rattle.stream.specs.declared.Scanned.{Scanned}
 use Rattle.stream.specs.declared.Closed.{Closed}
-use Rattle.stream.specs.Byte.{stateAfter, idsOf, endsOf, fits, closeIds}
+use Rattle.stream.specs.Byte.{stateAfter, idsOf, endsOf, fits, closeIds, closeEnds}
 use Rattle.stream.specs.Valid.{valid, streamLimit}
 
--- a state with nothing live, marked or taken
+-- a state with nothing live, held, marked or taken
 abbrev pub fresh : (rules positions : ℕ) → Bool → Stream
-fresh rules positions closed = record { live = emptySet; reported = 0; taken = 0; rules = rules; positions = positions; closed = closed }
+fresh rules positions closed = record { live = emptySet; held = emptySet; reported = 0; pending = 0; taken = 0; rules = rules; positions = positions; closed = closed }
 
 -- "opening only 1"; "A refused opening hands back a closed state, all else in it zero."
 unfoldable pub opened : List ℕ → Opened
@@ -28,9 +28,9 @@ opened t =
 abbrev pub space : List ℕ → List ℕ → ℕ
 space ids offsets = min (length ids) (length offsets)
 
--- 20: "report space smaller than the number of rules"
+-- 20: "Smallest report space becomes twice the number of rules (refusal 20, scans and closing)."
 unfoldable pub spaceNumber : List ℕ → ℕ → ℕ
-spaceNumber t room = cond (ltb room (rulesOf t)) 20 0
+spaceNumber t room = cond (ltb room (2 * rulesOf t)) 20 0
 
 -- 21: "bytes taken so far plus this block over the limit"
 abbrev pub overLimit : Stream → (len : ℕ) → Bool
@@ -82,9 +82,9 @@ module _ (t : List ℕ) (s : Stream) (block ids offsets : List ℕ) where
 
 -- "Closing sets the closed mark and changes nothing else in the state."
 abbrev pub shut : Stream → Stream
-shut s = record { live = s .live; reported = s .reported; taken = s .taken; rules = s .rules; positions = s .positions; closed = true }
+shut s = record { live = s .live; held = s .held; reported = s .reported; pending = s .pending; taken = s .taken; rules = s .rules; positions = s .positions; closed = true }
 
--- A closing likewise; all its reports have the offset of the stream's end.
+-- A closing likewise.
 module _ (t : List ℕ) (s : Stream) (ids offsets : List ℕ) where
   unfoldable pub closed : Closed
   closed =
@@ -98,8 +98,9 @@ module _ (t : List ℕ) (s : Stream) (ids offsets : List ℕ) where
 
   unfoldable pub closedOffsets : List ℕ
   closedOffsets =
-      cond (eqb (closeNumber t s (space ids offsets)) 0) (written (replicate (length (closeIds (automaton t) s)) (s .taken)) offsets) offsets
+      cond (eqb (closeNumber t s (space ids offsets)) 0) (written (closeEnds (automaton t) s) offsets) offsets
 
--- "The state also shows its busy figure: the number of live positions"; "It equals the ones in the live set."
+-- "The state also shows its busy figure: the number of live positions"; "It equals the ones in the live set."; "positions behind an unsettled assertion aren't in
+-- the busy figure, nor does closing put them there".
 abbrev pub busyOf : Stream → ℕ
 busyOf s = sizeOf (s .live)

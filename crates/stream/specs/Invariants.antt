@@ -1,20 +1,20 @@
 -- What the private functions promise, where that is not an equation with a definition that a reader must believe. Assumes nothing: these are definitions.
 use mathlib.Core.Path.{_≡_}
-use mathlib.Core.Bool.{Bool, false, not, _&&_}
+use mathlib.Core.Bool.{Bool, false, cond, not, _&&_}
 use mathlib.Core.List.{List}
-use Prim.Native.Nat.{ℕ, _+_, _<_, _≤_}
-use lib.Dec.{ltb}
+use Prim.Native.Nat.{ℕ, _+_, _-_, _<_, _≤_}
+use lib.Dec.{eqb, ltb}
 use lib.ListN.{length, getD, replicate}
 use Rattle.sets.specs.Set.{emptySet}
 use Rattle.table.specs.Automaton.{Automaton}
 use Rattle.steps.specs.Step.{stepped, ends}
 use Rattle.stream.specs.declared.Stream.{Stream}
-use Rattle.stream.specs.Byte.{runIds, runMarks, stateAfter, idsOf, endsOf, fits}
+use Rattle.stream.specs.Byte.{nextHeld, nextPending, runIds, runMarks, stateAfter, idsOf, endsOf, fits, closeIds, closeEnds}
 use Rattle.stream.specs.Calls.{space, written}
 
 -- a state of which the live set, the marks and the bytes taken count
 abbrev pub stateOf : (live : List ℕ) → (reported taken : ℕ) → Stream
-stateOf live reported taken = record { live = live; reported = reported; taken = taken; rules = 0; positions = 0; closed = false }
+stateOf live reported taken = record { live = live; held = emptySet; reported = reported; pending = 0; taken = taken; rules = 0; positions = 0; closed = false }
 
 -- a run of the rules that pass the test, written with this end offset
 pub record Wrote (w : Automaton) (test : ℕ → Bool) (marks end : ℕ) (ids offsets : List ℕ) (reports marks′ : ℕ) (ids′ offsets′ : List ℕ) : Type 0 where
@@ -33,13 +33,25 @@ pub record Skipped (w : Automaton) (live block : List ℕ) (taken from to : ℕ)
   pub rises : from ≤ to
   pub inside : to ≤ length block
   pub empty : from < to → live ≡ emptySet
-  pub still : (j : ℕ) → from ≤ j → j < to → stepped w (w .positions) emptySet (taken + j) (getD block j 0) ≡ emptySet
+  pub still : (j : ℕ) → from ≤ j → j < to → stepped w false (w .positions) emptySet (taken + j) (getD block j 0) ≡ emptySet
 
--- as many bytes of the block as have reports that fit, the state after them and both lists
-pub record Ran (w : Automaton) (s : Stream) (block ids offsets live : List ℕ) (reported taken reports : ℕ) (ids′ offsets′ : List ℕ) : Type 0 where
+-- as many bytes of the block as have reports that fit, the state after them, the live set before the last of them, and both lists
+pub record Ran (w : Automaton) (s : Stream) (block ids offsets live before : List ℕ) (reported taken reports : ℕ) (ids′ offsets′ : List ℕ) : Type 0 where
   pub taken-is : taken ≡ fits w s block (space ids offsets) (length block)
   pub live-is : live ≡ stateAfter w s block taken .live
+  pub before-is : 0 < taken → before ≡ stateAfter w s block (taken - 1) .live
   pub marks-are : reported ≡ stateAfter w s block taken .reported
   pub reports-are : reports ≡ length (idsOf w s block taken)
   pub ids-are : ids′ ≡ written (idsOf w s block taken) ids
   pub offsets-are : offsets′ ≡ written (endsOf w s block taken) offsets
+
+-- what waits once n bytes of a block are taken: what the state had, if there are none; if not, what the last of them leaves, before which this set was live
+pub record Left (w : Automaton) (s : Stream) (block before : List ℕ) (n : ℕ) (held : List ℕ) (pending : ℕ) : Type 0 where
+  pub held-is : held ≡ cond (eqb n 0) (s .held) (nextHeld w (stateOf before 0 (s .taken + (n - 1))) (getD block (n - 1) 0))
+  pub pending-is : pending ≡ cond (eqb n 0) (s .pending) (nextPending w (stateOf before 0 (s .taken + (n - 1))) (getD block (n - 1) 0))
+
+-- the two runs of a closing, written into both lists
+pub record Ended (w : Automaton) (s : Stream) (ids offsets : List ℕ) (reports : ℕ) (ids′ offsets′ : List ℕ) : Type 0 where
+  pub reports-are : reports ≡ length (closeIds w s)
+  pub ids-are : ids′ ≡ written (closeIds w s) ids
+  pub offsets-are : offsets′ ≡ written (closeEnds w s) offsets

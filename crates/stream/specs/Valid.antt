@@ -1,5 +1,5 @@
--- When a state fits a table: number 18 has exactly the four reasons of the rules, one named test each. Assumes nothing: these are definitions.
-use mathlib.Core.Bool.{Bool, not, _&&_}
+-- When a state fits a table: number 18 has exactly the reasons of the rules, one named test each. Assumes nothing: these are definitions.
+use mathlib.Core.Bool.{Bool, not, _&&_, _||_}
 use Prim.Native.Nat.{ℕ}
 use lib.Dec.{eqb, leb, ltb}
 use Rattle.sets.specs.Set.{on, has, any}
@@ -25,5 +25,15 @@ marksSingle w s = not (any 64 (λ a. on (s .reported) a && not (ltb a (w .rules)
 unfoldable pub underLimit : Stream → Bool
 underLimit s = leb (s .taken) streamLimit
 
+-- "A held position or pair the table hasn't got is 18, and so is a pair held for n-1 while n is below 2."
+unfoldable pub heldInside : Automaton → Stream → Bool
+heldInside w s = not (any maxPositions (λ q. has (s .held) q && leb (w .positions) q))
+
+unfoldable pub pendingInside : Automaton → Stream → Bool
+pendingInside w s = not (any 64 (λ a. on (s .pending) a && not (ltb a (w .rules))))
+
+unfoldable pub pendingLate : Stream → Bool
+pendingLate s = eqb (s .pending) 0 || leb 2 (s .taken)
+
 unfoldable pub valid : Automaton → Stream → Bool
-valid w s = sameCounts w s && (liveInside w s && (marksSingle w s && underLimit s))
+valid w s = sameCounts w s && (liveInside w s && (marksSingle w s && (underLimit s && (heldInside w s && (pendingInside w s && pendingLate s)))))

@@ -2,12 +2,13 @@
 use super::STREAM_LIMIT;
 use super::Stream;
 use steps::singles;
+use table::layout::MAX_RULES;
 use table::layout::POSITIONS_AT;
 use table::layout::RULES_AT;
 ghost use mathlib.Core.Path.{_≡_};
-ghost use mathlib.Core.Bool.{not, _&&_};
+ghost use mathlib.Core.Bool.{not, _&&_, _||_};
 ghost use Prim.Native.Nat.{_≤_, min};
-ghost use lib.Dec.{leb, ltb};
+ghost use lib.Dec.{eqb, leb, ltb};
 ghost use lib.ListN.{length};
 ghost use Rattle.sets.specs.Set.{on, has, any};
 ghost use Rattle.table.specs.Layout.{tableWords, maxPositions};
@@ -22,12 +23,12 @@ pub(super) fn least(a: usize, b: usize) -> usize
     if a < b { a } else { b }
 }
 
-// Whether every live digit has a position.
-fn live_inside(live: [u64; 4], positions: usize) -> bool
-    ensures { λ r. ⌜ r ≡ not (any maxPositions (λ q. has live q && leb positions q)) ⌝ }
+// Whether every member of a set is a position, of this many.
+fn inside(s: [u64; 4], positions: usize) -> bool
+    ensures { λ r. ⌜ r ≡ not (any maxPositions (λ q. has s q && leb positions q)) ⌝ }
 {
     let outside = sets::complement(sets::below(sets::full(), positions));
-    sets::is_empty(sets::intersection(live, outside))
+    sets::is_empty(sets::intersection(s, outside))
 }
 
 // Whether every mark has a single-match rule.
@@ -36,6 +37,23 @@ fn marks_single(reported: u64, words: &[u64]) -> bool
     ensures { λ r. ⌜ r ≡ not (any 64 (λ a. on reported a && not (ltb a (automaton (now (words .entry)) .rules) && single (automaton (now (words .entry))) a))) ⌝ }
 {
     reported & !singles(words) == 0
+}
+
+// Whether every held pair has a rule, of this many.
+fn pending_inside(pending: u64, rules: u64) -> bool
+    ensures { λ r. ⌜ r ≡ not (any 64 (λ a. on pending a && not (ltb a rules))) ⌝ }
+{
+    rules >= MAX_RULES || pending >> rules == 0
+}
+
+// Whether what waits in a state fits a table.
+fn waits_inside(s: Stream, rules: u64, positions: u64) -> bool
+    ensures { λ r. ⌜ r ≡ (not (any maxPositions (λ q. has (s .held) q && leb positions q)) && (not (any 64 (λ a. on (s .pending) a && not (ltb a rules))) && (eqb (s .pending) 0 || leb 2 (s .taken)))) ⌝ }
+{
+    let held = s.held;
+    let positioned = inside(held, positions as usize);
+    let ruled = pending_inside(s.pending, rules);
+    positioned & (ruled & ((s.pending == 0) | (2 <= s.taken)))
 }
 
 // Whether a state fits a table.
@@ -47,9 +65,10 @@ fn is_valid(s: Stream, words: &[u64]) -> bool
     let positions = words[POSITIONS_AT];
     let live = s.live;
     let same = (s.rules == rules) & (s.positions == positions);
-    let inside = live_inside(live, positions as usize);
+    let positioned = inside(live, positions as usize);
     let marked = marks_single(s.reported, words);
-    same & (inside & (marked & (s.taken <= STREAM_LIMIT)))
+    let waits = waits_inside(s, rules, positions);
+    same & (positioned & (marked & ((s.taken <= STREAM_LIMIT) & waits)))
 }
 
 // The number of a scan of `len` bytes with this report space. A closing is numbered as a scan of no bytes, which 21 never refuses.
@@ -69,7 +88,7 @@ pub(super) fn refusal(s: Stream, words: &[u64], len: usize, space: usize) -> u32
     if STREAM_LIMIT - s.taken < len as u64 {
         return 21;
     }
-    if (space as u64) < rules {
+    if (space as u64) < 2 * rules {
         return 20;
     }
     0

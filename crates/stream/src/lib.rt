@@ -6,10 +6,9 @@ mod scan;
 
 use checks::least;
 use checks::refusal;
-use reports::write_run;
+use reports::write_closing;
 use scan::run;
-use steps::closing;
-use steps::singles;
+use scan::waiting_after;
 use table::layout::POSITIONS_AT;
 use table::layout::RULES_AT;
 ghost use mathlib.Core.Path.{_≡_};
@@ -18,11 +17,13 @@ ghost use Rattle.stream.specs.Calls.{fresh, opened, scanned, scannedIds,
 // How many bytes a stream may have.
 pub const STREAM_LIMIT: u64 = 1_099_511_627_775;
 
-// A stream's state: the live positions, a mark for each single-match rule that has reported, the bytes taken, the counts of its table, and whether it is
-// closed.
+// A stream's state: the live positions, and those held in case the last line ends before the last byte taken; a mark for each single-match rule that has reported,
+// and one for each rule with a pair that is held likewise; the bytes taken, the counts of its table, and whether it is closed.
 pub struct Stream {
     pub live: [u64; 4],
+    pub held: [u64; 4],
     pub reported: u64,
+    pub pending: u64,
     pub taken: u64,
     pub rules: u64,
     pub positions: u64,
@@ -55,9 +56,12 @@ fn fresh_state(rules: u64, positions: u64, closed: bool) -> Stream
     ensures { λ r. ⌜ r ≡ fresh rules positions closed ⌝ }
 {
     let live = sets::empty();
+    let held = sets::empty();
     Stream {
         live,
+        held,
         reported: 0,
+        pending: 0,
         taken: 0,
         rules,
         positions,
@@ -105,9 +109,14 @@ impl Stream {
         }
         let live = self.live;
         let r = run(live, self.reported, self.taken, words, block, ids, offsets);
+        let before = r.before;
+        let waits = waiting_after(self, r.taken, before, words, block);
         let after = r.live;
         self.live = after;
+        let held = waits.held;
+        self.held = held;
         self.reported = r.reported;
+        self.pending = waits.pending;
         self.taken = self.taken + r.taken as u64;
         Scanned {
             number: 0,
@@ -131,20 +140,11 @@ impl Stream {
                 stream: self,
             };
         }
-        let live = self.live;
-        let r = write_run(
-            closing(live, words),
-            self.reported,
-            singles(words),
-            words,
-            self.taken,
-            ids,
-            offsets,
-        );
+        let reports = write_closing(self, words, ids, offsets);
         self.closed = true;
         Closed {
             number: 0,
-            reports: r.reports,
+            reports,
             stream: self,
         }
     }

@@ -1,19 +1,23 @@
 // One run of reports: one end offset, and the rules that end there by rising place, each a digit of a word.
+use super::Stream;
 use super::checks::least;
+use steps::closing;
 use steps::ending;
 use steps::meets;
 use steps::rule_id;
+use steps::singles;
 use table::layout::RULES_AT;
 ghost use mathlib.Core.Path.{_≡_};
 ghost use mathlib.Core.Bool.{true, not, _&&_};
-ghost use Prim.Native.Nat.{_≤_};
+ghost use Prim.Native.Nat.{_*_, _-_, _≤_};
 ghost use lib.ListN.{length};
 ghost use Rattle.sets.specs.Set.{on, count};
+ghost use Rattle.table.specs.Layout.{rulesOf};
 ghost use Rattle.table.specs.Table.{isTable};
 ghost use Rattle.table.specs.Automaton.{automaton, single};
 ghost use Rattle.steps.specs.Step.{lastsOf, rulesWhere};
 ghost use Rattle.stream.specs.Byte.{runIds};
-ghost use Rattle.stream.specs.Invariants.{Wrote, Delivered};
+ghost use Rattle.stream.specs.Invariants.{Wrote, Delivered, Ended};
 
 // What a run leaves: how many reports it wrote, and the marks afterwards.
 pub(super) struct Run {
@@ -102,4 +106,42 @@ pub(super) fn deliver(
         reports: run.reports,
         reported: run.reported,
     }
+}
+
+// The offset before the last byte, where there is one.
+fn before_last(taken: u64) -> u64
+    ensures { λ r. ⌜ r ≡ taken - 1 ⌝ }
+{
+    if taken == 0 { 0 } else { taken - 1 }
+}
+
+// Writes both runs of a closing at the front of both lists: the held pairs, then those that need the stream's end. Gives how many reports there are.
+pub(super) fn write_closing(s: Stream, words: &[u64], ids: &mut [u32], offsets: &mut [u64]) -> usize
+    requires { ⌜ (isTable (now words) ≡ true) × (2 * rulesOf (now words) ≤ length (now ids)) × (2 * rulesOf (now words) ≤ length (now offsets)) ⌝ }
+    ensures { λ r. ⌜ Ended (automaton (now (words .entry))) s (now (ids .entry)) (now (offsets .entry)) r (now (ids .exit)) (now (offsets .exit)) ⌝ }
+{
+    let single = singles(words);
+    let line = write_run(
+        s.pending,
+        s.reported,
+        single,
+        words,
+        before_last(s.taken),
+        ids,
+        offsets,
+    );
+    let count = line.reports;
+    let live = s.live;
+    let held = s.held;
+    let found = closing(live, held, words);
+    let end = write_run(
+        found,
+        line.reported,
+        single,
+        words,
+        s.taken,
+        &mut ids[count..],
+        &mut offsets[count..],
+    );
+    count + end.reports
 }

@@ -1,6 +1,8 @@
-// The bytes of a block, one after the other: the bytes that change nothing, and the loop.
+// The bytes of a block, one after the other: the bytes that change nothing, the loop, and what waits for the stream's end.
+use super::Stream;
 use super::reports::deliver;
 use steps::lasts;
+use steps::line_ending;
 use steps::meets;
 use steps::singles;
 use steps::step;
@@ -9,12 +11,18 @@ use table::layout::FIRST_AT;
 use table::layout::POSITIONS_AT;
 use table::layout::TABLE_WORDS;
 ghost use mathlib.Core.Path.{_≡_};
-ghost use mathlib.Core.Bool.{true};
+ghost use mathlib.Core.Bool.{true, cond};
 ghost use Prim.Native.Nat.{_+_, _^_, _<_, _≤_};
+ghost use lib.Dec.{ltb};
 ghost use lib.ListN.{length};
+ghost use Rattle.table.specs.Layout.{tableWords};
 ghost use Rattle.table.specs.Table.{isTable};
 ghost use Rattle.table.specs.Automaton.{automaton};
-ghost use Rattle.stream.specs.Invariants.{stateOf, Skipped, Ran};
+ghost use Rattle.stream.specs.Byte.{nextHeld, nextPending};
+ghost use Rattle.stream.specs.Invariants.{stateOf, Skipped, Ran, Left};
+
+// The byte that ends a line.
+const NEWLINE: u8 = 10;
 
 // The place of the next byte that has to be looked at. Where nothing is live inside the stream, bytes that start nothing are passed over. That there are enough
 // words is tested once, before the loop, so that the compiler leaves out the test of each byte's set.
@@ -43,9 +51,17 @@ fn ahead(
     at
 }
 
-// What the loop leaves: the live set and the marks, how many bytes it took, how many reports it wrote.
+// The live set before the last byte taken, once the bytes from `from` up to `to` are passed over: they leave the live set as it is.
+fn passed(from: usize, to: usize, live: [u64; 4], before: [u64; 4]) -> [u64; 4]
+    ensures { λ r. ⌜ r ≡ cond (ltb from to) live before ⌝ }
+{
+    if from < to { live } else { before }
+}
+
+// What the loop leaves: the live set, the one before the last byte and the marks, how many bytes it took, how many reports it wrote.
 pub(super) struct Taken {
     pub live: [u64; 4],
+    pub before: [u64; 4],
     pub reported: u64,
     pub taken: usize,
     pub reports: usize,
@@ -62,27 +78,31 @@ pub(super) fn run(
     offsets: &mut [u64],
 ) -> Taken
     requires { ⌜ (isTable (now words) ≡ true) × (taken + length (now block) < 2 ^ 64) ⌝ }
-    ensures { λ r. ⌜ Ran (automaton (now (words .entry))) (stateOf live reported taken) (now (block .entry)) (now (ids .entry)) (now (offsets .entry)) (r .live) (r .reported) (r .taken) (r .reports) (now (ids .exit)) (now (offsets .exit)) ⌝ }
+    ensures { λ r. ⌜ Ran (automaton (now (words .entry))) (stateOf live reported taken) (now (block .entry)) (now (ids .entry)) (now (offsets .entry)) (r .live) (r .before) (r .reported) (r .taken) (r .reports) (now (ids .exit)) (now (offsets .exit)) ⌝ }
 {
     let positions = words[POSITIONS_AT] as usize;
     let last = lasts(words);
     let single = singles(words);
+    let mut before = live;
     let mut count: usize = 0;
     let mut at: usize = 0;
     loop {
-        at = ahead(live, taken, words, positions, block, at);
+        let to = ahead(live, taken, words, positions, block, at);
+        let last_live = passed(at, to, live, before);
+        before = last_live;
+        at = to;
         if at == block.len() {
             break;
         }
-        let before = taken + at as u64;
-        let next = step(live, before, words, positions, block[at]);
+        let gap = taken + at as u64;
+        let next = step(false, live, gap, words, positions, block[at]);
         let r = deliver(
             next,
             last,
             reported,
             single,
             words,
-            before + 1,
+            gap + 1,
             &mut ids[count..],
             &mut offsets[count..],
         );
@@ -91,13 +111,64 @@ pub(super) fn run(
         }
         count += r.reports;
         reported = r.reported;
+        before = live;
         live = next;
         at += 1;
     }
     Taken {
         live,
+        before,
         reported,
         taken: at,
         reports: count,
     }
+}
+
+// What waits for the stream's end after a byte: the held positions, and the rules with a pair at the offset before it.
+pub(super) struct Waiting {
+    pub held: [u64; 4],
+    pub pending: u64,
+}
+
+// What waits after a byte that was taken with this set live, `taken` bytes into the stream: nothing, unless the byte may end the last line.
+fn left_waiting(live: [u64; 4], taken: u64, words: &[u64], byte: u8) -> Waiting
+    requires { ⌜ tableWords ≤ length (now words) ⌝ }
+    ensures held { λ r. ⌜ r .held ≡ nextHeld (automaton (now (words .entry))) (stateOf live 0 taken) byte ⌝ }
+    ensures pending { λ r. ⌜ r .pending ≡ nextPending (automaton (now (words .entry))) (stateOf live 0 taken) byte ⌝ }
+{
+    if byte != NEWLINE {
+        let held = sets::empty();
+        return Waiting { held, pending: 0 };
+    }
+    let positions = words[POSITIONS_AT] as usize;
+    let held = step(true, live, taken, words, positions, byte);
+    if taken == 0 {
+        return Waiting { held, pending: 0 };
+    }
+    Waiting {
+        held,
+        pending: line_ending(live, words),
+    }
+}
+
+// What waits once `n` bytes of a block are taken, `before` the live set before the last of them: what the state had, if there are none.
+pub(super) fn waiting_after(
+    s: Stream,
+    n: usize,
+    before: [u64; 4],
+    words: &[u64],
+    block: &[u8],
+) -> Waiting
+    requires { ⌜ (tableWords ≤ length (now words)) × (n ≤ length (now block)) × (s .taken + length (now block) < 2 ^ 64) ⌝ }
+    ensures { λ r. ⌜ Left (automaton (now (words .entry))) s (now (block .entry)) before n (r .held) (r .pending) ⌝ }
+{
+    if n == 0 {
+        let held = s.held;
+        return Waiting {
+            held,
+            pending: s.pending,
+        };
+    }
+    let last = n - 1;
+    left_waiting(before, s.taken + last as u64, words, block[last])
 }

@@ -10,7 +10,7 @@ use lib.Dec.{ltb}
 use lib.ListN.{length, getD, set, drop, length-append, length-drop, length-set, length-replicate, getD-replicate, List·getD-append}
 use lib.Seq.{getD-append-add, getD-drop, getD-set-same, getD-set-other}
 use borrow.Author.Tests.{lt-ltb, le-ltb}
-use Rattle.table.specs.Layout.{tableWords, maxRules, maxPositions, bytes, format, rulesOf, firstAt, firstAtStartAt, lastAt, lastAtEndAt, followAt, takersAt, recordAt, recordWord, rowHas}
+use Rattle.table.specs.Layout.{tableWords, maxRules, maxPositions, bytes, format, rulesOf, firstAt, firstAtStartAt, lineFirstAt, lineFirstAtStartAt, stride, lastAt, lastAtEndAt, lineLastAt, followAt, takersAt, lineFollowAt, recordAt, recordWord, rowHas}
 use Rattle.table.specs.Table.{isTable, emptyTable, emptyNumber, emptied}
 use Rattle.table.specs.Automaton.{Automaton, automaton}
 use Rattle.table.proofs.Over.{over, over-is}
@@ -30,6 +30,10 @@ noRules = record {
   takes = λ x q. false;
   last = λ a p. false;
   lastAtEnd = λ a p. false;
+  lineFirst = λ q. false;
+  lineFirstAtStart = λ q. false;
+  lineFollow = λ p q. false;
+  lineLast = λ a p. false;
 }
 
 -- ---- the empty table, word by word
@@ -127,9 +131,13 @@ module _ (t : List ℕ) (h : tableWords ≤ length t) where
     takes = λ x q. test bytes takersAt (λ x h. (omega arith, omega arith)) x q i;
     last = λ a p. test maxRules lastAt (λ a h. (omega arith, omega arith)) a p i;
     lastAtEnd = λ a p. test maxRules lastAtEndAt (λ a h. (omega arith, omega arith)) a p i;
+    lineFirst = λ q. no-member lineFirstAt (omega arith) (omega arith) q i;
+    lineFirstAtStart = λ q. no-member lineFirstAtStartAt (omega arith) (omega arith) q i;
+    lineFollow = λ p q. test maxPositions lineFollowAt (λ p h. (omega arith, omega arith)) p q i;
+    lineLast = λ a p. test maxRules lineLastAt (λ a h. (omega arith, omega arith)) a p i;
   }
     where
-      number : (a f : ℕ) → f < 16 → cond (ltb a maxRules) (recordWord (emptied t) a f) 0 ≡ 0
+      number : (a f : ℕ) → f < stride → cond (ltb a maxRules) (recordWord (emptied t) a f) 0 ≡ 0
       number a f l = under maxRules a (λ b. cond b (recordWord (emptied t) a f) 0) (λ b. 0) (λ m. emptied-zero (recordAt a + f) (omega arith) (omega arith)) refl
 
       no-member : (at : ℕ) → 0 < at → at + 4 ≤ tableWords → (q : ℕ) → rowHas (emptied t) at q ≡ false

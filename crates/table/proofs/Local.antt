@@ -1,6 +1,6 @@
 -- Words beyond the first 4,096 count for nothing: lists that agree up to there describe the same automaton, and pass the test alike. Each part of the automaton
 -- and each fact of the test reads words below 4,096, which are the same in both lists; lists too short for a table are equal.
-use mathlib.Core.Path.{_≡_, refl, sym, ap, _∙_, subst}
+use mathlib.Core.Path.{_≡_, refl, sym, ap, _∙_, subst, subst₂}
 use mathlib.Core.Bool.{Bool, true, false, true≢false, cond, _&&_}
 use mathlib.Core.List.{List}
 use Prim.Native.Nat.{ℕ, _+_, _≤_, _<_, min}
@@ -10,7 +10,7 @@ use lib.Bits.{bitAnd}
 use lib.Dec.{ltb}
 use lib.ListN.{length, getD, take, length-take}
 use lib.Seq.{getD-take, take-all}
-use Rattle.table.specs.Layout.{tableWords, maxRules, maxPositions, bytes, rulesOf, positionsOf, firstAt, firstAtStartAt, lastAt, lastAtEndAt, followAt, takersAt, recordAt, recordWord, rowHas}
+use Rattle.table.specs.Layout.{tableWords, maxRules, maxPositions, bytes, rulesOf, positionsOf, firstAt, firstAtStartAt, lineFirstAt, lineFirstAtStartAt, stride, recordAt, lastAt, lastAtEndAt, lineLastAt, fromOf, toOf, followAt, takersAt, lineFollowAt, recordWord, rowHas}
 use Rattle.table.specs.Table.{knownFlags, isTable}
 use Rattle.table.specs.Automaton.{automaton}
 use Rattle.table.proofs.Test.{Passes, passes, accepted, refused}
@@ -36,9 +36,13 @@ module _ (t u : List ℕ) (same : take tableWords t ≡ take tableWords u) where
     takes = λ x q. test bytes takersAt (λ x h. omega arith) x q i;
     last = λ a p. test maxRules lastAt (λ a h. omega arith) a p i;
     lastAtEnd = λ a p. test maxRules lastAtEndAt (λ a h. omega arith) a p i;
+    lineFirst = λ q. same-row lineFirstAt (omega arith) q i;
+    lineFirstAtStart = λ q. same-row lineFirstAtStartAt (omega arith) q i;
+    lineFollow = λ p q. test maxPositions lineFollowAt (λ p h. omega arith) p q i;
+    lineLast = λ a p. test maxRules lineLastAt (λ a h. omega arith) a p i;
   }
     where
-      number : (a f : ℕ) → f < 16 → cond (ltb a maxRules) (recordWord t a f) 0 ≡ cond (ltb a maxRules) (recordWord u a f) 0
+      number : (a f : ℕ) → f < stride → cond (ltb a maxRules) (recordWord t a f) 0 ≡ cond (ltb a maxRules) (recordWord u a f) 0
       number a f l = under maxRules a (λ b. cond b (recordWord t a f) 0) (λ b. cond b (recordWord u a f) 0) (λ h. same-word (recordAt a + f) (omega arith)) refl
 
       test : (n : ℕ) (place : ℕ → ℕ) → ((k : ℕ) → k < n → place k + 4 ≤ tableWords) → (k q : ℕ) → (ltb k n && rowHas t (place k) q) ≡ (ltb k n && rowHas u (place k) q)
@@ -55,8 +59,8 @@ module _ (t u : List ℕ) (same : take tableWords t ≡ take tableWords u) where
         rising = λ a b l m. omega (arith, field a 0 (omega arith) (omega arith), field b 0 m (omega arith), p .rising a b l (omega (arith, rules)));
         small = λ a l. omega (arith, field a 0 l (omega arith), p .small a (omega (arith, rules)));
         known = λ a l. subst (λ (f : ℕ). bitAnd f knownFlags ≡ f) (field a 1 l (omega arith)) (p .known a (omega (arith, rules)));
-        ordered = λ a l. omega (arith, field a 2 l (omega arith), field a 3 l (omega arith), p .ordered a (omega (arith, rules)));
-        inside = λ a l. omega (arith, positions, field a 3 l (omega arith), p .inside a (omega (arith, rules)));
+        ordered = λ a l. subst (λ (w : ℕ). fromOf w ≤ toOf w) (field a 2 l (omega arith)) (p .ordered a (omega (arith, rules)));
+        inside = λ a l. subst₂ (λ (w n : ℕ). toOf w ≤ n) (field a 2 l (omega arith)) positions (p .inside a (omega (arith, rules)));
       }
     where
       rules : rulesOf t ≡ rulesOf u
@@ -65,7 +69,7 @@ module _ (t u : List ℕ) (same : take tableWords t ≡ take tableWords u) where
       positions : positionsOf t ≡ positionsOf u
       positions = same-word 2 (omega arith)
 
-      field : (a f : ℕ) → a < rulesOf u → f < 16 → recordWord t a f ≡ recordWord u a f
+      field : (a f : ℕ) → a < rulesOf u → f < stride → recordWord t a f ≡ recordWord u a f
       field a f h l = same-word (recordAt a + f) (omega (arith, rules, p .rules))
 
   -- such lists are long enough for a table together, or equal

@@ -10,7 +10,7 @@ use lib.Bits.{bitOr}
 use lib.ListN.{length, getD}
 use Rattle.sets.specs.Set.{has}
 use Rattle.sets.proofs.Laws.{below-four}
-use Rattle.table.specs.Layout.{maxPositions, recordAt, lastAt, lastAtEndAt, recordWord, rowHas}
+use Rattle.table.specs.Layout.{maxPositions, stride, recordAt, lastAt, lastAtEndAt, recordWord, rowHas}
 pub use Rattle.table.specs.Invariants.{copied, movedUp}
 use Rattle.table.proofs.Over.{over, over-in, over-ext, Written, written-block, written-above}
 use Rattle.table.proofs.Rows.{row-same, row-or}
@@ -36,8 +36,8 @@ module _ (at n : ℕ) (s t : List ℕ) (fits : at + n ≤ length t) where
       ap (λ (w : ℕ). getD (copied at n s t) w 0) e ∙ copied-word (j + i) (omega arith))
 
 -- a record copied to its place
-pub copied-record : (a : ℕ) (r t : List ℕ) → recordAt a + 16 ≤ length t → (i : ℕ) → i < 16 → recordWord (copied (recordAt a) 16 r t) a i ≡ getD r i 0
-copied-record a r t h i l = copied-word (recordAt a) 16 r t h i l
+pub copied-record : (a : ℕ) (r t : List ℕ) → recordAt a + stride ≤ length t → (i : ℕ) → i < stride → recordWord (copied (recordAt a) stride r t) a i ≡ getD r i 0
+copied-record a r t h i l = copied-word (recordAt a) stride r t h i l
 
 -- ---- a set that gains members
 
@@ -101,29 +101,29 @@ joined-rows base n family t h k l =
 
 -- ---- records moved up by one
 
-module _ (base m : ℕ) (t : List ℕ) (fits : base + 16 + m ≤ length t) where
-  pub moved-word : (w : ℕ) → base ≤ w → w < base + m → getD (movedUp base m t) (w + 16) 0 ≡ getD t w 0
+module _ (base m : ℕ) (t : List ℕ) (fits : base + stride + m ≤ length t) where
+  pub moved-word : (w : ℕ) → base ≤ w → w < base + m → getD (movedUp base m t) (w + stride) 0 ≡ getD t w 0
   moved-word w a b =
-      let e : w + 16 - 16 ≡ w = omega arith in
-      over-in (base + 16) (base + 16 + m) (λ w. getD t (w - 16) 0) t (w + 16) (omega arith) (omega arith) (omega arith) ∙ ap (λ (i : ℕ). getD t i 0) e
+      let e : w + stride - stride ≡ w = omega arith in
+      over-in (base + stride) (base + stride + m) (λ w. getD t (w - stride) 0) t (w + stride) (omega arith) (omega arith) (omega arith) ∙ ap (λ (i : ℕ). getD t i 0) e
 
-  pub moved-record : (a i : ℕ) → i < 16 → base ≤ recordAt a → recordAt a + 16 ≤ base + m → recordWord (movedUp base m t) (suc a) i ≡ recordWord t a i
+  pub moved-record : (a i : ℕ) → i < stride → base ≤ recordAt a → recordAt a + stride ≤ base + m → recordWord (movedUp base m t) (suc a) i ≡ recordWord t a i
   moved-record a i l b h =
-      let e : recordAt (suc a) + i ≡ recordAt a + i + 16 = omega arith in
+      let e : recordAt (suc a) + i ≡ recordAt a + i + stride = omega arith in
       ap (λ (w : ℕ). getD (movedUp base m t) w 0) e ∙ moved-word (recordAt a + i) (omega arith) (omega arith)
 
   -- and so its two sets of last positions
-  pub moved-last : (a : ℕ) → base ≤ recordAt a → recordAt a + 16 ≤ base + m → (q : ℕ) → rowHas (movedUp base m t) (lastAt (suc a)) q ≡ rowHas t (lastAt a) q
+  pub moved-last : (a : ℕ) → base ≤ recordAt a → recordAt a + stride ≤ base + m → (q : ℕ) → rowHas (movedUp base m t) (lastAt (suc a)) q ≡ rowHas t (lastAt a) q
   moved-last a b h =
       row-same (movedUp base m t) t (lastAt (suc a)) (lastAt a)
       (λ i l.
-      let e : lastAt (suc a) + i ≡ lastAt a + i + 16 = omega arith in
+      let e : lastAt (suc a) + i ≡ lastAt a + i + stride = omega arith in
       ap (λ (w : ℕ). getD (movedUp base m t) w 0) e ∙ moved-word (lastAt a + i) (omega arith) (omega arith))
 
-  pub moved-lastAtEnd : (a : ℕ) → base ≤ recordAt a → recordAt a + 16 ≤ base + m → (q : ℕ)
+  pub moved-lastAtEnd : (a : ℕ) → base ≤ recordAt a → recordAt a + stride ≤ base + m → (q : ℕ)
       → rowHas (movedUp base m t) (lastAtEndAt (suc a)) q ≡ rowHas t (lastAtEndAt a) q
   moved-lastAtEnd a b h =
       row-same (movedUp base m t) t (lastAtEndAt (suc a)) (lastAtEndAt a)
       (λ i l.
-      let e : lastAtEndAt (suc a) + i ≡ lastAtEndAt a + i + 16 = omega arith in
+      let e : lastAtEndAt (suc a) + i ≡ lastAtEndAt a + i + stride = omega arith in
       ap (λ (w : ℕ). getD (movedUp base m t) w 0) e ∙ moved-word (lastAtEndAt a + i) (omega arith) (omega arith))

@@ -7,10 +7,10 @@ pub const MAX_RULES: u64 = 64;
 
 pub const MAX_POSITIONS: u64 = 256;
 
-// The format word, at FORMAT_AT: the bytes `watcher1` as a number.
-pub const FORMAT: u64 = 0x7761_7463_6865_7231;
+// The format word, at FORMAT_AT: the bytes `watcher2` as a number.
+pub const FORMAT: u64 = 0x7761_7463_6865_7232;
 
-// The header: the format, the two counts, the set of first positions inside the stream and the set at its start.
+// The header: the format, the two counts, the sets of first positions inside the stream and at its start, and both where the last line ends.
 pub const FORMAT_AT: usize = 0;
 
 pub const RULES_AT: usize = 1;
@@ -21,29 +21,39 @@ pub const FIRST_AT: usize = 4;
 
 pub const FIRST_AT_START_AT: usize = 8;
 
+pub const LINE_FIRST_AT: usize = 12;
+
+pub const LINE_FIRST_AT_START_AT: usize = 16;
+
 // Rule records, by rising id: where they begin, how many words each has, and the words of one.
 pub const RECORDS_AT: usize = 64;
 
-pub const RECORD_WORDS: usize = 16;
+pub const RECORD_WORDS: usize = 15;
 
 pub const ID: usize = 0;
 
 pub const FLAGS: usize = 1;
 
-pub const FROM: usize = 2;
+// The first position in the low 16 bits, the position after the last above them.
+pub const SPAN: usize = 2;
 
-pub const TO: usize = 3;
+pub const SPAN_TO: u64 = 65536;
 
-pub const LAST: usize = 4;
+pub const LAST: usize = 3;
 
-pub const LAST_AT_END: usize = 8;
+pub const LAST_AT_END: usize = 7;
 
-// Sets of positions, of four words each: for each position those that can follow it, for each byte those that take it.
+pub const LINE_LAST: usize = 11;
+
+// Sets of positions, of four words each: for each position those that can follow it, for each byte those that take it, and for each position those that can follow it
+// where the last line ends between.
 pub const SET_WORDS: usize = 4;
 
-pub const FOLLOW_AT: usize = 1088;
+pub const FOLLOW_AT: usize = 1024;
 
-pub const TAKERS_AT: usize = 2112;
+pub const TAKERS_AT: usize = 2048;
+
+pub const LINE_FOLLOW_AT: usize = 3072;
 
 // An id has 32 bits. The flags are 1, 2 and 8: caseless, dot matches all, single match.
 pub const ID_LIMIT: u64 = 0x1_0000_0000;

@@ -7,7 +7,6 @@ use layout::ACCEPTED;
 use layout::FLAGS;
 use layout::FORMAT;
 use layout::FORMAT_AT;
-use layout::FROM;
 use layout::ID;
 use layout::ID_LIMIT;
 use layout::KNOWN_FLAGS;
@@ -19,8 +18,9 @@ use layout::RECORD_WORDS;
 use layout::RECORDS_AT;
 use layout::RULES_AT;
 use layout::SET_WORDS;
+use layout::SPAN;
+use layout::SPAN_TO;
 use layout::TABLE_WORDS;
-use layout::TO;
 ghost use mathlib.Core.Path.{_≡_};
 ghost use Prim.Native.Nat.{_+_, _<_, _≤_};
 ghost use lib.ListN.{length, getD};
@@ -67,10 +67,11 @@ fn record_ok(words: &[u64], a: usize, least: u64, positions: u64) -> bool
     let at = RECORDS_AT + a * RECORD_WORDS;
     let id = words[at + ID];
     let flags = words[at + FLAGS];
-    let from = words[at + FROM];
-    let to = words[at + TO];
+    let span = words[at + SPAN];
+    let to = span / SPAN_TO;
     (least <= id)
-        & ((id < ID_LIMIT) & ((flags & KNOWN_FLAGS == flags) & ((from <= to) & (to <= positions))))
+        & ((id < ID_LIMIT)
+            & ((flags & KNOWN_FLAGS == flags) & ((span % SPAN_TO <= to) & (to <= positions))))
 }
 
 // Whether each of the records is in order, by rising id.

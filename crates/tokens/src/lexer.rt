@@ -64,7 +64,7 @@ fn unquoted(s: &[u8], at: usize, options: Options) -> Lexeme
         b'|' => plain(1, Token::Bar),
         b'.' => plain(1, Token::One(Atom::Dot)),
         b'^' => plain(1, Token::One(Atom::Start)),
-        b'$' => plain(1, Token::One(Atom::End)),
+        b'$' => plain(1, Token::One(Atom::LastLine)),
         _ => quantifier_or_byte(s, at),
     }
 }
@@ -144,6 +144,7 @@ pub fn item_set(options: Options, atom: Atom) -> [u64; 4]
         }
         Atom::NotNewline => all_but_newline(),
         Atom::Start => sets::empty(),
+        Atom::LastLine => sets::empty(),
         Atom::End => sets::empty(),
     }
 }

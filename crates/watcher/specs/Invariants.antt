@@ -3,7 +3,7 @@
 use mathlib.Core.Path.{_≡_}
 use mathlib.Core.Bool.{Bool, true, false}
 use mathlib.Core.List.{List}
-use Prim.Native.Nat.{ℕ, _≤_}
+use Prim.Native.Nat.{ℕ, _*_, _≤_}
 use lib.ListN.{length}
 use Rattle.table.specs.Layout.{tableWords, maxRules}
 use Rattle.table.specs.Table.{isTable, emptied}
@@ -27,9 +27,9 @@ pub record Running (t : List ℕ) (s : Stream) : Type 0 where
   pub fits : valid (automaton t) s ≡ true
   pub going : s .closed ≡ false
 
--- report lists with room for a report of each rule
+-- report lists with room for two reports of each rule
 abbrev pub Roomy : List ℕ → List ℕ → Type 0
-Roomy ids offsets = (maxRules ≤ length ids) × (maxRules ≤ length offsets)
+Roomy ids offsets = (2 * maxRules ≤ length ids) × (2 * maxRules ≤ length offsets)
 
 -- the state after a whole block, unless a write failed
 abbrev pub AllTaken : List ℕ → Stream → List ℕ → (good : Bool) → Stream → Type 0

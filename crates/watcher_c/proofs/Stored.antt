@@ -17,15 +17,15 @@ use Rattle.stream.specs.declared.Stream.{Stream}
 use Rattle.stream.specs.declared.Opened.{Opened}
 use Rattle.stream.specs.declared.Scanned.{Scanned}
 use Rattle.stream.specs.declared.Closed.{Closed}
-use Rattle.stream.specs.Byte.{byteState, stateAfter, idsOf, closeIds}
+use Rattle.stream.specs.Byte.{nextHeld, byteState, stateAfter, idsOf, closeIds}
 use Rattle.stream.specs.Calls.{fresh, space, opened, takenBy, scanNumber, scanned, closeNumber, closed, shut}
 use Rattle.watcher_c.specs.State.{stateWords, short, stateOf, wordsOf, stored}
 use Rattle.watcher_c.specs.Interface.{shortState, openState, scanAnswer, scanState, closeAnswer, closeState}
 use Rattle.watcher_c.proofs.Words.{length-words}
 
--- every state that a call can have: the live set is four words
+-- every state that a call can have: the live set and the held one are four words
 abbrev pub FourWords : Stream → Type 0
-FourWords s = length (s .live) ≡ 4
+FourWords s = (length (s .live) ≡ 4) × (length (s .held) ≡ 4)
 
 -- a list of four words, read word by word
 four : (l : List ℕ) → length l ≡ 4 → getD l 0 0 ∷ getD l 1 0 ∷ getD l 2 0 ∷ getD l 3 0 ∷ [] ≡ l
@@ -42,30 +42,36 @@ module _ (s : Stream) (t : List ℕ) where
   pub read-back : FourWords s → stateOf (stored s t) ≡ s
   unfolding stateOf wordsOf
   read-back e = λ i. record {
-    live = four (s .live) e i;
+    live = four (s .live) (e .0) i;
+    held = four (s .held) (e .1) i;
     reported = s .reported;
+    pending = s .pending;
     taken = s .taken;
     rules = s .rules;
     positions = s .positions;
     closed = mark (s .closed) i;
   }
 
-  -- the words past the ninth stay
+  -- the words past the fourteenth stay
   pub stored-past : drop stateWords (stored s t) ≡ drop stateWords t
   stored-past = drop-at (wordsOf s) (drop stateWords t) stateWords (length-words s)
 
 -- ---- what the next call reads is what the last one handed back
 
--- the live set after some bytes is four words again
+-- both sets after some bytes are four words again
 after-four : (w : Automaton) (s : Stream) (block : List ℕ) (k : ℕ) → FourWords s → FourWords (stateAfter w s block k)
-unfolding stateAfter byteState stepped
+unfolding stateAfter byteState nextHeld stepped emptySet
 after-four w s block zero e = e
-after-four w s block (suc k) e = words-setOf _ .four
+after-four w s block (suc k) e = (words-setOf _ .four, go (eqb (getD block k 0) 10))
+  where
+    go : (b : Bool) → length (cond b (stepped w true (w .positions) (stateAfter w s block k .live) (stateAfter w s block k .taken) (getD block k 0)) emptySet) ≡ 4
+    go true = words-setOf _ .four
+    go false = words-setOf _ .four
 
 -- the state that words hold has four
 words-four : (state : List ℕ) → FourWords (stateOf state)
 unfolding stateOf
-words-four state = refl
+words-four state = (refl, refl)
 
 pub open-back : (t state : List ℕ) → short state ≡ false → stateOf (openState t state) ≡ opened t .stream
 unfolding openState opened emptySet
@@ -74,8 +80,8 @@ open-back t state e =
     ∙ read-back (opened t .stream) state (go (isTable t))
   where
     go : (b : Bool) → FourWords (cond {A = Opened} b (record { number = 0; stream = fresh (rulesOf t) (positionsOf t) false }) (record { number = 1; stream = fresh 0 0 true }) .stream)
-    go true = words-setOf (λ q. false) .four
-    go false = words-setOf (λ q. false) .four
+    go true = (words-setOf (λ q. false) .four, words-setOf (λ q. false) .four)
+    go false = (words-setOf (λ q. false) .four, words-setOf (λ q. false) .four)
 
 -- ---- any scan and any closing: accepted, the new state was stored; refused, the old one stays and is what was handed back
 

@@ -11,7 +11,7 @@ use Rattle.table.proofs.Over.{over, over-is}
 use Rattle.stream.specs.declared.Stream.{Stream}
 use Rattle.watcher_c.specs.State.{stateWords, wordsOf, stored}
 
--- a state has nine words
+-- a state has fourteen words
 pub length-words : (s : Stream) → length (wordsOf s) ≡ stateWords
 unfolding wordsOf
 length-words s = refl
@@ -22,11 +22,11 @@ bool-byte false = refl
 
 -- the array that is stored
 pub laid : (s : Stream)
-    → (getD (s .live) 0 0 ∷ getD (s .live) 1 0 ∷ getD (s .live) 2 0 ∷ getD (s .live) 3 0 ∷ s .reported ∷ s .taken ∷ s .rules ∷ s .positions ∷ boolByte (s .closed) ∷ [])
+    → (getD (s .live) 0 0 ∷ getD (s .live) 1 0 ∷ getD (s .live) 2 0 ∷ getD (s .live) 3 0 ∷ getD (s .held) 0 0 ∷ getD (s .held) 1 0 ∷ getD (s .held) 2 0 ∷ getD (s .held) 3 0 ∷ s .reported ∷ s .pending ∷ s .taken ∷ s .rules ∷ s .positions ∷ boolByte (s .closed) ∷ [])
     ≡ wordsOf s
 unfolding wordsOf
 laid s =
-    ap (λ (x : ℕ). getD (s .live) 0 0 ∷ getD (s .live) 1 0 ∷ getD (s .live) 2 0 ∷ getD (s .live) 3 0 ∷ s .reported ∷ s .taken ∷ s .rules ∷ s .positions ∷ x ∷ [])
+    ap (λ (x : ℕ). getD (s .live) 0 0 ∷ getD (s .live) 1 0 ∷ getD (s .live) 2 0 ∷ getD (s .live) 3 0 ∷ getD (s .held) 0 0 ∷ getD (s .held) 1 0 ∷ getD (s .held) 2 0 ∷ getD (s .held) 3 0 ∷ s .reported ∷ s .pending ∷ s .taken ∷ s .rules ∷ s .positions ∷ x ∷ [])
     (bool-byte (s .closed))
 
 module _ (s : Stream) (t : List ℕ) (h : stateWords ≤ length t) where

@@ -1,4 +1,4 @@
-// The state as nine words: reading one, and writing one.
+// The state as fourteen words: reading one, and writing one.
 use stream::Stream;
 ghost use mathlib.Core.Path.{_≡_};
 ghost use Prim.Native.Nat.{_≤_};
@@ -6,36 +6,45 @@ ghost use lib.ListN.{length};
 ghost use Rattle.watcher_c.specs.State.{stateWords, stateOf, stored};
 
 // How many words a state has.
-pub(super) const STATE_WORDS: usize = 9;
+pub(super) const STATE_WORDS: usize = 14;
 
-// The state in the first nine words.
+// The state in the first fourteen words.
 pub(super) fn load(words: &[u64]) -> Stream
     requires { ⌜ stateWords ≤ length (now words) ⌝ }
     ensures { λ r. ⌜ r ≡ stateOf (now (words .entry)) ⌝ }
 {
     let live = [words[0], words[1], words[2], words[3]];
+    let held = [words[4], words[5], words[6], words[7]];
     Stream {
         live,
-        reported: words[4],
-        taken: words[5],
-        rules: words[6],
-        positions: words[7],
-        closed: words[8] != 0,
+        held,
+        reported: words[8],
+        pending: words[9],
+        taken: words[10],
+        rules: words[11],
+        positions: words[12],
+        closed: words[13] != 0,
     }
 }
 
-// Writes a state over the first nine words.
+// Writes a state over the first fourteen words.
 pub(super) fn store(words: &mut [u64], s: Stream)
     requires { ⌜ stateWords ≤ length (now words) ⌝ }
     ensures { λ r. ⌜ now (words .exit) ≡ stored s (now (words .entry)) ⌝ }
 {
     let live = s.live;
+    let held = s.held;
     let from = [
         live[0],
         live[1],
         live[2],
         live[3],
+        held[0],
+        held[1],
+        held[2],
+        held[3],
         s.reported,
+        s.pending,
         s.taken,
         s.rules,
         s.positions,

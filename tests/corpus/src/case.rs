@@ -27,9 +27,11 @@
 //! lend N                          lends N words from here on: the table's first ones, or more
 //! lend none                       lends 4,096 words that are no table, until the next 'lend'
 //! keep, back                      sets table and state aside, and takes them up again
-//! state total N, state live N, state mark N
+//! state total N, state live N, state mark N, state held N, state pair N
 //!                                 the present state, changed by hand: another byte total, one
-//!                                 more live position, one more rule marked "already reported"
+//!                                 more live position, one more rule marked "already reported",
+//!                                 one more held position, one more rule with a pair held for the
+//!                                 offset before the last byte
 //! ```
 //!
 //! Every case starts with 4,096 words lent and emptied. Numbers are decimal. A line that starts
@@ -88,6 +90,8 @@ pub enum Line {
     StateTotal(u64),
     StateLive(usize),
     StateMark(usize),
+    StateHeld(usize),
+    StatePair(usize),
 }
 
 #[derive(Clone, Debug)]
@@ -171,6 +175,8 @@ pub fn line(text: &str) -> Result<Line, String> {
         ["state", "total", n] => Line::StateTotal(hex::number(n)?),
         ["state", "live", n] => Line::StateLive(hex::number(n)?),
         ["state", "mark", n] => Line::StateMark(hex::number(n)?),
+        ["state", "held", n] => Line::StateHeld(hex::number(n)?),
+        ["state", "pair", n] => Line::StatePair(hex::number(n)?),
         _ => return Err(format!("'{text}' is no line of a case")),
     })
 }
@@ -219,6 +225,8 @@ impl fmt::Display for Line {
             Line::StateTotal(n) => write!(f, "state total {n}"),
             Line::StateLive(n) => write!(f, "state live {n}"),
             Line::StateMark(n) => write!(f, "state mark {n}"),
+            Line::StateHeld(n) => write!(f, "state held {n}"),
+            Line::StatePair(n) => write!(f, "state pair {n}"),
         }
     }
 }

@@ -1,7 +1,8 @@
 //! Words of any content: tables and states that are damaged here and there, or made up from nothing,
 //! and calls on them, compared with the interpreter of table words: the answer, and every lent word
 //! afterwards. States start anywhere in a stream, also past 65,535 and 4,294,967,296 bytes and at its
-//! limit. Case i of a run depends on the seed and on i alone.
+//! limit, with live and held positions, marks and held pairs. Case i of a run depends on the seed and
+//! on i alone.
 
 use std::collections::BTreeMap;
 
@@ -118,17 +119,17 @@ fn same<T: PartialEq + std::fmt::Debug>(what: &str, got: T, wanted: T) -> Result
     Err(format!("{what}: got {got:?}, wanted {wanted:?}"))
 }
 
-/// Mostly enough for all rules.
+/// Mostly enough for all rules, each at two offsets.
 fn space(rng: &mut Rng) -> usize {
     match rng.below(6) {
-        0 => rng.below(8),
-        1..=3 => MAX_RULES,
-        _ => MAX_RULES + rng.below(300),
+        0 => rng.below(12),
+        1..=3 => 2 * MAX_RULES,
+        _ => 2 * MAX_RULES + rng.below(300),
     }
 }
 
 fn byte(rng: &mut Rng) -> u8 {
-    *rng.pick(&[b'a', b'b', b'c', b'A', b'0', 10, 0, 255])
+    *rng.pick(&[b'a', b'b', b'c', b'A', b'0', 10, 10, 0, 255])
 }
 
 /// A table of a few rules, or of made-up sets, and then damaged.
@@ -162,16 +163,15 @@ fn made_up(rng: &mut Rng, words: &mut [u64]) {
         id += 1 + rng.word() % 0x0380_0000;
         words[record(place) + ID] = id;
         words[record(place) + FLAGS] = *rng.pick(&[0, 1, 2, 8, 11]);
-        words[record(place) + FROM] = 0;
-        words[record(place) + TO] = positions;
+        words[record(place) + SPAN] = span(0, positions);
     }
     let thin = rng.below(6);
     let word = |rng: &mut Rng| (0..thin).fold(rng.word(), |word, _| word & rng.word());
-    for at in (FIRST..FIRST + 8).chain(ROWS) {
+    for at in FIRSTS.chain(ROWS) {
         words[at] = word(rng);
     }
     for place in 0..rules as usize {
-        for at in record(place) + LAST..record(place) + LAST + 8 {
+        for at in record(place) + LAST..record(place + 1) {
             words[at] = word(rng);
         }
     }
@@ -181,9 +181,9 @@ fn made_up(rng: &mut Rng, words: &mut [u64]) {
 fn damage(rng: &mut Rng, words: &mut [u64]) {
     let at = match rng.below(6) {
         0 => rng.below(3),
-        1 => record(place(rng)) + rng.below(4),
+        1 => record(place(rng)) + rng.below(LAST),
         2 => record(place(rng)) + rng.below(RECORD_WORDS),
-        3 => FIRST + rng.below(8),
+        3 => FIRSTS.start + rng.below(FIRSTS.len()),
         4 => ROWS.start + rng.below(ROWS.len()),
         _ => rng.below(words.len()),
     };
@@ -191,7 +191,7 @@ fn damage(rng: &mut Rng, words: &mut [u64]) {
         0 => rng.word(),
         1 => words[at] ^ 1 << rng.below(64),
         2 => words[at].wrapping_add(1),
-        3 => words[at] | 1 << 32,
+        3 => words[at] | 1 << *rng.pick(&[16, 32]),
         4 => rng.below(70) as u64,
         _ => u64::MAX,
     };
@@ -213,22 +213,27 @@ fn state(rng: &mut Rng, table: &[u64]) -> Vec<u64> {
     let positions = state[STATE_POSITIONS].min(MAX_POSITIONS as u64) as usize;
     if positions > 0 {
         for _ in 0..rng.below(6) {
-            put(&mut state, 0, rng.below(positions));
+            put(&mut state, *rng.pick(&[0, 0, HELD]), rng.below(positions));
         }
     }
+    state[TAKEN] = match rng.below(9) {
+        0 | 1 => 0,
+        2 => 1 + rng.word() % 2,
+        3 => 65_535 - rng.word() % 40,
+        4 => 4_294_967_296 - rng.word() % 40,
+        5 => MAX_STREAM - rng.word() % 40,
+        6 => MAX_STREAM,
+        _ => rng.word() % MAX_STREAM,
+    };
+    let pairs = if state[TAKEN] < 2 { rng.once_in(8) } else { rng.once_in(2) };
     for place in 0..state[STATE_RULES].min(MAX_RULES as u64) as usize {
         if table[record(place) + FLAGS] & SINGLE_MATCH != 0 && rng.once_in(8) {
             state[MARKS] |= 1 << place;
         }
+        if pairs && rng.once_in(4) {
+            state[PENDING] |= 1 << place;
+        }
     }
-    state[TAKEN] = match rng.below(8) {
-        0 | 1 => 0,
-        2 => 65_535 - rng.word() % 40,
-        3 => 4_294_967_296 - rng.word() % 40,
-        4 => MAX_STREAM - rng.word() % 40,
-        5 => MAX_STREAM,
-        _ => rng.word() % MAX_STREAM,
-    };
     if rng.once_in(6) {
         damage_state(rng, &mut state);
     }

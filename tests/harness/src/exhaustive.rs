@@ -4,8 +4,8 @@
 //!
 //! An accepted pattern stands twice in the table, plain and as a single-match rule, and all its
 //! streams are opened on that table one after another. Each cut is scanned with the least report
-//! space, so that the stop rule is at work wherever a byte reports, and, cut into single bytes, with
-//! the busy figure asked after each byte.
+//! space, so that the stop rule is at work wherever bytes report, and, cut into single bytes, with
+//! the busy figure asked after each byte and after the closing.
 
 use corpus::Case;
 
@@ -23,11 +23,11 @@ pub struct Alphabet {
 }
 
 /// Each token is one of the pattern language's, so that k tokens reach far. The logs are of two
-/// letters that patterns name, one in the other case, and the newline.
+/// letters that patterns name, one in the other case, and the newline, which patterns name too.
 pub const MEANING: Alphabet = Alphabet {
     tokens: &[
         "a", "b", ".", "^", "$", "|", "(", ")", "*", "+", "?", "{2}", "{1,2}", "{,2}", "{2,}",
-        "[^a]", "(?i)", "\\z", "(?:",
+        "[^a]", "(?i)", "\\z", "(?:", "\\Z", "\\n",
     ],
     bytes: b"abA\n",
 };
@@ -190,14 +190,17 @@ fn all_cuts(length: usize) -> Vec<Vec<Step>> {
             for byte in 0..length {
                 block += 1;
                 if byte == gaps || choice >> byte & 1 == 1 {
-                    steps.push(Step::Offer { bytes: block, space: 2 });
+                    steps.push(Step::Offer { bytes: block, space: 4 });
                     if choice + 1 == 1 << gaps {
                         steps.push(Step::Figure);
                     }
                     block = 0;
                 }
             }
-            steps.push(Step::Close { ids: 2, offsets: 2 });
+            steps.push(Step::Close { ids: 4, offsets: 4 });
+            if choice + 1 == 1 << gaps {
+                steps.push(Step::Figure);
+            }
             steps
         })
         .collect()

@@ -64,6 +64,8 @@ impl Watcher for Model {
             Change::Total(total) => stream.with_total(total),
             Change::Live(position) => stream.with_stray_live(position),
             Change::Mark(rule) => stream.with_mark(rule),
+            Change::Held(position) => stream.with_stray_held(position),
+            Change::Pair(rule) => stream.with_held_pair(rule),
         }
     }
 }

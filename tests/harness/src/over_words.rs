@@ -1,10 +1,11 @@
 //! A watcher made of calls over lent words.
 
 use words::calls::Calls;
-use words::layout::{FORMAT, MARKS, POSITIONS, STATE_WORDS, TABLE_WORDS, TAKEN};
+use words::layout::{FORMAT, HELD, MARKS, PENDING, POSITIONS, STATE_WORDS, TABLE_WORDS, TAKEN};
 
 use crate::watcher::{Answer, Change, PatternReader, Reading, Watcher};
 
+#[derive(Clone, Copy, Debug)]
 pub struct OverWords<C>(pub C);
 
 impl<C: Calls> Watcher for OverWords<C> {
@@ -64,10 +65,15 @@ impl<C: Calls> Watcher for OverWords<C> {
 
     fn changed(&self, stream: &Self::Stream, change: Change) -> Option<Self::Stream> {
         let mut state = *stream;
+        let bit = |index: usize| 1u64.checked_shl(index as u32);
         match change {
             Change::Total(total) => state[TAKEN] = total,
-            Change::Live(position) => *state[..4].get_mut(position / 64)? |= 1 << (position % 64),
-            Change::Mark(rule) => state[MARKS] |= 1u64.checked_shl(rule as u32)?,
+            Change::Live(position) => *state[..4].get_mut(position / 64)? |= bit(position % 64)?,
+            Change::Mark(rule) => state[MARKS] |= bit(rule)?,
+            Change::Held(position) => {
+                *state[HELD..HELD + 4].get_mut(position / 64)? |= bit(position % 64)?
+            }
+            Change::Pair(rule) => state[PENDING] |= bit(rule)?,
         }
         Some(state)
     }

@@ -24,6 +24,9 @@ const ESCAPES: &[&str] = &[
     "\\h", "\\v", "\\D", "\\W", "\\S", "\\H", "\\V",
 ];
 
+/// Assertions, also with a newline right behind or before them.
+const ASSERTIONS: &[&str] = &["^", "$", "\\A", "\\z", "\\Z", "$\\n", "\\Z\\s", "\\n$"];
+
 /// Things that are refused, or nearly: put in by chance.
 const NASTY: &[&str] = &[
     "\\",
@@ -94,6 +97,8 @@ const NASTY: &[&str] = &[
     "\\1",
     "\\b",
     "\\Z",
+    "\\Z*",
+    "[\\Z]",
     "\\N",
     "\\A",
     "\\z",
@@ -258,7 +263,7 @@ fn choice(rng: &mut Rng, out: &mut Vec<u8>, budget: usize, depth: usize) {
 fn sequence(rng: &mut Rng, out: &mut Vec<u8>, budget: usize, depth: usize) {
     for _ in 0..1 + rng.below(budget) {
         match rng.below(20) {
-            0 => out.extend(rng.pick(&["^", "$", "\\A", "\\z"]).bytes()),
+            0 => out.extend(rng.pick(ASSERTIONS).bytes()),
             1 => out
                 .extend(rng.pick(&["(?i)", "(?s)", "(?-i)", "(?-s)", "(?is-i)", "(?i-)"]).bytes()),
             2 => out.extend(

@@ -3,7 +3,7 @@
 //! as they were.
 
 use corpus::{Call, Case, Line, Lists, Report};
-use reference::refusal::MAX_RULES;
+use reference::refusal::{least_space, MAX_RULES};
 
 use crate::watcher::{Answer, Change, Watcher};
 
@@ -131,6 +131,8 @@ impl<'w, W: Watcher> Player<'w, W> {
             Line::StateTotal(n) => return self.change(Change::Total(*n)),
             Line::StateLive(n) => return self.change(Change::Live(*n)),
             Line::StateMark(n) => return self.change(Change::Mark(*n)),
+            Line::StateHeld(n) => return self.change(Change::Held(*n)),
+            Line::StatePair(n) => return self.change(Change::Pair(*n)),
             Line::Block(_) | Line::Report(_) | Line::Busy(_) => {
                 return Err("a case has either blocks or calls".to_string());
             }
@@ -186,13 +188,14 @@ fn play_whole<W: Watcher>(watcher: &W, case: &Case) -> Result<(), String> {
     let bytes: Vec<Vec<u8>> = joined.iter().map(|&b| vec![b]).collect();
     let wanted = case.reports();
     let pairs: Vec<(u32, u64)> = wanted.iter().map(|r| (r.id, r.offset)).collect();
-    let much = MAX_RULES * (joined.len() + 1);
-    for (blocks, space) in [(&blocks, rules), (&vec![joined.clone()], much)] {
+    let least = least_space(rules);
+    let much = least_space(MAX_RULES) * (joined.len() + 1);
+    for (blocks, space) in [(&blocks, least), (&vec![joined.clone()], much)] {
         let got = whole_stream(&mut player, blocks, space)?;
         let got: Vec<(u32, u64)> = got.reports.iter().map(|r| (r.id, r.offset)).collect();
         expect("reports (id, offset)", &got, &pairs)?;
     }
-    let got = whole_stream(&mut player, &bytes, rules)?;
+    let got = whole_stream(&mut player, &bytes, least)?;
     expect("reports with moments", &got.reports, &wanted)?;
     match case.busy() {
         Some(figures) => expect("busy figures", got.busy, figures),

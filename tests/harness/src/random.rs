@@ -3,7 +3,7 @@
 //! now and then makes a call that is refused. Case i of a run depends on the seed and on i alone.
 
 use corpus::{Case, Line};
-use reference::refusal::MAX_RULES;
+use reference::refusal::{least_space, MAX_RULES};
 use reference::rule::Rule;
 use reference::tree::Node;
 
@@ -26,6 +26,20 @@ pub struct Count {
     /// Additions by their number, 0 to 17 and 23.
     pub by_number: [u64; 24],
 }
+
+/// Patterns that wait for the end, most of them at its last two offsets.
+const LAST_LINES: &[&str] = &[
+    "a$",
+    "\\n$",
+    "(a|a\\n)$",
+    "a$\\n",
+    "[^b]\\Z",
+    "a\\n\\z",
+    "$\\n",
+    "b?a$\\n?",
+    "a$|\\n",
+    "a|a\\Z",
+];
 
 /// Runs the cases from `first` on; the first disagreement, made smaller, is the error.
 pub fn run<W: Watcher>(watcher: &W, seed: u64, first: u64, cases: u64) -> Result<Count, String> {
@@ -78,6 +92,12 @@ pub fn scenario(rng: &mut Rng) -> Scenario {
             Addition { id, flags: *rng.pick(&[0, 0, 8]), pattern }
         }));
     }
+    if rng.once_in(12) {
+        for _ in 0..2 + rng.below(2) {
+            let pattern = rng.pick(LAST_LINES).as_bytes().to_vec();
+            additions.push(Addition { pattern, ..addition(rng) });
+        }
+    }
     let (rules, _) = add_all(additions.iter().map(|a| (a.id, a.flags, &a.pattern[..])));
     let log = log(rng, &rules);
     let mut steps = Vec::new();
@@ -85,9 +105,10 @@ pub fn scenario(rng: &mut Rng) -> Scenario {
         steps.push(step(rng, rules.len(), log.len()));
     }
     if rng.once_in(2) {
-        steps.push(Step::Offer { bytes: usize::MAX, space: rules.len() });
+        let least = least_space(rules.len());
+        steps.push(Step::Offer { bytes: usize::MAX, space: least });
         steps.push(Step::Figure);
-        steps.push(Step::Close { ids: rules.len().saturating_sub(1), offsets: MAX_RULES + 8 });
+        steps.push(Step::Close { ids: least.saturating_sub(1), offsets: 2 * MAX_RULES + 8 });
     }
     Scenario { additions, log, steps }
 }
@@ -112,7 +133,7 @@ fn step(rng: &mut Rng, rules: usize, log: usize) -> Step {
     let offsets = space(rng, rules);
     match rng.below(24) {
         0 => Step::Close { ids, offsets },
-        1 => Step::Close { ids: rules.saturating_sub(1), offsets },
+        1 => Step::Close { ids: least_space(rules).saturating_sub(1), offsets },
         2 => Step::ShortTable,
         3 => Step::NoTable,
         4 => Step::RefusedState,
@@ -126,14 +147,15 @@ fn step(rng: &mut Rng, rules: usize, log: usize) -> Step {
 
 /// Mostly enough, often just enough, sometimes too little.
 fn space(rng: &mut Rng, rules: usize) -> usize {
+    let least = least_space(rules);
     match rng.below(8) {
-        0 => rng.below(rules + 1),
-        1..=4 => rules + rng.below(3),
-        _ => rules + rng.below(40),
+        0 => rng.below(least + 1),
+        1..=4 => least + rng.below(3),
+        _ => least + rng.below(40),
     }
 }
 
-/// A log of stretches that the rules match, broken stretches, and noise.
+/// A log of stretches that the rules match, broken stretches, and noise; often a newline ends it.
 pub fn log(rng: &mut Rng, rules: &[Rule]) -> Vec<u8> {
     let mut log = Vec::new();
     for _ in 0..rng.below(12) {
@@ -151,6 +173,9 @@ pub fn log(rng: &mut Rng, rules: &[Rule]) -> Vec<u8> {
             }
         }
         log.truncate(40);
+    }
+    if rng.once_in(3) {
+        log.extend(*rng.pick(&[&b"\n"[..], b"a\n", b"\n\n"]));
     }
     log
 }

@@ -4,6 +4,7 @@
 
 use corpus::{Call, Case, Line, Lists};
 use reference::ordered::{ordered, Moment, Pair};
+use reference::refusal::least_space;
 use reference::rule::{check, Rule};
 use reference::ways::busy;
 
@@ -87,8 +88,10 @@ pub fn predict_with(scenario: &Scenario, rules: &[Rule], answers: &[(u32, usize)
         caller.step(step);
     }
     if !caller.closed {
-        caller.step(&Step::Offer { bytes: usize::MAX, space: rules.len() + 3 });
-        caller.step(&Step::Close { ids: rules.len(), offsets: rules.len() });
+        let least = least_space(rules.len());
+        caller.step(&Step::Offer { bytes: usize::MAX, space: least + 3 });
+        caller.step(&Step::Close { ids: least, offsets: least });
+        caller.step(&Step::Figure);
     }
     Case { name: "generated".to_string(), origin: "generated".to_string(), lines: caller.lines }
 }
@@ -127,7 +130,7 @@ impl Caller<'_> {
             Step::Scan { bytes, ids, offsets, drop } => self.scan(*bytes, *ids, *offsets, *drop),
             Step::Offer { bytes, space } => {
                 let until = self.next.saturating_add(*bytes).min(self.log.len());
-                while self.next < until && !self.closed && *space >= self.rules.len() {
+                while self.next < until && self.number(*space) == 0 {
                     self.scan(until - self.next, *space, *space, false);
                 }
             }
@@ -148,7 +151,7 @@ impl Caller<'_> {
             Step::NoTable => {
                 let addition = Addition { id: 0, flags: 4, pattern: b")".to_vec() };
                 self.lines.extend([Line::Lend(None), rule_line(&addition, 1, 0)]);
-                let space = self.rules.len();
+                let space = least_space(self.rules.len());
                 self.answer(None, old_lists(space, space), 1, &[], 0);
                 self.lines.push(Line::Lend(Some(TABLE_WORDS)));
             }
@@ -179,13 +182,13 @@ impl Caller<'_> {
     }
 
     fn refused_scan(&mut self, number: u32) {
-        let space = self.rules.len() + 1;
+        let space = least_space(self.rules.len()) + 1;
         self.answer(Some(b"a".to_vec()), old_lists(space, space), number, &[], 0);
     }
 
     /// The number of an accepted or refused call on the present state with this space.
     fn number(&self, space: usize) -> u32 {
-        match (self.closed, space < self.rules.len()) {
+        match (self.closed, space < least_space(self.rules.len())) {
             (true, _) => 19,
             (false, true) => 20,
             (false, false) => 0,

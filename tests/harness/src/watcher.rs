@@ -19,6 +19,10 @@ pub enum Change {
     Live(usize),
     /// One more rule marked "already reported", by its index in the order of rising ids.
     Mark(usize),
+    /// One more held position, by its index.
+    Held(usize),
+    /// One more rule with a pair held for the offset before the last byte, by its index likewise.
+    Pair(usize),
 }
 
 pub trait Watcher {

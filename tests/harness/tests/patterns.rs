@@ -1,5 +1,6 @@
 //! The random patterns hold enough of what is easily missed: named classes, quotes and comments,
-//! blanks in braces, raw control bytes and long patterns, in all their corners, accepted and refused.
+//! blanks in braces, raw control bytes, long patterns, and assertions of the last line, in all their
+//! corners, accepted and refused.
 
 use std::collections::BTreeMap;
 
@@ -52,6 +53,9 @@ fn kinds(pattern: &[u8], number: u32, place: usize) -> Vec<&'static str> {
             kind("blanks alone", has(pattern, "{ }") || has(pattern, "{ , }")),
             kind("blank between digits", has(pattern, "{2 3}")),
             kind("over 256 bytes", pattern.len() > 256),
+            kind("last line by its letter", has(pattern, "\\Z")),
+            kind("last line then newline", has(pattern, "$\\n") || has(pattern, "\\Z\\s")),
+            kind("newline then last line", has(pattern, "\\n$")),
         ],
         5 => vec![kind("over 1,024 bytes", true)],
         6 => vec![
@@ -70,6 +74,10 @@ fn kinds(pattern: &[u8], number: u32, place: usize) -> Vec<&'static str> {
             kind("9 before 23", from.starts_with(b"a-\t") || from.starts_with(b"\\d-\t")),
         ],
         10 => vec![
+            kind(
+                "quantifier after the last line",
+                before.ends_with(b"\\Z") || before.ends_with(b"$"),
+            ),
             kind("quantifier after nothing", after_nothing),
             kind("lone mark after nothing", after_nothing && b"?+".contains(&from[0])),
             kind("group that starts with nothing", before.ends_with(b"(\\E")),
@@ -82,6 +90,7 @@ fn kinds(pattern: &[u8], number: u32, place: usize) -> Vec<&'static str> {
         ],
         12 => vec![kind("open comment", place == pattern.len() && has(pattern, "(?#"))],
         14 => vec![
+            kind("last line in a class", from.starts_with(b"\\Z")),
             kind("no name of the list", from.starts_with(b"[:")),
             kind("other bracket", from.starts_with(b"[.") || from.starts_with(b"[=")),
             kind("14 before 23", from.starts_with(b"{2\t}+") || from.starts_with(b"(?i\t)")),
@@ -113,6 +122,6 @@ fn every_corner_comes_often() {
             *count.entry(kind).or_default() += 1;
         }
     }
-    assert_eq!(count.len(), 49, "{count:?}");
+    assert_eq!(count.len(), 54, "{count:?}");
     assert!(count.values().all(|&n| n >= 100), "{count:?}");
 }

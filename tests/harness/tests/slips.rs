@@ -2,13 +2,14 @@
 //! the random mode must find every one of them, and what the shrinker prints must be a small case
 //! that the corpus's reader reads and that still fails.
 
+mod finding;
+
 use harness::exhaustive::{self, Bounds, BRACES, MEANING, SPELLING};
 use harness::model::Model;
-use harness::play::play;
 use harness::random;
 use harness::watcher::{Answer, Change, Watcher};
 use reference::calls::{Stream, Table};
-use reference::refusal::MAX_RULES;
+use reference::refusal::{least_space, MAX_RULES};
 use reference::token::is_control;
 
 #[derive(Clone, Copy, Debug, PartialEq)]
@@ -253,7 +254,8 @@ impl Watcher for Slip {
             RefusedClosingCloses => {
                 let answer = Model.close(table, stream.clone(), ids, offsets);
                 if answer.number == 20 {
-                    let (mut ids, mut offsets) = ([0; MAX_RULES], [0; MAX_RULES]);
+                    let space = least_space(MAX_RULES);
+                    let (mut ids, mut offsets) = (vec![0; space], vec![0; space]);
                     let closed = Model.close(table, stream, &mut ids, &mut offsets);
                     return Answer { stream: closed.stream, ..answer };
                 }
@@ -279,38 +281,24 @@ impl Watcher for Slip {
 
 #[test]
 fn the_corpus_finds_every_slip() {
-    let cases = corpus::files::cases(corpus::files::folder()).unwrap();
-    for slip in SLIPS {
-        let found = cases.iter().any(|case| play(&slip, case).is_err());
-        assert!(found, "{slip:?} passes the corpus");
-    }
+    finding::by_the_corpus(&SLIPS);
 }
 
 #[test]
 fn the_random_mode_finds_every_slip_and_makes_it_small() {
-    for slip in SLIPS {
-        let found = random::run(&slip, 1, 0, 3_000).expect_err("a disagreement");
-        let cases = corpus::files::cases_in("found", &found).unwrap();
-        assert_eq!(cases.len(), 1, "{slip:?}: {found}");
-        assert!(play(&slip, &cases[0]).is_err(), "{slip:?}: {found}");
-        assert!(play(&Model, &cases[0]).is_ok(), "{slip:?}: {found}");
-        assert!(cases[0].lines.len() <= 12, "{slip:?} is not small: {found}");
-    }
+    finding::at_random(&SLIPS, 3_000);
 }
 
 #[test]
 fn the_exhaustive_mode_finds_a_slip() {
-    let bounds = Bounds { alphabet: MEANING, tokens: 1, bytes: 2, part: (0, 1) };
-    for slip in [FallingIds, StopsEarly, ForgetsSingleMatch] {
-        assert!(exhaustive::run(&slip, &Model, bounds).is_err(), "{slip:?}");
-    }
+    finding::among_all(&[FallingIds, StopsEarly, ForgetsSingleMatch], 1, 2);
 }
 
 #[test]
 fn the_model_agrees_with_the_definition() {
     let bounds = Bounds { alphabet: MEANING, tokens: 2, bytes: 3, part: (0, 1) };
     let count = exhaustive::run(&Model, &Model, bounds).unwrap();
-    assert_eq!(count.patterns, 1 + 19 + 19 * 19);
+    assert_eq!(count.patterns, 1 + 21 + 21 * 21);
     assert!(count.accepted > 40 && count.pairs == count.accepted * (1 + 4 + 16 + 64));
     let bounds = Bounds { alphabet: SPELLING, tokens: 3, bytes: 1, part: (0, 1) };
     let count = exhaustive::run(&Model, &Model, bounds).unwrap();

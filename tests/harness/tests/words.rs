@@ -18,27 +18,57 @@ enum Slip {
     MarksPastTheRules,
     MarksIn32Bits,
     LiveOutside,
+    HeldOutside,
+    HeldNotMasked,
+    HeldWithoutLive,
+    PairsPastTheRules,
+    PairsTooEarly,
+    PairsBeforeTheFirstByte,
+    PairsOfMarkedRulesDropped,
+    ClosingStoresMarks,
     RefusalStores,
     RefusedOpeningLeavesState,
     WordPastTheState,
     ShortStateIsNoTable,
     OffsetsIn32Bits,
     EqualIds,
+    SpanIn32Bits,
 }
 
-const ALL: [Slip; 11] = [
+const ALL: [Slip; 20] = [
     Slip::ClosedIsOneOnly,
     Slip::CountsIn32Bits,
     Slip::MarksPastTheRules,
     Slip::MarksIn32Bits,
     Slip::LiveOutside,
+    Slip::HeldOutside,
+    Slip::HeldNotMasked,
+    Slip::HeldWithoutLive,
+    Slip::PairsPastTheRules,
+    Slip::PairsTooEarly,
+    Slip::PairsBeforeTheFirstByte,
+    Slip::PairsOfMarkedRulesDropped,
+    Slip::ClosingStoresMarks,
     Slip::RefusalStores,
     Slip::RefusedOpeningLeavesState,
     Slip::WordPastTheState,
     Slip::ShortStateIsNoTable,
     Slip::OffsetsIn32Bits,
     Slip::EqualIds,
+    Slip::SpanIn32Bits,
 ];
+
+/// As many ones as there are rules in the table, from the lowest digit on.
+fn below_rules(table: &[u64]) -> u64 {
+    1u64.checked_shl(table[RULES] as u32).map_or(!0, |bit| bit - 1)
+}
+
+/// Takes the positions that the table has not out of the set whose four words begin at `at`.
+fn keep_inside(table: &[u64], state: &mut [u64], at: usize) {
+    for p in (0..MAX_POSITIONS).skip(table[POSITIONS] as usize) {
+        state[at + p / 64] &= !(1 << (p % 64));
+    }
+}
 
 impl Slip {
     /// The words that the slipping calls take for the state.
@@ -52,14 +82,33 @@ impl Slip {
                 state[STATE_RULES] &= 0xffff_ffff;
                 state[STATE_POSITIONS] &= 0xffff_ffff;
             }
-            Slip::MarksPastTheRules => {
-                state[MARKS] &= 1u64.checked_shl(table[RULES] as u32).map_or(!0, |bit| bit - 1)
-            }
+            Slip::MarksPastTheRules => state[MARKS] &= below_rules(table),
             Slip::MarksIn32Bits => state[MARKS] &= 0xffff_ffff,
-            Slip::LiveOutside => {
-                for p in (0..MAX_POSITIONS).skip(table[POSITIONS] as usize) {
-                    state[p / 64] &= !(1 << (p % 64));
-                }
+            Slip::LiveOutside => keep_inside(table, state, 0),
+            Slip::HeldOutside => keep_inside(table, state, HELD),
+            Slip::PairsPastTheRules => state[PENDING] &= below_rules(table),
+            Slip::PairsTooEarly if state[TAKEN] < 2 => state[PENDING] = 0,
+            _ => {}
+        }
+    }
+
+    /// What the slip makes of the state that a scan left, which took these bytes.
+    fn after_scan(self, table: &[u64], kept: &[u64], state: &mut [u64], taken: &[u8]) {
+        let mut other = kept.to_vec();
+        match self {
+            Slip::HeldWithoutLive => (0..4).for_each(|i| state[HELD + i] &= !state[i]),
+            Slip::PairsOfMarkedRulesDropped => state[PENDING] &= !state[MARKS],
+            Slip::PairsBeforeTheFirstByte if kept[TAKEN] == 0 && taken.len() == 1 => {
+                other[TAKEN] = 1;
+                scanned(table, &mut other, taken);
+                state[PENDING] = other[PENDING];
+            }
+            Slip::HeldNotMasked => {
+                let mut table = table.to_vec();
+                table[POSITIONS] = MAX_POSITIONS as u64;
+                other[STATE_POSITIONS] = MAX_POSITIONS as u64;
+                scanned(&table, &mut other, taken);
+                state[HELD..HELD + 4].copy_from_slice(&other[HELD..HELD + 4]);
             }
             _ => {}
         }
@@ -83,6 +132,12 @@ impl Slip {
     }
 }
 
+/// The state after these bytes, whatever they report.
+fn scanned(table: &[u64], state: &mut [u64], bytes: &[u8]) {
+    let space = 2 * MAX_RULES * (bytes.len() + 1);
+    Interpreter.scan(table, state, bytes, &mut vec![0; space], &mut vec![0; space]);
+}
+
 impl Calls for Slip {
     fn empty(&self, table: &mut [u64]) -> u32 {
         Interpreter.empty(table)
@@ -93,6 +148,9 @@ impl Calls for Slip {
         let two = words.len() >= TABLE_WORDS && words[RULES] == 2;
         if matches!(self, Slip::EqualIds) && two && words[record(1)] == words[record(0)] {
             words[record(1)] += 1;
+        }
+        if matches!(self, Slip::SpanIn32Bits) && words.len() >= TABLE_WORDS {
+            (0..MAX_RULES).for_each(|place| words[record(place) + SPAN] &= 0xffff_ffff);
         }
         Interpreter.test(&words)
     }
@@ -121,6 +179,9 @@ impl Calls for Slip {
         let kept = state.to_vec();
         self.before(table, state);
         let mut answer = Interpreter.scan(table, state, block, ids, offsets);
+        if answer.number == 0 {
+            self.after_scan(table, &kept, state, &block[..answer.taken]);
+        }
         self.after(&mut answer, state, &kept, offsets);
         answer
     }
@@ -135,6 +196,12 @@ impl Calls for Slip {
         let kept = state.to_vec();
         self.before(table, state);
         let mut answer = Interpreter.close(table, state, ids, offsets);
+        if matches!(self, Slip::ClosingStoresMarks) && answer.number == 0 {
+            let single = |a: &usize| table[record(*a) + FLAGS] & SINGLE_MATCH != 0;
+            (0..table[RULES] as usize)
+                .filter(single)
+                .for_each(|a| state[MARKS] |= state[PENDING] & 1 << a);
+        }
         self.after(&mut answer, state, &kept, offsets);
         answer
     }

@@ -1,6 +1,6 @@
 //! PCRE2 by its 8-bit C interface: all ends of all matches from one start, by `pcre2_dfa_match`.
-//! Set up so that its meaning is the product's: `$` at the very end only, newline is byte 10, and
-//! no shortcut that would hide a match.
+//! Set up so that its meaning is the product's: newline is byte 10, and no shortcut that would hide a
+//! match. `$` and `\Z` are the product's as they stand.
 
 use std::cell::RefCell;
 use std::ffi::c_void;
@@ -8,7 +8,6 @@ use std::ptr::null_mut;
 
 const ANCHORED: u32 = 0x8000_0000;
 const CASELESS: u32 = 0x8;
-const DOLLAR_ENDONLY: u32 = 0x10;
 const DOTALL: u32 = 0x20;
 const NO_AUTO_POSSESS: u32 = 0x4000;
 const NO_START_OPTIMIZE: u32 = 0x1_0000;
@@ -57,7 +56,7 @@ pub struct Pattern {
 impl Pattern {
     /// Compiled, or the number of PCRE2's error.
     pub fn compile(pattern: &[u8], flags: u32) -> Result<Pattern, i32> {
-        let mut options = ANCHORED | DOLLAR_ENDONLY | NO_AUTO_POSSESS | NO_START_OPTIMIZE;
+        let mut options = ANCHORED | NO_AUTO_POSSESS | NO_START_OPTIMIZE;
         if flags & 1 != 0 {
             options |= CASELESS;
         }

@@ -1,5 +1,5 @@
 //! Matching by looking back, for the model of the calls: at a moment, from which offsets does the
-//! written-out form match up to here? The form is read from right to left. This is a second way to
+//! written-out form match up to a gap? The form is read from right to left. This is a second way to
 //! the same meaning, on purpose unlike the definition's: other direction, other shape of the
 //! pattern, and nothing but the bytes taken so far.
 
@@ -7,15 +7,14 @@ use crate::known::Known;
 use crate::offsets::{union, without, Offsets};
 use crate::written::Form;
 
-/// Does the form match from some earlier offset up to the last known byte?
-pub fn matches_up_to_now(form: &Form, known: &Known) -> bool {
-    let now = known.bytes.len();
-    starts(form, &[now], known).iter().any(|&start| start < now)
+/// Does the form match from some earlier offset up to this gap?
+pub fn matches_up_to(form: &Form, gap: usize, known: &Known) -> bool {
+    starts(form, &[gap], known).iter().any(|&start| start < gap)
 }
 
 /// Is the position live: is there a way that has just taken the last known byte there?
 pub fn is_live(form: &Form, position: usize, known: &Known) -> bool {
-    matches_up_to_now(&form.up_to_position(position), known)
+    matches_up_to(&form.up_to_position(position), known.bytes.len(), known)
 }
 
 /// Where a match of the form can start that ends at one of `ends`.

@@ -3,7 +3,9 @@
 //! states in the plainest shape: a table is the list of its rules, a state is the bytes taken.
 //!
 //! At each byte the rules are matched anew, looking back from that byte over the bytes taken so
-//! far. Nothing is carried from byte to byte but the bytes and the marks of single-match rules.
+//! far. Nothing is carried from byte to byte but the bytes and the marks of single-match rules. What
+//! waits for the end is not carried either: a closing looks back from the last byte and from the one
+//! before it, once as the end is known and once as it was not.
 //!
 //! A state may be handed to a table it was not opened on. If the counts agree it is valid, and its
 //! bytes count as bytes of that table's stream; for a state that has taken bytes under other rules
@@ -11,9 +13,9 @@
 
 use std::rc::Rc;
 
-use crate::backward::{is_live, matches_up_to_now};
+use crate::backward::{is_live, matches_up_to};
 use crate::known::Known;
-use crate::refusal::{Refusal, MAX_STREAM, TABLE_WORDS};
+use crate::refusal::{least_space, Refusal, MAX_STREAM, TABLE_WORDS};
 use crate::rule::{check, positions_of, Rule};
 
 /// Lent words: how many, and the rules they hold if they are a table.
@@ -37,6 +39,11 @@ pub struct Stream {
     marks: Vec<usize>,
     /// Live positions set by hand, of which none is among the table's.
     stray_live: Vec<usize>,
+    /// Held positions set by hand, likewise.
+    stray_held: Vec<usize>,
+    /// Rules with a pair held for the offset before the last byte by hand, besides those that the
+    /// bytes give; the next byte taken ends it.
+    held_pairs: Vec<usize>,
     closed: bool,
 }
 
@@ -106,6 +113,8 @@ impl Stream {
             bytes: Vec::new(),
             marks: Vec::new(),
             stray_live: Vec::new(),
+            stray_held: Vec::new(),
+            held_pairs: Vec::new(),
             closed,
         }
     }
@@ -114,9 +123,9 @@ impl Stream {
         self.base.saturating_add(self.bytes.len() as u64)
     }
 
-    /// The number of live positions.
+    /// The number of live positions. Held ones are none of them.
     pub fn busy(&self) -> usize {
-        let known = Known { base: self.base, bytes: &self.bytes, end: false };
+        let known = self.known(self.bytes.len(), false);
         let live =
             |rule: &Rule| (0..rule.positions).filter(|&p| is_live(&rule.form, p, &known)).count();
         self.rules.iter().map(live).sum::<usize>() + self.stray_live.len()
@@ -134,6 +143,20 @@ impl Stream {
         (position >= self.position_count).then_some(next)
     }
 
+    /// This state with a held position that none of its table's rules has, set by hand.
+    pub fn with_stray_held(&self, position: usize) -> Option<Stream> {
+        let mut next = self.clone();
+        next.stray_held.push(position);
+        (position >= self.position_count).then_some(next)
+    }
+
+    /// This state with a pair held for the offset before the last byte, set by hand.
+    pub fn with_held_pair(&self, rule: usize) -> Option<Stream> {
+        let mut next = self.clone();
+        next.held_pairs.push(rule);
+        Some(next)
+    }
+
     /// This state with a mark "already reported", set by hand.
     pub fn with_mark(&self, rule: usize) -> Option<Stream> {
         let mut next = self.clone();
@@ -148,6 +171,8 @@ impl Stream {
             && self.stray_live.iter().all(|&p| p < self.position_count)
             && self.marks.iter().all(|&i| rules.get(i).is_some_and(Rule::single_match))
             && self.total() <= MAX_STREAM
+            && self.stray_held.iter().all(|&p| p < self.position_count)
+            && self.held_pairs.iter().all(|&i| i < rules.len() && self.total() >= 2)
     }
 
     /// The checks of a scan in their order 1, 18, 19, 21, 20. An empty block never gets 21, so a
@@ -163,7 +188,7 @@ impl Stream {
         if block as u64 > MAX_STREAM - self.total() {
             return Err(21);
         }
-        if space < rules.len() {
+        if space < least_space(rules.len()) {
             return Err(20);
         }
         Ok(rules)
@@ -190,7 +215,7 @@ impl Stream {
         let mut count = 0;
         for &byte in block {
             self.bytes.push(byte);
-            let reporting = self.reporting(rules, false);
+            let reporting = self.reporting(rules);
             if reporting.len() > space - count {
                 self.bytes.pop();
                 break;
@@ -203,41 +228,71 @@ impl Stream {
                     self.marks.push(index);
                 }
             }
+            self.held_pairs.clear();
             taken += 1;
         }
         Answer { number: 0, taken, count, stream: self }
     }
 
-    /// Reports the pairs that need the end, and sets the closed mark; nothing else changes.
+    /// Reports the pairs that need the end, those before the last byte first, and sets the closed
+    /// mark; nothing else changes. A single-match rule that reports in the first run has none in the
+    /// second.
     pub fn close(mut self, table: &Table, ids: &mut [u32], offsets: &mut [u64]) -> Answer {
         let space = ids.len().min(offsets.len());
         let rules = match self.checked(table, 0, space) {
             Ok(rules) => rules,
             Err(number) => return self.refused(number),
         };
-        let given = self.matching(rules, false);
+        let mut marks = self.marks.clone();
         let mut count = 0;
-        for index in self.reporting(rules, true) {
-            if !given.contains(&index) {
+        for (offset, run) in self.closing_runs(rules) {
+            for index in run {
+                if marks.contains(&index) {
+                    continue;
+                }
                 ids[count] = rules[index].id;
-                offsets[count] = self.total();
+                offsets[count] = offset;
                 count += 1;
+                if rules[index].single_match() {
+                    marks.push(index);
+                }
             }
         }
         self.closed = true;
         Answer { number: 0, taken: 0, count, stream: self }
     }
 
-    /// The rules, by rising id, that match up to the last byte taken, as far as is known.
-    fn matching(&self, rules: &[Rule], end: bool) -> Vec<usize> {
-        let known = Known { base: self.base, bytes: &self.bytes, end };
-        (0..rules.len()).filter(|&i| matches_up_to_now(&rules[i].form, &known)).collect()
+    /// What is known when so many of the bytes were just taken, or at closing.
+    fn known(&self, bytes: usize, end: bool) -> Known<'_> {
+        Known { base: self.base, bytes: &self.bytes[..bytes], end }
     }
 
-    /// Those of them that are not marked.
-    fn reporting(&self, rules: &[Rule], end: bool) -> Vec<usize> {
-        let mut found = self.matching(rules, end);
-        found.retain(|index| !self.marks.contains(index));
-        found
+    /// The rules, by rising id, that match up to the last byte taken and are not marked.
+    fn reporting(&self, rules: &[Rule]) -> Vec<usize> {
+        let now = self.bytes.len();
+        let known = self.known(now, false);
+        (0..rules.len())
+            .filter(|&i| !self.marks.contains(&i) && matches_up_to(&rules[i].form, now, &known))
+            .collect()
+    }
+
+    /// The two runs of a closing: an end offset, and the rules with a pair there that needed the end.
+    fn closing_runs(&self, rules: &[Rule]) -> [(u64, Vec<usize>); 2] {
+        let now = self.bytes.len();
+        let mut held = now.checked_sub(1).map_or(Vec::new(), |gap| self.waiting(rules, gap));
+        held.extend(&self.held_pairs);
+        held.sort_unstable();
+        held.dedup();
+        [(self.total().saturating_sub(1), held), (self.total(), self.waiting(rules, now))]
+    }
+
+    /// The rules, by rising id, that match up to this gap now that all is known, and did not match
+    /// up to it when its last byte was taken.
+    fn waiting(&self, rules: &[Rule], gap: usize) -> Vec<usize> {
+        let (then, closing) = (self.known(gap, false), self.known(self.bytes.len(), true));
+        (0..rules.len())
+            .filter(|&i| matches_up_to(&rules[i].form, gap, &closing))
+            .filter(|&i| !matches_up_to(&rules[i].form, gap, &then))
+            .collect()
     }
 }

@@ -1,6 +1,7 @@
 //! Escapes. Comes in: a pattern and the index of a `\`. Goes out: what the escape stands for and
 //! where it ends, or the number of its fault. Whether it stands in a class matters for `\b`, `\N`,
-//! `\A` and `\z` only. `\Q` and `\E` are passed over before a token is read, and never come here.
+//! `\A`, `\Z` and `\z` only. `\Q` and `\E` are passed over before a token is read, and never come
+//! here.
 
 use crate::braces;
 use crate::bytes::{type_named, ByteSet};
@@ -47,6 +48,7 @@ pub fn read(pattern: &[u8], at: usize, in_class: bool) -> Escape {
         b'b' if in_class => two(Ok(Escaped::Byte(8))),
         b'N' if !in_class => two(Ok(Escaped::NotNewline)),
         b'A' if !in_class => two(Ok(Escaped::Assertion(Assertion::Start))),
+        b'Z' if !in_class => two(Ok(Escaped::Assertion(Assertion::LastLine))),
         b'z' if !in_class => two(Ok(Escaped::Assertion(Assertion::End))),
         _ => two(Err(14)),
     }

@@ -1,5 +1,6 @@
 //! What is known of a stream at a moment. After m bytes: those m bytes, and nothing of what
-//! follows, so not that the end is there either. At closing: all bytes, and that they end there.
+//! follows, so not that the end is there either. At closing: all bytes, and that they end there; so
+//! which newline is the last byte is known at closing alone.
 
 use crate::bytes::ByteSet;
 use crate::tree::Assertion;
@@ -33,7 +34,13 @@ impl<'a> Known<'a> {
     pub fn holds(&self, assertion: Assertion, gap: usize) -> bool {
         match assertion {
             Assertion::Start => self.base == 0 && gap == 0,
+            Assertion::LastLine => self.end && self.last_line_ends(gap),
             Assertion::End => self.end && gap == self.bytes.len(),
         }
+    }
+
+    /// Is nothing known after this gap, or a newline alone?
+    fn last_line_ends(&self, gap: usize) -> bool {
+        self.bytes.get(gap..).is_some_and(|rest| rest.is_empty() || rest == b"\n")
     }
 }

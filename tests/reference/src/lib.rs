@@ -26,7 +26,8 @@
 //! `known` says what is known at a moment: after m bytes those bytes and nothing more, at closing
 //! all bytes and the end. `meaning::ends` maps the offsets where a match may start to the offsets
 //! where it may end, by recursion on the tree, judging each assertion by what is known. It is the
-//! usual meaning of sequence, choice and repeat, spelled with sets of offsets.
+//! usual meaning of sequence, choice and repeat, spelled with sets of offsets. An assertion may stand
+//! inside a match and still wait for the end: `$` before a newline that turns out to be the last byte.
 //!
 //! `ordered` is the definition of the one ordered list, word for word: for each rule and each end
 //! offset, the moments from the last byte on are tried in order, at each one every start is tried,
@@ -42,7 +43,8 @@
 //! # Calls
 //! `calls` is a model of the calls and of the caller's lent lists. It finds each byte's reports
 //! from the bytes taken so far, by looking back: `backward` reads the written-out form from right
-//! to left and asks for a start. Its busy figure cuts the form off behind each position in turn and
+//! to left and asks for a start. A closing does so at the last two offsets, and keeps what was not
+//! known to match before. Its busy figure cuts the form off behind each position in turn and
 //! asks whether the cut form matches up to now. So the list by definition (whole stream, forward,
 //! tree with counts, first moment) and the reports of the calls (bytes so far, backward,
 //! written-out form, one byte after another) are two computations. They share the reader and

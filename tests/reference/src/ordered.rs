@@ -1,8 +1,8 @@
 //! The one ordered list that a list of rules and a stream define, straight from the definition:
 //! each pair of rule and end offset stands at the first moment, from its last byte on, at which
 //! some start matches with every assertion known to hold; pairs stand by moment, then end offset,
-//! then rising id; of a single-match rule only the first stays. No call, table or state is looked
-//! at here.
+//! then rising id; of a single-match rule only the first of this list stays, which need not be its
+//! smallest offset. No call, table or state is looked at here.
 
 use crate::known::Known;
 use crate::meaning::ends;

@@ -2,7 +2,7 @@
 //! writes. Lines of rules: a decimal id, a space, decimal flags, a space, the pattern.
 
 use crate::calls::Table;
-use crate::refusal::{MAX_RULES, TABLE_WORDS};
+use crate::refusal::{least_space, MAX_RULES, TABLE_WORDS};
 
 /// At most this many bytes of rules are read.
 pub const MAX_RULES_FILE: usize = 16_384;
@@ -26,7 +26,8 @@ pub fn run(rules: &[u8], input: &[u8]) -> Vec<u8> {
         out.push_str(&format!("rule {} refused {number} at {place}\n", index + 1));
     }
     let (_, mut stream) = table.open();
-    let (mut ids, mut offsets) = ([0; MAX_RULES], [0; MAX_RULES]);
+    let space = least_space(MAX_RULES);
+    let (mut ids, mut offsets) = (vec![0; space], vec![0; space]);
     let mut rest = input;
     loop {
         let answer = if rest.is_empty() {

@@ -143,7 +143,7 @@ impl Reader<'_> {
             }
             b'.' => self.push(Node::Item(ByteSet::not_newline()), Before::Item, at + 1),
             b'^' => self.push(Node::Assert(Assertion::Start), Before::Nothing, at + 1),
-            b'$' => self.push(Node::Assert(Assertion::End), Before::Nothing, at + 1),
+            b'$' => self.push(Node::Assert(Assertion::LastLine), Before::Nothing, at + 1),
             _ => return self.byte(),
         }
         Ok(Token::Whole)

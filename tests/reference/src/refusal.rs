@@ -23,6 +23,11 @@ pub const MAX_POSITIONS: usize = 256;
 pub const MAX_REPEAT: u32 = 65_535;
 pub const MAX_STREAM: u64 = 1_099_511_627_775;
 
+/// The least report space for so many rules: a closing may report each of them at two offsets.
+pub fn least_space(rules: usize) -> usize {
+    2 * rules
+}
+
 /// Flags of a rule.
 pub const CASELESS: u32 = 1;
 pub const DOT_ALL: u32 = 2;

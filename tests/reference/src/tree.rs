@@ -8,7 +8,9 @@ use crate::refusal::MAX_POSITIONS;
 pub enum Assertion {
     /// `^` and `\A`: offset 0.
     Start,
-    /// `$` and `\z`: the very end of the stream.
+    /// `$` and `\Z`: the end of the stream, and just before a newline that is its last byte.
+    LastLine,
+    /// `\z`: the very end of the stream.
     End,
 }
 

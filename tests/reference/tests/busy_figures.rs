@@ -18,11 +18,12 @@ fn figures(flags: u32, pattern: &str, log: &str, wanted: &[usize]) {
     let (_, mut stream) = table.open();
     let mut shown = vec![stream.busy()];
     for byte in log {
-        stream = stream.scan(&table, &[*byte], &mut [0], &mut [0]).stream;
+        stream = stream.scan(&table, &[*byte], &mut [0; 2], &mut [0; 2]).stream;
         shown.push(stream.busy());
     }
     assert_eq!(shown, wanted, "{pattern} by the state");
-    let closed = stream.clone().close(&table, &mut [0], &mut [0]);
+    let closed = stream.clone().close(&table, &mut [0; 2], &mut [0; 2]);
+    assert_eq!(closed.number, 0);
     assert_eq!(closed.stream.busy(), stream.busy(), "closing leaves the figure");
 }
 
@@ -54,6 +55,14 @@ fn equal_positions_are_counted_apart() {
 fn what_needs_the_end_first_is_never_live() {
     figures(0, "a$b", "ab", &[0, 1, 0]);
     figures(0, "a\\zb|c", "abc", &[0, 1, 0, 1]);
+}
+
+#[test]
+fn what_waits_for_the_last_line_is_not_live() {
+    figures(0, "a$\\n", "a\na\n", &[0, 1, 0, 1, 0]);
+    figures(0, "$\\n", "\n\n", &[0, 0, 0]);
+    figures(0, "a\\Z\\n|a\\n", "a\n", &[0, 2, 1]);
+    figures(0, "(?:xa$)?\\n$", "xa\n", &[0, 1, 1, 1]);
 }
 
 #[test]

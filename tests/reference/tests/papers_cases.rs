@@ -86,7 +86,30 @@ fn braces() {
 fn the_very_end() {
     finds(0, "a\\z", &["aa"], &[], &[2]);
     finds(0, "a|a\\z", &["aa"], &[1, 2], &[]);
-    finds(0, "a$", &["a\n"], &[], &[]);
+}
+
+#[test]
+fn before_a_last_newline() {
+    finds(0, "a$", &["a\n"], &[], &[1]);
+    finds(0, "a\\Z", &["a\n"], &[], &[1]);
+    finds(0, "a\\z", &["a\n"], &[], &[]);
+    finds(0, "a$", &["a\n", "\n"], &[], &[]);
+    finds(0, "\\n$", &["\n\n"], &[], &[1, 2]);
+}
+
+#[test]
+fn a_dollar_inside_a_match() {
+    finds(0, "a$\\n", &["a\na\n"], &[], &[4]);
+    finds(0, "a\\Z\\n", &["a\na\n"], &[], &[4]);
+    finds(0, "$\\n", &["\n\n"], &[], &[2]);
+    finds(0, "(?:xa$)?\\n$", &["xa\n"], &[], &[3]);
+}
+
+#[test]
+fn single_match_is_the_first_delivered() {
+    finds(8, "(a|a\\n)$", &["a\n"], &[], &[1]);
+    finds(8, "a$|a\\n", &["a\n"], &[2], &[]);
+    finds(0, "a$|a\\n", &["a\n"], &[2], &[1]);
 }
 
 #[test]
@@ -116,6 +139,9 @@ fn refusals_with_places() {
         ("X{,4}", 15, 5),
         ("", 15, 0),
         ("a**", 10, 2),
+        ("\\Z", 15, 2),
+        ("\\Z*", 10, 2),
+        ("[\\Z]", 14, 1),
     ] {
         assert_eq!(answer(&[], pattern), (number, place), "{pattern}");
     }

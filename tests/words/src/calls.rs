@@ -1,4 +1,4 @@
-//! The calls over lent words, as the library has them: a state is nine words that the caller owns.
+//! The calls over lent words, as the library has them: a state is fourteen words that the caller owns.
 
 /// What a scan or a closing answers besides the words it leaves; a closing takes no bytes.
 #[derive(Clone, Copy, Debug, PartialEq, Eq)]

@@ -8,16 +8,20 @@ use reference::{reader, written};
 
 use crate::layout::*;
 
-/// Which assertions hold at a gap.
+/// Which assertions hold at a gap: is it the stream's start, an end of its last line, its end?
 #[derive(Clone, Copy)]
 struct World {
     start: bool,
+    line: bool,
     end: bool,
 }
 
-const INSIDE: World = World { start: false, end: false };
-const AT_START: World = World { start: true, end: false };
-const AT_END: World = World { start: false, end: true };
+const INSIDE: World = World { start: false, line: false, end: false };
+const AT_START: World = World { start: true, ..INSIDE };
+const AT_LINE: World = World { line: true, ..INSIDE };
+const AT_LINE_AND_START: World = World { start: true, ..AT_LINE };
+/// The last line ends where the stream ends.
+const AT_END: World = World { end: true, ..AT_LINE };
 
 /// Adds a rule to words that are a table. The number and the place.
 pub fn add(words: &mut [u64], id: u32, flags: u32, pattern: &[u8]) -> (u32, usize) {
@@ -52,19 +56,25 @@ pub fn add(words: &mut [u64], id: u32, flags: u32, pattern: &[u8]) -> (u32, usiz
 fn write(words: &mut [u64], id: u32, flags: u32, form: &Form, from: usize, to: usize) {
     let rules = words[RULES] as usize;
     keep_old(words);
-    (from..to).for_each(|p| words[follow(p)..follow(p) + 4].fill(0));
+    for row in (from..to).flat_map(|p| [follow(p), line_follow(p)]) {
+        words[row..row + 4].fill(0);
+    }
     let place = (0..rules).filter(|&a| words[record(a) + ID] < u64::from(id)).count();
     words.copy_within(record(place)..record(rules), record(place + 1));
     let at = record(place);
     words[at..at + RECORD_WORDS].fill(0);
     words[at + ID] = u64::from(id);
     words[at + FLAGS] = u64::from(flags);
-    words[at + FROM] = from as u64;
-    words[at + TO] = to as u64;
-    for (set, world) in [(at + LAST, INSIDE), (at + LAST_AT_END, AT_END)] {
-        lasts(form, world).into_iter().for_each(|p| put(words, set, from + p));
+    words[at + SPAN] = span(from as u64, to as u64);
+    for (set, world) in [(LAST, INSIDE), (LAST_AT_END, AT_END), (LINE_LAST, AT_LINE)] {
+        lasts(form, world).into_iter().for_each(|p| put(words, at + set, from + p));
     }
-    for (set, world) in [(FIRST, INSIDE), (FIRST_AT_START, AT_START)] {
+    for (set, world) in [
+        (FIRST, INSIDE),
+        (FIRST_AT_START, AT_START),
+        (LINE_FIRST, AT_LINE),
+        (LINE_FIRST_AT_START, AT_LINE_AND_START),
+    ] {
         firsts(form, world).into_iter().for_each(|p| put(words, set, from + p));
     }
     inner(words, form, from);
@@ -76,11 +86,12 @@ fn write(words: &mut [u64], id: u32, flags: u32, form: &Form, from: usize, to: u
 /// was built by additions has no such members, but damaged words may.
 fn keep_old(words: &mut [u64]) {
     let positions = words[POSITIONS] as usize;
-    let records =
-        (0..words[RULES] as usize).flat_map(|a| [record(a) + LAST, record(a) + LAST_AT_END]);
-    let follows = (0..positions).map(follow);
+    let firsts = FIRSTS.step_by(4);
+    let records = (0..words[RULES] as usize)
+        .flat_map(|a| [LAST, LAST_AT_END, LINE_LAST].map(|set| record(a) + set));
+    let follows = (0..positions).flat_map(|p| [follow(p), line_follow(p)]);
     let bytes = (0..=255u8).map(takers);
-    for at in [FIRST, FIRST_AT_START].into_iter().chain(records).chain(follows).chain(bytes) {
+    for at in firsts.chain(records).chain(follows).chain(bytes) {
         for i in 0..4 {
             words[at + i] &= match positions.saturating_sub(64 * i) {
                 there @ 0..=63 => (1 << there) - 1,
@@ -95,6 +106,7 @@ fn null(form: &Form, world: World) -> bool {
     match form {
         Form::Position(..) => false,
         Form::Assert(Assertion::Start) => world.start,
+        Form::Assert(Assertion::LastLine) => world.line,
         Form::Assert(Assertion::End) => world.end,
         Form::Sequence(parts) => parts.iter().all(|part| null(part, world)),
         Form::Choice(branches) => branches.iter().any(|branch| null(branch, world)),
@@ -151,20 +163,26 @@ fn inner(words: &mut [u64], form: &Form, from: usize) {
         Form::Optional(of) => inner(words, of, from),
         Form::Plus(of) => {
             inner(words, of, from);
-            link(words, from, &lasts(of, INSIDE), &firsts(of, INSIDE));
+            link(words, from, of, of);
         }
         Form::Sequence(parts) => {
             for (index, part) in parts.iter().enumerate() {
                 inner(words, part, from);
                 let rest = Form::Sequence(parts[index + 1..].to_vec());
-                link(words, from, &lasts(part, INSIDE), &firsts(&rest, INSIDE));
+                link(words, from, part, &rest);
             }
         }
     }
 }
 
-fn link(words: &mut [u64], from: usize, lasts: &[usize], firsts: &[usize]) {
-    for &last in lasts {
-        firsts.iter().for_each(|&first| put(words, follow(from + last), from + first));
+/// Writes which positions of the second part follow which of the first, the gap between them inside
+/// the stream, an end of the last line or not.
+fn link(words: &mut [u64], from: usize, part: &Form, next: &Form) {
+    let rows: [(fn(usize) -> usize, World); 2] = [(follow, INSIDE), (line_follow, AT_LINE)];
+    for (row, world) in rows {
+        let firsts = firsts(next, world);
+        for last in lasts(part, world) {
+            firsts.iter().for_each(|&first| put(words, row(from + last), from + first));
+        }
     }
 }

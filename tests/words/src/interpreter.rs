@@ -23,18 +23,29 @@ impl Table<'_> {
         self.0[record(place) + FLAGS] & SINGLE_MATCH != 0
     }
 
-    /// Has the rule a live position in the set at this word of its record?
-    fn ends(&self, live: &[u64], place: usize, set: usize) -> bool {
-        (0..MAX_POSITIONS).any(|p| has(live, 0, p) && has(self.0, record(place) + set, p))
+    /// Has the rule a position of this set in the set at this word of its record?
+    fn ends(&self, positions: &[u64], place: usize, set: usize) -> bool {
+        (0..MAX_POSITIONS).any(|p| has(positions, 0, p) && has(self.0, record(place) + set, p))
     }
 
-    /// The live set after one more byte.
-    fn next_live(&self, live: &[u64], taken: u64, byte: u8) -> [u64; 4] {
-        let first = if taken == 0 { FIRST_AT_START } else { FIRST };
+    /// The rules, as a word, that pass a test.
+    fn rules_where(&self, test: impl Fn(usize) -> bool) -> u64 {
+        (0..self.rules()).filter(|&a| test(a)).fold(0, |word, a| word | 1 << a)
+    }
+
+    /// The positions that one more byte leads to, by the sets for the last line or the others.
+    fn reached(&self, live: &[u64], taken: u64, byte: u8, line: bool) -> [u64; 4] {
+        let first = match (line, taken) {
+            (false, 0) => FIRST_AT_START,
+            (false, _) => FIRST,
+            (true, 0) => LINE_FIRST_AT_START,
+            (true, _) => LINE_FIRST,
+        };
+        let row = if line { line_follow } else { follow };
         let mut next = [0; 4];
         for q in 0..self.positions() {
             let reached = has(self.0, first, q)
-                || (0..MAX_POSITIONS).any(|p| has(live, 0, p) && has(self.0, follow(p), q));
+                || (0..MAX_POSITIONS).any(|p| has(live, 0, p) && has(self.0, row(p), q));
             if reached && has(self.0, takers(byte), q) {
                 put(&mut next, 0, q);
             }
@@ -42,31 +53,60 @@ impl Table<'_> {
         next
     }
 
+    /// What is held after one more byte, which may be the last: positions, and pairs at the offset
+    /// before it.
+    fn held(&self, live: &[u64], taken: u64, byte: u8) -> ([u64; 4], u64) {
+        if byte != b'\n' {
+            return ([0; 4], 0);
+        }
+        let waits = |a| self.ends(live, a, LINE_LAST) && !self.ends(live, a, LAST);
+        let pairs = if taken == 0 { 0 } else { self.rules_where(waits) };
+        (self.reached(live, taken, byte, true), pairs)
+    }
+
+    /// The rules, as a word, with a pair at the stream's end that needs it.
+    fn ends_at_end(&self, state: &[u64]) -> u64 {
+        let mut positions = [0; 4];
+        for p in (0..MAX_POSITIONS).filter(|&p| has(state, 0, p) || has(state, HELD, p)) {
+            put(&mut positions, 0, p);
+        }
+        self.rules_where(|a| self.ends(&positions, a, LAST_AT_END) && !self.ends(state, a, LAST))
+    }
+
     /// Is the state valid for this table?
     fn fits(&self, state: &[u64]) -> bool {
         state[STATE_RULES] == self.0[RULES]
             && state[STATE_POSITIONS] == self.0[POSITIONS]
-            && (self.positions()..MAX_POSITIONS).all(|p| !has(state, 0, p))
+            && (self.positions()..MAX_POSITIONS).all(|p| !has(state, 0, p) && !has(state, HELD, p))
+            && (0..64).all(|a| state[PENDING] >> a & 1 == 0 || a < self.rules())
+            && (state[PENDING] == 0 || state[TAKEN] >= 2)
             && (0..64).all(|a| state[MARKS] >> a & 1 == 0 || (a < self.rules() && self.single(a)))
             && state[TAKEN] <= MAX_STREAM
     }
 
-    /// Writes a report for each of these rules at the front of the free slots, if all fit.
+    /// One run: a report for each of these rules that has no mark, at the front of the free slots, and
+    /// its mark if it is single-match; nothing if they do not all fit.
     fn report(
         &self,
-        found: &[usize],
+        found: u64,
         end: u64,
+        marks: &mut u64,
         ids: &mut [u32],
         offsets: &mut [u64],
         count: &mut usize,
     ) -> bool {
-        if *count + found.len() > ids.len().min(offsets.len()) {
+        let due: Vec<usize> =
+            (0..self.rules()).filter(|a| found >> a & 1 == 1 && *marks >> a & 1 == 0).collect();
+        if *count + due.len() > ids.len().min(offsets.len()) {
             return false;
         }
-        for &place in found {
+        for place in due {
             ids[*count] = self.0[record(place) + ID] as u32;
             offsets[*count] = end;
             *count += 1;
+            if self.single(place) {
+                *marks |= 1 << place;
+            }
         }
         true
     }
@@ -83,7 +123,7 @@ fn table(words: &[u64]) -> Option<Table<'_>> {
     let mut before: Option<u64> = None;
     for place in 0..words[RULES] as usize {
         let of = &words[record(place)..];
-        let (id, flags, from, to) = (of[ID], of[FLAGS], of[FROM], of[TO]);
+        let (id, flags, (from, to)) = (of[ID], of[FLAGS], from_to(of[SPAN]));
         let rises = before.map_or(true, |before| before < id);
         let known = flags & !KNOWN_FLAGS == 0;
         if id >> 32 != 0 || !rises || !known || from > to || to > words[POSITIONS] {
@@ -114,7 +154,7 @@ fn checked<'w>(
     if block as u64 > MAX_STREAM - state[TAKEN] {
         return Err(21);
     }
-    if space < table.rules() {
+    if space < 2 * table.rules() {
         return Err(20);
     }
     Ok(table)
@@ -178,19 +218,17 @@ impl Calls for Interpreter {
         let mut count = 0;
         let mut taken = 0;
         for &byte in block {
-            let live = table.next_live(&state[..4], state[TAKEN], byte);
-            let ending: Vec<usize> =
-                (0..table.rules()).filter(|&a| table.ends(&live, a, LAST)).collect();
-            let due: Vec<usize> =
-                ending.iter().copied().filter(|a| state[MARKS] >> a & 1 == 0).collect();
-            if !table.report(&due, state[TAKEN] + 1, ids, offsets, &mut count) {
+            let live = table.reached(&state[..4], state[TAKEN], byte, false);
+            let ending = table.rules_where(|a| table.ends(&live, a, LAST));
+            let end = state[TAKEN] + 1;
+            if !table.report(ending, end, &mut state[MARKS], ids, offsets, &mut count) {
                 break;
             }
-            for a in due.into_iter().filter(|&a| table.single(a)) {
-                state[MARKS] |= 1 << a;
-            }
+            let (held, pairs) = table.held(&state[..4], state[TAKEN], byte);
             state[..4].copy_from_slice(&live);
-            state[TAKEN] += 1;
+            state[HELD..HELD + 4].copy_from_slice(&held);
+            state[PENDING] = pairs;
+            state[TAKEN] = end;
             taken += 1;
         }
         Answer { number: 0, taken, count }
@@ -207,13 +245,16 @@ impl Calls for Interpreter {
             Ok(table) => table,
             Err(number) => return refused(number),
         };
-        let live = &state[..4];
-        let found: Vec<usize> = (0..table.rules())
-            .filter(|&a| table.ends(live, a, LAST_AT_END) && !table.ends(live, a, LAST))
-            .filter(|&a| state[MARKS] >> a & 1 == 0)
-            .collect();
+        let runs = [
+            (state[PENDING], state[TAKEN].saturating_sub(1)),
+            (table.ends_at_end(state), state[TAKEN]),
+        ];
+        // The marks of the first run count in the second, and are not kept.
+        let mut marks = state[MARKS];
         let mut count = 0;
-        table.report(&found, state[TAKEN], ids, offsets, &mut count);
+        for (found, end) in runs {
+            table.report(found, end, &mut marks, ids, offsets, &mut count);
+        }
         state[CLOSED] = 1;
         Answer { number: 0, taken: 0, count }
     }

@@ -43,6 +43,9 @@ enum-told-3 c = search needs
 enum-told-4 : tie.Need-enum-told-4
 enum-told-4 c = search needs
 
+enum-told-5 : tie.Need-enum-told-5
+enum-told-5 c = search needs
+
 returns : tie.Need-returns
 unfolding joined
 returns c =
@@ -77,9 +80,13 @@ returns-7 : tie.Need-returns-7
 unfolding joined
 returns-7 c = rw (c .enum-told4 .given .1)
 
+returns-8 : tie.Need-returns-8
+unfolding joined
+returns-8 c = rw (c .enum-told5 .given .1)
+
 pub join-spec : {M : Type 1} → statement M
 join-spec =
     tie.close
     (tie.spec enum-known-low byte-of-requires insert-range-requires enum-known-low-2 of-kind-requires union-requires enum-known-low-3
-    not-of-kind-requires union-requires-2 enum-told enum-told-2 enum-told-3 enum-told-4 returns returns-2 returns-3 returns-4 returns-5 returns-6
-    returns-7)
+    not-of-kind-requires union-requires-2 enum-told enum-told-2 enum-told-3 enum-told-4 enum-told-5 returns returns-2 returns-3 returns-4
+    returns-5 returns-6 returns-7 returns-8)

@@ -14,20 +14,20 @@ slice-read-n c = omega arith
 add-record-of : tie.Need-add-record-of
 add-record-of c = omega arith
 
+mul-record-of : tie.Need-mul-record-of
+mul-record-of c = omega arith
+
+add-record-of-2 : tie.Need-add-record-of-2
+add-record-of-2 c = omega arith
+
 record-of-requires : tie.Need-record-of-requires
 record-of-requires c κs = tt
 
 put-record-requires : tie.Need-put-record-requires
 put-record-requires c κs = omega arith
 
-put-starts-requires : tie.Need-put-starts-requires
-put-starts-requires c κs = omega arith
-
-put-follow-requires : tie.Need-put-follow-requires
-put-follow-requires c κs = omega arith
-
-put-takers-requires : tie.Need-put-takers-requires
-put-takers-requires c κs = omega arith
+put-parts-requires : tie.Need-put-parts-requires
+put-parts-requires c κs = omega arith
 
 add-put-counts : tie.Need-add-put-counts
 add-put-counts c = omega arith
@@ -43,18 +43,16 @@ same-length c = omega arith
 
 returns : tie.Need-returns
 returns c =
-    let c-start = c .before .before .before .before .before .before .before .before .before .before .before .before .before .before .before .before .before .before .before .before .before .before .before .before .before .before .before .before .before .before .before .before in
-    let c-record-of = c .before .before .before .before .before .before .before .before .before .before .before .before .before .before .before .before .before .before .before .before .before .before .before .before .before .before .record-of in
-    let c-put-record = c .before .before .before .before .before .before .before .before .before .before .before .before .before .before .before .before .before .before .before .before .before .before .before .before .put-record in
-    let c-put-starts = c .before .before .before .before .before .before .before .before .before .before .before .before .before .before .before .before .before .before .put-starts in
-    let c-put-follow = c .before .before .before .before .before .before .before .before .before .before .before .before .put-follow in
-    let c-put-takers = c .before .before .before .before .before .before .put-takers in
+    let c-start = c .before .before .before .before .before .before .before .before .before .before .before .before .before .before .before .before .before .before .before in
+    let c-record-of = c .before .before .before .before .before .before .before .before .before .before .before .before .record-of in
+    let c-put-record = c .before .before .before .before .before .before .before .before .before .before .put-record in
+    let c-put-parts = c .before .before .before .before .before .before .put-parts in
     let c-put-counts = c .before .before .put-counts in
     let a = c-start .args in
     let p = c-start .pre in
     added-is (now (a .words)) (a .id) (a .flags) (a .parts) (p .0) (p .1) (p .2)
-    (c-record-of .result) (c-put-record .last .0) (c-put-starts .last .0) (c-put-follow .last .0) (c-put-takers .last .0) (c-put-counts .last .0)
-    (c-record-of .ensures) (c-put-record .ensures) (c-put-starts .ensures) (c-put-follow .ensures) (c-put-takers .ensures) (c-put-counts .ensures)
+    (c-record-of .result) (c-put-record .last .0) (c-put-parts .last .0) (c-put-counts .last .0)
+    (c-record-of .ensures) (c-put-record .ensures) (c-put-parts .ensures) (c-put-counts .ensures)
 
 pub add-rule-spec : {M : Type 1} → statement M
 add-rule-spec =
@@ -63,11 +61,11 @@ add-rule-spec =
     slice-read-rules
     slice-read-n
     add-record-of
+    mul-record-of
+    add-record-of-2
     record-of-requires
     put-record-requires
-    put-starts-requires
-    put-follow-requires
-    put-takers-requires
+    put-parts-requires
     add-put-counts
     add-put-counts-2
     put-counts-requires

@@ -4,12 +4,13 @@ use Prim.Native.Nat.{ℕ, _+_, _-_, _≤_}
 use native.Mathlib.Omega.{arith}
 use denote.Ref.{now}
 use lib.ListN.{getD}
+use Rattle.table.specs.Layout.{stride}
 use Rattle.table.proofs.Over.{Written, written-none, written-down, written-below, written-all-down}
 use Rattle.rules.proofs.write.move_up.Statement.{statement}
 use Rattle.rules.proofs.write.move_up.Tie as tie
 
 abbrev Inv-loop : tie.InvT-loop
-Inv-loop words₀ at n i₀ words i = (i ≤ n) × Written (at + 16 + i) (at + 16 + n) (λ w. getD words₀ (w - 16) 0) words₀ words
+Inv-loop words₀ at n i₀ words i = (i ≤ n) × Written (at + stride + i) (at + stride + n) (λ w. getD words₀ (w - stride) 0) words₀ words
 
 abbrev μ-loop : tie.MeasureT-loop
 μ-loop words₀ at n i₀ words i = i
@@ -51,7 +52,7 @@ loop-again c =
     let t = now (c-start .args .words) in
     let at = c-start .args .at in
     let i = c-loop .i in
-    let e : at + (i - 1) ≡ at + 16 + (i - 1) - 16 = omega arith in
+    let e : at + (i - 1) ≡ at + stride + (i - 1) - stride = omega arith in
     (omega arith, written-down (c-loop .inv .1) (omega arith) (omega arith) (omega arith) (written-below (c-loop .inv .1) (at + (i - 1)) (omega arith) ∙ ap (λ (k : ℕ). getD t k 0) e))
 
 same-length : tie.Need-same-length Inv-loop μ-loop
@@ -61,7 +62,7 @@ returns : tie.Need-returns Inv-loop μ-loop
 returns c =
     let c-start = c .before .before in
     let c-loop = c .before .loop in
-    let e : c-start .args .at + 16 + c-loop .i ≡ c-start .args .at + 16 = omega arith in written-all-down (c-loop .inv .1) e
+    let e : c-start .args .at + stride + c-loop .i ≡ c-start .args .at + stride = omega arith in written-all-down (c-loop .inv .1) e
 
 pub move-up-spec : {M : Type 1} → statement M
 move-up-spec =

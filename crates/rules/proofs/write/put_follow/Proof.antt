@@ -1,9 +1,8 @@
 -- `rules::write::put_follow` meets its contract: the old rows are masked, and the new ones copied after them.
 use mathlib.Core.Path.{ap, _∙_}
-use Prim.Native.Nat.{_*_}
+use Prim.Native.Nat.{_+_, _*_}
 use native.Mathlib.Omega.{arith}
 use denote.Ref.{now}
-use Rattle.table.specs.Layout.{followAt}
 use Rattle.table.proofs.Writes.{copied}
 use Rattle.rules.specs.Invariants.{followPut}
 use Rattle.rules.proofs.write.put_follow.Statement.{statement}
@@ -33,7 +32,7 @@ returns c =
     let c-put-words = c .before .before .put-words in
     let c-start = c .before .before .before .before .before .before .before .before .before .before in
     let c-mask-rows = c .before .before .before .before .before .before .before .mask-rows in
-    c-put-words .ensures ∙ ap (copied (followAt (c-start .args .n)) (c-start .args .more * 4) (now (c-start .args .follow))) (c-mask-rows .ensures)
+    c-put-words .ensures ∙ ap (copied (c-start .args .at + c-start .args .n * 4) (c-start .args .more * 4) (now (c-start .args .follow))) (c-mask-rows .ensures)
 
 pub put-follow-spec : {M : Type 1} → statement M
 put-follow-spec =

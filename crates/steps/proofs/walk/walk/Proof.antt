@@ -22,7 +22,7 @@ array-read-walk-word c = lit< tt
 walk-word-requires : tie.Need-walk-word-requires
 walk-word-requires c κs =
     let c-start = c .before in
-    (c-start .pre, lit≤ tt)
+    (c-start .pre .0, lit≤ tt, c-start .pre .1)
 
 array-read-walk-word-2 : tie.Need-array-read-walk-word-2
 array-read-walk-word-2 c = lit< tt
@@ -30,7 +30,7 @@ array-read-walk-word-2 c = lit< tt
 walk-word-requires-2 : tie.Need-walk-word-requires-2
 walk-word-requires-2 c κs =
     let c-start = c .before .before .before in
-    (c-start .pre, lit≤ tt)
+    (c-start .pre .0, lit≤ tt, c-start .pre .1)
 
 array-read-walk-word-3 : tie.Need-array-read-walk-word-3
 array-read-walk-word-3 c = lit< tt
@@ -38,7 +38,7 @@ array-read-walk-word-3 c = lit< tt
 walk-word-requires-3 : tie.Need-walk-word-requires-3
 walk-word-requires-3 c κs =
     let c-start = c .before .before .before .before .before in
-    (c-start .pre, lit≤ tt)
+    (c-start .pre .0, lit≤ tt, c-start .pre .1)
 
 array-read-walk-word-4 : tie.Need-array-read-walk-word-4
 array-read-walk-word-4 c = lit< tt
@@ -46,18 +46,18 @@ array-read-walk-word-4 c = lit< tt
 walk-word-requires-4 : tie.Need-walk-word-requires-4
 walk-word-requires-4 c κs =
     let c-start = c .before .before .before .before .before .before .before in
-    (c-start .pre, lit≤ tt)
+    (c-start .pre .0, lit≤ tt, c-start .pre .1)
 
-add-t22 : tie.Need-add-t22
-add-t22 c =
+add-t23 : tie.Need-add-t23
+add-t23 c =
     let c-start = c .before .before .before .before .before .before .before .before .before .before .before in
     let c-walk-word = c .before .before .before .before .before .before .before .before .before .walk-word in
     let c-walk-word2 = c .before .before .before .before .before .before .before .walk-word2 in
     let own = words-good (c-start .args .t1) _ (c-start .good .0) in
     two-turns (c-walk-word .result .turns) (c-walk-word2 .result .turns) (turns own 0 (lit< tt) (c-walk-word .ensures .0)) (turns own 1 (lit< tt) (c-walk-word2 .ensures .0))
 
-add-t23 : tie.Need-add-t23
-add-t23 c =
+add-t24 : tie.Need-add-t24
+add-t24 c =
     let c-start = c .before .before .before .before .before .before .before .before .before .before .before .before in
     let c-walk-word = c .before .before .before .before .before .before .before .before .before .before .walk-word in
     let c-walk-word2 = c .before .before .before .before .before .before .before .before .walk-word2 in
@@ -65,8 +65,8 @@ add-t23 c =
     let own = words-good (c-start .args .t1) _ (c-start .good .0) in
     three-turns (c-walk-word .result .turns) (c-walk-word2 .result .turns) (c-walk-word3 .result .turns) (turns own 0 (lit< tt) (c-walk-word .ensures .0)) (turns own 1 (lit< tt) (c-walk-word2 .ensures .0)) (turns own 2 (lit< tt) (c-walk-word3 .ensures .0))
 
-add-t24 : tie.Need-add-t24
-add-t24 c =
+add-t25 : tie.Need-add-t25
+add-t25 c =
     let c-start = c .before .before .before .before .before .before .before .before .before .before .before .before .before in
     let c-walk-word = c .before .before .before .before .before .before .before .before .before .before .before .walk-word in
     let c-walk-word2 = c .before .before .before .before .before .before .before .before .before .walk-word2 in
@@ -87,7 +87,7 @@ returns c =
     let own = words-good live _ (c-start .good .0) in (
       turns-all live own (c-walk-word .result .turns) (c-walk-word2 .result .turns) (c-walk-word3 .result .turns) (c-walk-word4 .result .turns)
           (c-walk-word .ensures .0) (c-walk-word2 .ensures .0) (c-walk-word3 .ensures .0) (c-walk-word4 .ensures .0),
-      walked-all (now (c-start .args .words)) live from (c-walk-word .result .set) (c-walk-word2 .result .set) (c-walk-word3 .result .set) (c-walk-word4 .result .set) own (words-good from _ (c-start .good .1 .0))
+      walked-all (now (c-start .args .words)) (c-start .args .rows) live from (c-walk-word .result .set) (c-walk-word2 .result .set) (c-walk-word3 .result .set) (c-walk-word4 .result .set) own (words-good from _ (c-start .good .1 .0))
           (c-walk-word .ensures .1) (c-walk-word2 .ensures .1) (c-walk-word3 .ensures .1) (c-walk-word4 .ensures .1),
     )
 
@@ -103,7 +103,7 @@ walk-spec =
     walk-word-requires-3
     array-read-walk-word-4
     walk-word-requires-4
-    add-t22
     add-t23
     add-t24
+    add-t25
     returns)

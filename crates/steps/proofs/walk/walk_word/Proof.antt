@@ -13,7 +13,7 @@ use lib.ListN.{length}
 use mir.Syntax.{w32, w64}
 use mir.Val.{Fits}
 use Rattle.sets.specs.Set.{setOf, unionOf}
-use Rattle.table.specs.Layout.{tableWords, followAt, rowHas}
+use Rattle.table.specs.Layout.{tableWords, rowHas}
 use Rattle.steps.specs.Walk.{left}
 use Rattle.steps.specs.Invariants.{joined}
 use Rattle.steps.proofs.Asked.{goes-on, ends-with, few}
@@ -22,10 +22,10 @@ use Rattle.steps.proofs.walk.walk_word.Statement.{statement}
 use Rattle.steps.proofs.walk.walk_word.Tie as tie
 
 abbrev Inv-loop : tie.InvT-loop
-Inv-loop word₀ base set₀ words turns₀ word set turns = (turns ≤ ones word₀) × (word ≡ left word₀ turns) × (set ≡ joined words word₀ base set₀ turns)
+Inv-loop word₀ base set₀ rows words turns₀ word set turns = (turns ≤ ones word₀) × (word ≡ left word₀ turns) × (set ≡ joined words rows word₀ base set₀ turns)
 
 abbrev μ-loop : tie.MeasureT-loop
-μ-loop word₀ base set₀ words turns₀ word set turns = ones word₀ - turns
+μ-loop word₀ base set₀ rows words turns₀ word set turns = ones word₀ - turns
 
 loop-holds : tie.Need-loop-holds Inv-loop μ-loop
 unfolding left joined
@@ -41,12 +41,12 @@ left-turn : (word n l : ℕ) → l ≡ left word n → bitAnd l (l - 1) ≡ left
 unfolding left
 left-turn word n l e = ap (λ (x : ℕ). bitAnd x (x - 1)) e ∙ ap (left word) (sym (add-one n))
 
-joined-turn : (t from set : List ℕ) (word base n l : ℕ) → l ≡ left word n → set ≡ joined t word base from n
-    → unionOf set (setOf (rowHas t (followAt (base + trailingZeros 64 l)))) ≡ joined t word base from (n + 1)
+joined-turn : (t from set : List ℕ) (rows word base n l : ℕ) → l ≡ left word n → set ≡ joined t rows word base from n
+    → unionOf set (setOf (rowHas t (rows + (base + trailingZeros 64 l) * 4))) ≡ joined t rows word base from (n + 1)
 unfolding joined
-joined-turn t from set word base n l e h =
-    ap₂ (λ (s : List ℕ) (x : ℕ). unionOf s (setOf (rowHas t (followAt (base + trailingZeros 64 x))))) h e
-    ∙ ap (joined t word base from) (sym (add-one n))
+joined-turn t from set rows word base n l e h =
+    ap₂ (λ (s : List ℕ) (x : ℕ). unionOf s (setOf (rowHas t (rows + (base + trailingZeros 64 x) * 4)))) h e
+    ∙ ap (joined t rows word base from) (sym (add-one n))
 
 -- the position asked, and the place of what follows it
 module _ (base z : ℕ) (h : base ≤ 192) (l : z < 64) where
@@ -56,11 +56,11 @@ module _ (base z : ℕ) (h : base ≤ 192) (l : z < 64) where
   row-words-fit : Fits w64 ((base + z) * 4)
   row-words-fit = record { fits = omega arith }
 
-  row-fits : Fits w64 (followAt (base + z))
-  row-fits = record { fits = omega arith }
+  row-fits : (rows : ℕ) → rows ≤ 3072 → Fits w64 (rows + (base + z) * 4)
+  row-fits rows g = record { fits = omega arith }
 
-  row-inside : (n : ℕ) → tableWords ≤ n → followAt (base + z) + 4 ≤ n
-  row-inside n m = omega arith
+  row-inside : (rows n : ℕ) → rows ≤ 3072 → tableWords ≤ n → rows + (base + z) * 4 + 4 ≤ n
+  row-inside rows n g m = omega arith
 
 digit-fits : (z : ℕ) → z < 64 → Fits w64 z
 digit-fits z h = record { fits = omega arith }
@@ -85,7 +85,7 @@ loop-again c =
       up (l .turns) (ones (a .word)) (t .0),
       left-turn (a .word) (l .turns) (l .word) (l .inv .1),
       c-union .ensures ∙ ap (unionOf (l .set)) (c-row .ensures)
-          ∙ joined-turn w (a .set) (l .set) (a .word) (a .base) (l .turns) (l .word) (l .inv .1) (l .inv .2),
+          ∙ joined-turn w (a .set) (l .set) (a .rows) (a .word) (a .base) (l .turns) (l .word) (l .inv .1) (l .inv .2),
     )
 
 cast-p : tie.Need-cast-p Inv-loop μ-loop
@@ -114,14 +114,14 @@ add-row c =
     let c-start = c .before .before .before in
     let c-loop = c .before .loop in
     let c-loop-test = c .loop-test in
-    row-fits (c-start .args .base) (trailingZeros 64 (c-loop .word)) (c-start .pre .1) (turn (c-start .args .word) (c-loop .turns) (c-loop .word) (c-start .fits .word .fits) (c-loop .inv .0) (c-loop .inv .1) (c-loop-test .taken) .1)
+    row-fits (c-start .args .base) (trailingZeros 64 (c-loop .word)) (c-start .pre .1) (turn (c-start .args .word) (c-loop .turns) (c-loop .word) (c-start .fits .word .fits) (c-loop .inv .0) (c-loop .inv .1) (c-loop-test .taken) .1) (c-start .args .rows) (c-start .pre .2)
 
 row-requires : tie.Need-row-requires Inv-loop μ-loop
 row-requires c κs =
     let c-start = c .before .before .before in
     let c-loop = c .before .loop in
     let c-loop-test = c .loop-test in
-    row-inside (c-start .args .base) (trailingZeros 64 (c-loop .word)) (c-start .pre .1) (turn (c-start .args .word) (c-loop .turns) (c-loop .word) (c-start .fits .word .fits) (c-loop .inv .0) (c-loop .inv .1) (c-loop-test .taken) .1) (length (now (c-start .args .words))) (c-start .pre .0)
+    row-inside (c-start .args .base) (trailingZeros 64 (c-loop .word)) (c-start .pre .1) (turn (c-start .args .word) (c-loop .turns) (c-loop .word) (c-start .fits .word .fits) (c-loop .inv .0) (c-loop .inv .1) (c-loop-test .taken) .1) (c-start .args .rows) (length (now (c-start .args .words))) (c-start .pre .2) (c-start .pre .0)
 
 union-requires : tie.Need-union-requires Inv-loop μ-loop
 union-requires c κs = tt
@@ -153,7 +153,7 @@ returns c =
     let a = c-start .args in
     let l = c-loop in
     let all : l .turns ≡ ones (a .word) = ends-with (a .word) (c-start .fits .word .fits) (l .turns) (l .inv .0) (sym (l .inv .1) ∙ c-loop-test .left) in
-    (all, l .inv .2 ∙ ap (joined (now (a .words)) (a .word) (a .base) (a .set)) all)
+    (all, l .inv .2 ∙ ap (joined (now (a .words)) (a .rows) (a .word) (a .base) (a .set)) all)
 
 pub walk-word-spec : {M : Type 1} → statement M
 walk-word-spec =

@@ -4,8 +4,10 @@ use mathlib.Core.Path.{sym, _∙_}
 use native.Mathlib.Omega.{arith}
 use denote.Ref.{now}
 use borrow.Author.Tests.{not-true, not-false}
+use Rattle.table.specs.Layout.{rulesOf}
 use Rattle.table.specs.Automaton.{automaton}
 use Rattle.table.proofs.Test.{passes}
+use Rattle.stream.proofs.Bounds.{twice-fits}
 use Rattle.stream.proofs.Accepting.{fitting, refused-table, refused-state, refused-closed, refused-long, refused-space, not-refused}
 use Rattle.stream.proofs.checks.refusal.Statement.{statement}
 use Rattle.stream.proofs.checks.refusal.Tie as tie
@@ -80,6 +82,13 @@ returns-4 c =
     let state = sym (c-is-valid .ensures) ∙ not-false (c-is-valid .result) (c-if2 .left) in
     refused-long (now (a .words)) (a .s) (a .len) (a .space) table state (c-if3 .left) (omega (arith, c-if4 .taken))
 
+mul-if5 : tie.Need-mul-if5
+mul-if5 c =
+    let c-start = c .before .before .before .before .before .before .before .before .before in
+    let c-is-table = c .before .before .before .before .before .before .before .is-table in
+    let c-if1 = c .before .before .before .before .before .before .if1 in
+    twice-fits (rulesOf (now (c-start .args .words))) (passes (now (c-start .args .words)) (sym (c-is-table .ensures) ∙ not-false (c-is-table .result) (c-if1 .left)) .rules)
+
 returns-5 : tie.Need-returns-5
 returns-5 c =
     let c-start = c .before .before .before .before .before .before .before .before .before .before in
@@ -122,5 +131,6 @@ refusal-spec =
     shared-slice-read-rules
     sub-if4
     returns-4
+    mul-if5
     returns-5
     returns-6)

@@ -15,7 +15,7 @@ use Rattle.sets.proofs.Laws.{empty-is}
 use Rattle.table.specs.Layout.{tableWords, maxPositions}
 use Rattle.table.specs.Automaton.{automaton}
 use Rattle.steps.proofs.Bounds.{words-good, less-left}
-use Rattle.steps.proofs.Steps.{first-row, next-quiet}
+use Rattle.steps.proofs.Steps.{first-in, next-quiet}
 use Rattle.steps.proofs.TableSets.{set-on}
 use Rattle.stream.specs.Invariants.{Skipped}
 use Rattle.stream.proofs.Bounds.{sum-fits, after-fits}
@@ -69,7 +69,7 @@ loop-holds c =
     let c-row = c .before .row in
     let a = c-start .args in (
       positive (a .taken + a .from) (neither (not (c-is-empty .result)) (eqb (a .taken + a .from) 0) _ (c-if1 .left) .1),
-      c-below .ensures ∙ ap₂ keptBelow (c-row .ensures ∙ first-row (now (a .words))) (c-start .pre .0),
+      c-below .ensures ∙ ap₂ keptBelow (c-row .ensures ∙ first-in (now (a .words)) false) (c-start .pre .0),
       skipped-none (automaton (now (a .words))) (now (a .block)) (a .taken) (a .from) emptySet (c-start .pre .1),
     )
 
@@ -128,7 +128,7 @@ loop-again c =
       l .inv .0,
       l .inv .1,
       skipped-more (automaton t) (now (a .block)) (a .taken) (a .from) (l .at) (l .inv .2) (c-loop-test .taken)
-          (next-quiet (automaton t) (automaton t .positions) (a .taken + l .at) byte (positive-more (a .taken) (a .from) (l .at) (l .inv .0) (l .inv .2 .rises)) apart),
+          (next-quiet (automaton t) false (automaton t .positions) (a .taken + l .at) byte (positive-more (a .taken) (a .from) (l .at) (l .inv .0) (l .inv .2 .rises)) apart),
     )
 
 returns-3 : tie.Need-returns-3 Inv-loop μ-loop

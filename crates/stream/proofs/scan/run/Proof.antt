@@ -1,6 +1,7 @@
 -- `stream::scan::run` meets its contract: each turn passes over the bytes that change nothing and takes one more (`Running`), or leaves the loop where its
 -- reports do not fit.
 use mathlib.Core.Path.{_≡_, refl, sym, _∙_}
+use mathlib.Core.Bool.{false}
 use mathlib.Core.List.{List}
 use Prim.Native.Nat.{ℕ, _+_, _-_, _≤_}
 use native.Mathlib.Nat.{add-assoc, le-refl, le-of-eq}
@@ -14,21 +15,22 @@ use Rattle.steps.proofs.Bounds.{less-left}
 use Rattle.steps.proofs.TableSets.{set-on, number-on}
 use Rattle.stream.specs.Invariants.{stateOf}
 use Rattle.stream.proofs.Bounds.{positions-word, inside, not-both, sum-fits, next-fits, after-fits, count-fits, ids-fit, offsets-fit}
-use Rattle.stream.proofs.Turns.{Running, running-start, ids-hold, offsets-hold, running-skip, running-room, running-run, running-stop, running-done}
+use Rattle.stream.proofs.Turns.{Running, Before, running-start, before-start, ids-hold, offsets-hold, running-skip, before-passed, running-room, running-run, before-step, running-stop, running-done}
 use Rattle.stream.proofs.scan.run.Statement.{statement}
 use Rattle.stream.proofs.scan.run.Tie as tie
 
 -- the words are enough, and the number of positions is the automaton's
-stepping : (t live next : List ℕ) (taken x : ℕ) → tableWords ≤ length t → next ≡ setOn t (stepped (automaton t) (positionsOf t) live taken x)
-    → next ≡ stepped (automaton t) (automaton t .positions) live taken x
+stepping : (t live next : List ℕ) (taken x : ℕ) → tableWords ≤ length t → next ≡ setOn t (stepped (automaton t) false (positionsOf t) live taken x)
+    → next ≡ stepped (automaton t) false (automaton t .positions) live taken x
 unfolding automaton
-stepping t live next taken x h e = e ∙ set-on t (stepped (automaton t) (positionsOf t) live taken x) h
+stepping t live next taken x h e = e ∙ set-on t (stepped (automaton t) false (positionsOf t) live taken x) h
 
 abbrev Inv-loop : tie.InvT-loop
-Inv-loop live₀ reported₀ taken words block ids₀ offsets₀ positions last single count₀ at₀ live reported ids offsets count at = Running (automaton words) (stateOf live₀ reported₀ taken) block ids₀ offsets₀ live reported ids offsets count at
+Inv-loop live₀ reported₀ taken words block ids₀ offsets₀ positions last single before₀ count₀ at₀ live reported ids offsets before count at =
+    Running (automaton words) (stateOf live₀ reported₀ taken) block ids₀ offsets₀ live reported ids offsets count at × Before (automaton words) (stateOf live₀ reported₀ taken) block before at
 
 abbrev μ-loop : tie.MeasureT-loop
-μ-loop live₀ reported₀ taken words block ids₀ offsets₀ positions last single count₀ at₀ live reported ids offsets count at = length block - at
+μ-loop live₀ reported₀ taken words block ids₀ offsets₀ positions last single before₀ count₀ at₀ live reported ids offsets before count at = length block - at
 
 shared-slice-read-positions : tie.Need-shared-slice-read-positions Inv-loop μ-loop
 shared-slice-read-positions c =
@@ -46,37 +48,45 @@ loop-holds : tie.Need-loop-holds Inv-loop μ-loop
 loop-holds c =
     let c-start = c .before .before .before .before .before .before .before in
     let a = c-start .args in
-    running-start (automaton (now (a .words))) (stateOf (a .live) (a .reported) (a .taken)) (now (a .block)) (now (a .ids)) (now (a .offsets)) (c-start .fits .reported .fits)
+    let w = automaton (now (a .words)) in
+    let s = stateOf (a .live) (a .reported) (a .taken) in
+    (running-start w s (now (a .block)) (now (a .ids)) (now (a .offsets)) (c-start .fits .reported .fits), before-start w s (now (a .block)) (now (a .ids)) (now (a .offsets)) (a .live))
 
 returns : tie.Need-returns Inv-loop μ-loop
 returns c =
-    let c-start = c .before .before .before .before .before .before .before .before .before .before in
-    let c-loop = c .before .before .loop in
-    let c-ahead = c .before .ahead in
+    let c-start = c .before .before .before .before .before .before .before .before .before .before .before in
+    let c-loop = c .before .before .before .loop in
+    let c-passed = c .before .passed in
+    let c-ahead = c .before .before .ahead in
     let c-if1 = c .if1 in
     let a = c-start .args in
     let l = c-loop in
     let t = now (a .words) in
     let s = stateOf (a .live) (a .reported) (a .taken) in
-    running-done (automaton t) s (now (a .block)) (now (a .ids)) (now (a .offsets)) (l .live) (l .reported) (l .ids) (l .offsets) (l .count) (c-ahead .result) (running-skip (automaton t) s (now (a .block)) (now (a .ids)) (now (a .offsets)) (l .live) (l .reported) (l .ids) (l .offsets) (l .count) (l .at) (c-ahead .result) (l .inv) (c-ahead .ensures)) (λ b. not-both (c-ahead .result) (length (now (a .block))) b (le-of-eq (sym (c-if1 .taken))))
+    running-done (automaton t) s (now (a .block)) (now (a .ids)) (now (a .offsets)) (l .live) (c-passed .result) (l .reported) (l .ids) (l .offsets) (l .count) (c-ahead .result) (running-skip (automaton t) s (now (a .block)) (now (a .ids)) (now (a .offsets)) (l .live) (l .reported) (l .ids) (l .offsets) (l .count) (l .at) (c-ahead .result) (l .inv .0) (c-ahead .ensures))
+    (before-passed (automaton t) s (now (a .block)) (now (a .ids)) (now (a .offsets)) (l .live) (l .before) (l .reported) (l .ids) (l .offsets) (l .count) (l .at) (c-ahead .result) (l .inv .0) (l .inv .1) (c-ahead .ensures) (c-passed .result) (c-passed .ensures))
+    (λ b. not-both (c-ahead .result) (length (now (a .block))) b (le-of-eq (sym (c-if1 .taken))))
 
 ahead-requires : tie.Need-ahead-requires Inv-loop μ-loop
 unfolding automaton
 ahead-requires c κs =
     let c-loop = c .loop in
     let c-start = c .before .before .before .before .before .before .before .before in
-    (refl, c-loop .inv .inside, c-start .pre .1)
+    (refl, c-loop .inv .0 .inside, c-start .pre .1)
 
-add-before : tie.Need-add-before Inv-loop μ-loop
-add-before c =
-    let c-start = c .before .before .before .before .before .before .before .before .before .before in
-    let c-ahead = c .before .ahead in
+passed-requires : tie.Need-passed-requires Inv-loop μ-loop
+passed-requires c κs = tt
+
+add-gap : tie.Need-add-gap Inv-loop μ-loop
+add-gap c =
+    let c-start = c .before .before .before .before .before .before .before .before .before .before .before in
+    let c-ahead = c .before .before .ahead in
     sum-fits (c-start .args .taken) (c-ahead .result) (length (now (c-start .args .block))) (c-start .pre .1) (c-ahead .ensures .inside)
 
 shared-slice-read-step : tie.Need-shared-slice-read-step Inv-loop μ-loop
 shared-slice-read-step c =
-    let c-ahead = c .before .before .ahead in
-    let c-start = c .before .before .before .before .before .before .before .before .before .before .before in
+    let c-ahead = c .before .before .before .ahead in
+    let c-start = c .before .before .before .before .before .before .before .before .before .before .before .before in
     let c-if1 = c .before .if1 in
     inside (c-ahead .result) (length (now (c-start .args .block))) (c-ahead .ensures .inside) (c-if1 .left)
 
@@ -85,79 +95,79 @@ step-requires c κs = tt
 
 add-deliver : tie.Need-add-deliver Inv-loop μ-loop
 add-deliver c =
-    let c-start = c .before .before .before .before .before .before .before .before .before .before .before .before in
-    let c-ahead = c .before .before .before .ahead in
+    let c-start = c .before .before .before .before .before .before .before .before .before .before .before .before .before in
+    let c-ahead = c .before .before .before .before .ahead in
     let c-if1 = c .before .before .if1 in
     let n = length (now (c-start .args .block)) in
     next-fits (c-start .args .taken) (c-ahead .result) n (c-start .pre .1) (inside (c-ahead .result) n (c-ahead .ensures .inside) (c-if1 .left))
 
 mul-deliver : tie.Need-mul-deliver Inv-loop μ-loop
 mul-deliver c =
-    let c-loop = c .before .before .before .before .loop in
-    let c-start = c .before .before .before .before .before .before .before .before .before .before .before .before in
-    ids-fit (c-loop .count) (length (now (c-start .args .ids))) (length (now (c-start .args .offsets))) (c-loop .inv .room) (c-start .good .1 .1 .1 .1 .1 .0 .1)
+    let c-loop = c .before .before .before .before .before .loop in
+    let c-start = c .before .before .before .before .before .before .before .before .before .before .before .before .before in
+    ids-fit (c-loop .count) (length (now (c-start .args .ids))) (length (now (c-start .args .offsets))) (c-loop .inv .0 .room) (c-start .good .1 .1 .1 .1 .1 .0 .1)
 
 sub-deliver : tie.Need-sub-deliver Inv-loop μ-loop
 sub-deliver c =
-    let c-start = c .before .before .before .before .before .before .before .before .before .before .before .before in
-    let c-loop = c .before .before .before .before .loop in
+    let c-start = c .before .before .before .before .before .before .before .before .before .before .before .before .before in
+    let c-loop = c .before .before .before .before .before .loop in
     let a = c-start .args in
     let l = c-loop in
     let t = now (a .words) in
     let s = stateOf (a .live) (a .reported) (a .taken) in
-    ids-hold (automaton t) s (now (a .block)) (now (a .ids)) (now (a .offsets)) (l .live) (l .reported) (l .ids) (l .offsets) (l .count) (l .at) (l .inv)
+    ids-hold (automaton t) s (now (a .block)) (now (a .ids)) (now (a .offsets)) (l .live) (l .reported) (l .ids) (l .offsets) (l .count) (l .at) (l .inv .0)
 
 part-deliver-start : tie.Need-part-deliver-start Inv-loop μ-loop
 part-deliver-start c =
-    let c-start = c .before .before .before .before .before .before .before .before .before .before .before .before in
-    let c-loop = c .before .before .before .before .loop in
+    let c-start = c .before .before .before .before .before .before .before .before .before .before .before .before .before in
+    let c-loop = c .before .before .before .before .before .loop in
     let a = c-start .args in
     let l = c-loop in
     let t = now (a .words) in
     let s = stateOf (a .live) (a .reported) (a .taken) in
-    ids-hold (automaton t) s (now (a .block)) (now (a .ids)) (now (a .offsets)) (l .live) (l .reported) (l .ids) (l .offsets) (l .count) (l .at) (l .inv)
+    ids-hold (automaton t) s (now (a .block)) (now (a .ids)) (now (a .offsets)) (l .live) (l .reported) (l .ids) (l .offsets) (l .count) (l .at) (l .inv .0)
 
 part-deliver-end : tie.Need-part-deliver-end Inv-loop μ-loop
 part-deliver-end c =
-    let c-loop = c .before .before .before .before .loop in
+    let c-loop = c .before .before .before .before .before .loop in
     le-refl (length (c-loop .ids))
 
 mul-deliver-2 : tie.Need-mul-deliver-2 Inv-loop μ-loop
 mul-deliver-2 c =
-    let c-loop = c .before .before .before .before .before .loop in
-    let c-start = c .before .before .before .before .before .before .before .before .before .before .before .before .before in
-    offsets-fit (c-loop .count) (length (now (c-start .args .ids))) (length (now (c-start .args .offsets))) (c-loop .inv .room) (c-start .good .1 .1 .1 .1 .1 .1 .0 .1)
+    let c-loop = c .before .before .before .before .before .before .loop in
+    let c-start = c .before .before .before .before .before .before .before .before .before .before .before .before .before .before in
+    offsets-fit (c-loop .count) (length (now (c-start .args .ids))) (length (now (c-start .args .offsets))) (c-loop .inv .0 .room) (c-start .good .1 .1 .1 .1 .1 .1 .0 .1)
 
 sub-deliver-2 : tie.Need-sub-deliver-2 Inv-loop μ-loop
 sub-deliver-2 c =
-    let c-start = c .before .before .before .before .before .before .before .before .before .before .before .before .before in
-    let c-loop = c .before .before .before .before .before .loop in
+    let c-start = c .before .before .before .before .before .before .before .before .before .before .before .before .before .before in
+    let c-loop = c .before .before .before .before .before .before .loop in
     let a = c-start .args in
     let l = c-loop in
     let t = now (a .words) in
     let s = stateOf (a .live) (a .reported) (a .taken) in
-    offsets-hold (automaton t) s (now (a .block)) (now (a .ids)) (now (a .offsets)) (l .live) (l .reported) (l .ids) (l .offsets) (l .count) (l .at) (l .inv)
+    offsets-hold (automaton t) s (now (a .block)) (now (a .ids)) (now (a .offsets)) (l .live) (l .reported) (l .ids) (l .offsets) (l .count) (l .at) (l .inv .0)
 
 part-deliver-start-2 : tie.Need-part-deliver-start-2 Inv-loop μ-loop
 part-deliver-start-2 c =
-    let c-start = c .before .before .before .before .before .before .before .before .before .before .before .before .before in
-    let c-loop = c .before .before .before .before .before .loop in
+    let c-start = c .before .before .before .before .before .before .before .before .before .before .before .before .before .before in
+    let c-loop = c .before .before .before .before .before .before .loop in
     let a = c-start .args in
     let l = c-loop in
     let t = now (a .words) in
     let s = stateOf (a .live) (a .reported) (a .taken) in
-    offsets-hold (automaton t) s (now (a .block)) (now (a .ids)) (now (a .offsets)) (l .live) (l .reported) (l .ids) (l .offsets) (l .count) (l .at) (l .inv)
+    offsets-hold (automaton t) s (now (a .block)) (now (a .ids)) (now (a .offsets)) (l .live) (l .reported) (l .ids) (l .offsets) (l .count) (l .at) (l .inv .0)
 
 part-deliver-end-2 : tie.Need-part-deliver-end-2 Inv-loop μ-loop
 part-deliver-end-2 c =
-    let c-loop = c .before .before .before .before .before .loop in
+    let c-loop = c .before .before .before .before .before .before .loop in
     le-refl (length (c-loop .offsets))
 
 deliver-requires : tie.Need-deliver-requires Inv-loop μ-loop
 deliver-requires c κs =
-    let c-start = c .before .before .before .before .before .before .before .before .before .before .before .before .before .before in
-    let c-lasts = c .before .before .before .before .before .before .before .before .lasts in
-    let c-singles = c .before .before .before .before .before .before .before .singles in
+    let c-start = c .before .before .before .before .before .before .before .before .before .before .before .before .before .before .before in
+    let c-lasts = c .before .before .before .before .before .before .before .before .before .lasts in
+    let c-singles = c .before .before .before .before .before .before .before .before .singles in
     let t = now (c-start .args .words) in
     let w = automaton t in
     let long = passes t (c-start .pre .0) .long in
@@ -165,9 +175,9 @@ deliver-requires c κs =
 
 add-count : tie.Need-add-count Inv-loop μ-loop
 add-count c =
-    let c-start = c .before .before .before .before .before .before .before .before .before .before .before .before .before .before .before .before .before .before .before .before .before in
-    let c-loop = c .before .before .before .before .before .before .before .before .before .before .before .before .before .loop in
-    let c-ahead = c .before .before .before .before .before .before .before .before .before .before .before .before .ahead in
+    let c-start = c .before .before .before .before .before .before .before .before .before .before .before .before .before .before .before .before .before .before .before .before .before .before in
+    let c-loop = c .before .before .before .before .before .before .before .before .before .before .before .before .before .before .loop in
+    let c-ahead = c .before .before .before .before .before .before .before .before .before .before .before .before .before .ahead in
     let c-deliver = c .before .before .before .before .before .before .deliver in
     let c-step = c .before .before .before .before .before .before .before .before .before .step in
     let c-if2 = c .before .if2 in
@@ -179,31 +189,31 @@ add-count c =
     let r = c-deliver .result in
     let ilast = c-deliver .last .1 .1 .1 .1 .1 .1 .0 in
     let olast = c-deliver .last .1 .1 .1 .1 .1 .1 .1 .0 in
-    let moved = running-skip (automaton t) s (now (a .block)) (now (a .ids)) (now (a .offsets)) (l .live) (l .reported) (l .ids) (l .offsets) (l .count) (l .at) (c-ahead .result) (l .inv) (c-ahead .ensures) in
+    let moved = running-skip (automaton t) s (now (a .block)) (now (a .ids)) (now (a .offsets)) (l .live) (l .reported) (l .ids) (l .offsets) (l .count) (l .at) (c-ahead .result) (l .inv .0) (c-ahead .ensures) in
     count-fits (l .count + r .reports) (length (now (a .ids))) (length (now (a .offsets))) (running-room (automaton t) s (now (a .block)) (now (a .ids)) (now (a .offsets)) (l .live) (l .reported) (l .ids) (l .offsets) (l .count) at moved (c-step .result) (stepping t (l .live) (c-step .result) (a .taken + at) (getD (now (a .block)) at 0) (passes t (c-start .pre .0) .long) (c-step .ensures)) (r .full) (r .reports) (r .reported) (a .taken + at + 1) ilast olast (c-deliver .ensures) (c-if2 .left)) (c-start .good .1 .1 .1 .1 .1 .0 .1)
 
 add-at : tie.Need-add-at Inv-loop μ-loop
 add-at c =
-    let c-start = c .before .before .before .before .before .before .before .before .before .before .before .before .before .before .before .before .before .before .before .before .before in
-    let c-ahead = c .before .before .before .before .before .before .before .before .before .before .before .before .ahead in
+    let c-start = c .before .before .before .before .before .before .before .before .before .before .before .before .before .before .before .before .before .before .before .before .before .before in
+    let c-ahead = c .before .before .before .before .before .before .before .before .before .before .before .before .before .ahead in
     let c-if1 = c .before .before .before .before .before .before .before .before .before .before .before .if1 in
     let n = length (now (c-start .args .block)) in
     after-fits (c-start .args .taken) (c-ahead .result) n (c-start .pre .1) (inside (c-ahead .result) n (c-ahead .ensures .inside) (c-if1 .left))
 
 loop-less : tie.Need-loop-less Inv-loop μ-loop
 loop-less c =
-    let c-start = c .before .before .before .before .before .before .before .before .before .before .before .before .before .before .before .before .before .before .before .before .before in
-    let c-loop = c .before .before .before .before .before .before .before .before .before .before .before .before .before .loop in
-    let c-ahead = c .before .before .before .before .before .before .before .before .before .before .before .before .ahead in
+    let c-start = c .before .before .before .before .before .before .before .before .before .before .before .before .before .before .before .before .before .before .before .before .before .before in
+    let c-loop = c .before .before .before .before .before .before .before .before .before .before .before .before .before .before .loop in
+    let c-ahead = c .before .before .before .before .before .before .before .before .before .before .before .before .before .ahead in
     let c-if1 = c .before .before .before .before .before .before .before .before .before .before .before .if1 in
     let n = length (now (c-start .args .block)) in
     less-left n (c-loop .at) (c-ahead .result) (c-ahead .ensures .rises) (inside (c-ahead .result) n (c-ahead .ensures .inside) (c-if1 .left))
 
 loop-again : tie.Need-loop-again Inv-loop μ-loop
 loop-again c =
-    let c-start = c .before .before .before .before .before .before .before .before .before .before .before .before .before .before .before .before .before .before .before .before .before in
-    let c-loop = c .before .before .before .before .before .before .before .before .before .before .before .before .before .loop in
-    let c-ahead = c .before .before .before .before .before .before .before .before .before .before .before .before .ahead in
+    let c-start = c .before .before .before .before .before .before .before .before .before .before .before .before .before .before .before .before .before .before .before .before .before .before in
+    let c-loop = c .before .before .before .before .before .before .before .before .before .before .before .before .before .before .loop in
+    let c-ahead = c .before .before .before .before .before .before .before .before .before .before .before .before .before .ahead in
     let c-deliver = c .before .before .before .before .before .before .deliver in
     let c-step = c .before .before .before .before .before .before .before .before .before .step in
     let c-if2 = c .before .if2 in
@@ -218,38 +228,41 @@ loop-again c =
     let r = c-deliver .result in
     let ilast = c-deliver .last .1 .1 .1 .1 .1 .1 .0 in
     let olast = c-deliver .last .1 .1 .1 .1 .1 .1 .1 .0 in
-    let moved = running-skip (automaton t) s (now (a .block)) (now (a .ids)) (now (a .offsets)) (l .live) (l .reported) (l .ids) (l .offsets) (l .count) (l .at) (c-ahead .result) (l .inv) (c-ahead .ensures) in
-    running-run (automaton t) s (now (a .block)) (now (a .ids)) (now (a .offsets)) (l .live) (l .reported) (l .ids) (l .offsets) (l .count) at moved (c-step .result) (stepping t (l .live) (c-step .result) (a .taken + at) (getD (now (a .block)) at 0) (passes t (c-start .pre .0) .long) (c-step .ensures)) (r .full) (r .reports) (r .reported) (a .taken + at + 1) ilast olast (c-deliver .ensures) (c-if2 .left) (inside at (length (now (a .block))) (moved .inside) (c-if1 .left)) (add-assoc (a .taken) at 1) (c-ids .given .1) (c-offsets .given .1)
+    let moved = running-skip (automaton t) s (now (a .block)) (now (a .ids)) (now (a .offsets)) (l .live) (l .reported) (l .ids) (l .offsets) (l .count) (l .at) (c-ahead .result) (l .inv .0) (c-ahead .ensures) in (
+      running-run (automaton t) s (now (a .block)) (now (a .ids)) (now (a .offsets)) (l .live) (l .reported) (l .ids) (l .offsets) (l .count) at moved (c-step .result) (stepping t (l .live) (c-step .result) (a .taken + at) (getD (now (a .block)) at 0) (passes t (c-start .pre .0) .long) (c-step .ensures)) (r .full) (r .reports) (r .reported) (a .taken + at + 1) ilast olast (c-deliver .ensures) (c-if2 .left) (inside at (length (now (a .block))) (moved .inside) (c-if1 .left)) (add-assoc (a .taken) at 1) (c-ids .given .1) (c-offsets .given .1),
+      before-step (automaton t) s (now (a .block)) (now (a .ids)) (now (a .offsets)) (l .live) (l .reported) (l .ids) (l .offsets) (l .count) at moved,
+    )
 
 same-length : tie.Need-same-length Inv-loop μ-loop
 same-length c =
-    let c-loop = c .before .before .loop in
-    c-loop .inv .ids-long
+    let c-loop = c .before .before .before .loop in
+    c-loop .inv .0 .ids-long
 
 same-length-2 : tie.Need-same-length-2 Inv-loop μ-loop
 same-length-2 c =
-    let c-loop = c .before .before .loop in
-    c-loop .inv .offsets-long
+    let c-loop = c .before .before .before .loop in
+    c-loop .inv .0 .offsets-long
 
 same-length-3 : tie.Need-same-length-3 Inv-loop μ-loop
 same-length-3 c =
     let c-ids = c .before .before .before .before .ids in
-    let c-loop = c .before .before .before .before .before .before .before .before .before .before .before .before .loop in
-    c-ids .given .1 ∙ c-loop .inv .ids-long
+    let c-loop = c .before .before .before .before .before .before .before .before .before .before .before .before .before .loop in
+    c-ids .given .1 ∙ c-loop .inv .0 .ids-long
 
 same-length-4 : tie.Need-same-length-4 Inv-loop μ-loop
 same-length-4 c =
     let c-offsets = c .before .before .offsets in
-    let c-loop = c .before .before .before .before .before .before .before .before .before .before .before .before .loop in
-    c-offsets .given .1 ∙ c-loop .inv .offsets-long
+    let c-loop = c .before .before .before .before .before .before .before .before .before .before .before .before .before .loop in
+    c-offsets .given .1 ∙ c-loop .inv .0 .offsets-long
 
 returns-2 : tie.Need-returns-2 Inv-loop μ-loop
 returns-2 c =
-    let c-start = c .before .before .before .before .before .before .before .before .before .before .before .before .before .before .before .before .before .before .before .before in
-    let c-loop = c .before .before .before .before .before .before .before .before .before .before .before .before .loop in
-    let c-ahead = c .before .before .before .before .before .before .before .before .before .before .before .ahead in
+    let c-start = c .before .before .before .before .before .before .before .before .before .before .before .before .before .before .before .before .before .before .before .before .before in
+    let c-loop = c .before .before .before .before .before .before .before .before .before .before .before .before .before .loop in
+    let c-ahead = c .before .before .before .before .before .before .before .before .before .before .before .before .ahead in
     let c-deliver = c .before .before .before .before .before .deliver in
     let c-step = c .before .before .before .before .before .before .before .before .step in
+    let c-passed = c .before .before .before .before .before .before .before .before .before .before .before .passed in
     let c-if2 = c .if2 in
     let c-ids = c .before .before .before .before .ids in
     let c-offsets = c .before .before .offsets in
@@ -261,8 +274,9 @@ returns-2 c =
     let r = c-deliver .result in
     let ilast = c-deliver .last .1 .1 .1 .1 .1 .1 .0 in
     let olast = c-deliver .last .1 .1 .1 .1 .1 .1 .1 .0 in
-    let moved = running-skip (automaton t) s (now (a .block)) (now (a .ids)) (now (a .offsets)) (l .live) (l .reported) (l .ids) (l .offsets) (l .count) (l .at) (c-ahead .result) (l .inv) (c-ahead .ensures) in
-    running-stop (automaton t) s (now (a .block)) (now (a .ids)) (now (a .offsets)) (l .live) (l .reported) (l .ids) (l .offsets) (l .count) at moved (c-step .result) (stepping t (l .live) (c-step .result) (a .taken + at) (getD (now (a .block)) at 0) (passes t (c-start .pre .0) .long) (c-step .ensures)) (r .full) (r .reports) (r .reported) (a .taken + at + 1) ilast olast (c-deliver .ensures) (c-if2 .taken) (c-ids .given .1) (c-offsets .given .1)
+    let moved = running-skip (automaton t) s (now (a .block)) (now (a .ids)) (now (a .offsets)) (l .live) (l .reported) (l .ids) (l .offsets) (l .count) (l .at) (c-ahead .result) (l .inv .0) (c-ahead .ensures) in
+    running-stop (automaton t) s (now (a .block)) (now (a .ids)) (now (a .offsets)) (l .live) (l .reported) (l .ids) (l .offsets) (l .count) at moved (c-step .result) (stepping t (l .live) (c-step .result) (a .taken + at) (getD (now (a .block)) at 0) (passes t (c-start .pre .0) .long) (c-step .ensures)) (r .full) (r .reports) (r .reported) (a .taken + at + 1) ilast olast (c-deliver .ensures)
+    (c-passed .result) (before-passed (automaton t) s (now (a .block)) (now (a .ids)) (now (a .offsets)) (l .live) (l .before) (l .reported) (l .ids) (l .offsets) (l .count) (l .at) (c-ahead .result) (l .inv .0) (l .inv .1) (c-ahead .ensures) (c-passed .result) (c-passed .ensures)) (c-if2 .taken) (c-ids .given .1) (c-offsets .given .1)
 
 pub run-spec : {M : Type 1} → statement M
 run-spec =
@@ -275,7 +289,8 @@ run-spec =
     singles-requires
     loop-holds
     ahead-requires
-    add-before
+    passed-requires
+    add-gap
     shared-slice-read-step
     step-requires
     add-deliver

@@ -64,6 +64,12 @@ enum-told-4 c = search needs
 empty-requires-3 : tie.Need-empty-requires-3
 empty-requires-3 c κs = tt
 
+enum-told-5 : tie.Need-enum-told-5
+enum-told-5 c = search needs
+
+empty-requires-4 : tie.Need-empty-requires-4
+empty-requires-4 c κs = tt
+
 returns-2 : tie.Need-returns-2
 unfolding itemSet
 returns-2 c =
@@ -97,9 +103,13 @@ returns-8 : tie.Need-returns-8
 unfolding itemSet
 returns-8 c = rw (c .before .enum-told4 .given .1) (c .empty3 .ensures)
 
+returns-9 : tie.Need-returns-9
+unfolding itemSet
+returns-9 c = rw (c .before .enum-told5 .given .1) (c .empty4 .ensures)
+
 pub item-set-spec : {M : Type 1} → statement M
 item-set-spec =
     tie.close
     (tie.spec enum-known-atom empty-requires insert-requires cased-requires enum-known-atom-2 of-kind-requires enum-known-atom-3 not-of-kind-requires
     enum-told full-requires returns all-but-newline-requires enum-told-2 all-but-newline-requires-2 enum-told-3 empty-requires-2 enum-told-4
-    empty-requires-3 returns-2 returns-3 returns-4 returns-5 returns-6 returns-7 returns-8)
+    empty-requires-3 enum-told-5 empty-requires-4 returns-2 returns-3 returns-4 returns-5 returns-6 returns-7 returns-8 returns-9)

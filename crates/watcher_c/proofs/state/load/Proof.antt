@@ -5,32 +5,47 @@ use borrow.Author.Needs.{needs}
 use Rattle.watcher_c.proofs.state.load.Statement.{statement}
 use Rattle.watcher_c.proofs.state.load.Tie as tie
 
-shared-slice-read-t4 : tie.Need-shared-slice-read-t4
-shared-slice-read-t4 c = search needs
+shared-slice-read-t5 : tie.Need-shared-slice-read-t5
+shared-slice-read-t5 c = search needs
 
-shared-slice-read-t6 : tie.Need-shared-slice-read-t6
-shared-slice-read-t6 c = search needs
+shared-slice-read-t7 : tie.Need-shared-slice-read-t7
+shared-slice-read-t7 c = search needs
 
-shared-slice-read-t8 : tie.Need-shared-slice-read-t8
-shared-slice-read-t8 c = search needs
+shared-slice-read-t9 : tie.Need-shared-slice-read-t9
+shared-slice-read-t9 c = search needs
 
-shared-slice-read-t10 : tie.Need-shared-slice-read-t10
-shared-slice-read-t10 c = search needs
+shared-slice-read-t11 : tie.Need-shared-slice-read-t11
+shared-slice-read-t11 c = search needs
 
-shared-slice-read-t4-2 : tie.Need-shared-slice-read-t4-2
-shared-slice-read-t4-2 c = search needs
+shared-slice-read-t5-2 : tie.Need-shared-slice-read-t5-2
+shared-slice-read-t5-2 c = search needs
 
-shared-slice-read-t10-2 : tie.Need-shared-slice-read-t10-2
-shared-slice-read-t10-2 c = search needs
+shared-slice-read-t11-2 : tie.Need-shared-slice-read-t11-2
+shared-slice-read-t11-2 c = search needs
 
-shared-slice-read-t8-2 : tie.Need-shared-slice-read-t8-2
-shared-slice-read-t8-2 c = search needs
+shared-slice-read-t9-2 : tie.Need-shared-slice-read-t9-2
+shared-slice-read-t9-2 c = search needs
 
-shared-slice-read-t6-2 : tie.Need-shared-slice-read-t6-2
-shared-slice-read-t6-2 c = search needs
+shared-slice-read-t7-2 : tie.Need-shared-slice-read-t7-2
+shared-slice-read-t7-2 c = search needs
 
-shared-slice-read-t16 : tie.Need-shared-slice-read-t16
-shared-slice-read-t16 c = search needs
+shared-slice-read-t5-3 : tie.Need-shared-slice-read-t5-3
+shared-slice-read-t5-3 c = search needs
+
+shared-slice-read-t7-3 : tie.Need-shared-slice-read-t7-3
+shared-slice-read-t7-3 c = search needs
+
+shared-slice-read-t9-3 : tie.Need-shared-slice-read-t9-3
+shared-slice-read-t9-3 c = search needs
+
+shared-slice-read-t11-3 : tie.Need-shared-slice-read-t11-3
+shared-slice-read-t11-3 c = search needs
+
+shared-slice-read-t21 : tie.Need-shared-slice-read-t21
+shared-slice-read-t21 c = search needs
+
+shared-slice-read-t23 : tie.Need-shared-slice-read-t23
+shared-slice-read-t23 c = search needs
 
 returns : tie.Need-returns
 unfolding stateOf
@@ -40,13 +55,18 @@ pub load-spec : {M : Type 1} → statement M
 load-spec =
     tie.close
     (tie.spec
-    shared-slice-read-t4
-    shared-slice-read-t6
-    shared-slice-read-t8
-    shared-slice-read-t10
-    shared-slice-read-t4-2
-    shared-slice-read-t10-2
-    shared-slice-read-t8-2
-    shared-slice-read-t6-2
-    shared-slice-read-t16
+    shared-slice-read-t5
+    shared-slice-read-t7
+    shared-slice-read-t9
+    shared-slice-read-t11
+    shared-slice-read-t5-2
+    shared-slice-read-t11-2
+    shared-slice-read-t9-2
+    shared-slice-read-t7-2
+    shared-slice-read-t5-3
+    shared-slice-read-t7-3
+    shared-slice-read-t9-3
+    shared-slice-read-t11-3
+    shared-slice-read-t21
+    shared-slice-read-t23
     returns)

@@ -18,23 +18,35 @@ Inv-loop words₀ from i₀ words i = (i ≤ stateWords) × Written 0 i (λ w. g
 abbrev μ-loop : tie.MeasureT-loop
 μ-loop words₀ from i₀ words i = stateWords - i
 
-array-read-t8 : tie.Need-array-read-t8 Inv-loop μ-loop
-array-read-t8 c = omega arith
+array-read-t9 : tie.Need-array-read-t9 Inv-loop μ-loop
+array-read-t9 c = omega arith
 
-array-read-t11 : tie.Need-array-read-t11 Inv-loop μ-loop
-array-read-t11 c = omega arith
+array-read-t12 : tie.Need-array-read-t12 Inv-loop μ-loop
+array-read-t12 c = omega arith
 
-array-read-t14 : tie.Need-array-read-t14 Inv-loop μ-loop
-array-read-t14 c = omega arith
+array-read-t15 : tie.Need-array-read-t15 Inv-loop μ-loop
+array-read-t15 c = omega arith
 
-array-read-t17 : tie.Need-array-read-t17 Inv-loop μ-loop
-array-read-t17 c = omega arith
+array-read-t18 : tie.Need-array-read-t18 Inv-loop μ-loop
+array-read-t18 c = omega arith
 
-cast-t18 : tie.Need-cast-t18 Inv-loop μ-loop
-cast-t18 c = search needs
+array-read-t21 : tie.Need-array-read-t21 Inv-loop μ-loop
+array-read-t21 c = omega arith
+
+array-read-t24 : tie.Need-array-read-t24 Inv-loop μ-loop
+array-read-t24 c = omega arith
+
+array-read-t27 : tie.Need-array-read-t27 Inv-loop μ-loop
+array-read-t27 c = omega arith
+
+array-read-t30 : tie.Need-array-read-t30 Inv-loop μ-loop
+array-read-t30 c = omega arith
+
+cast-t31 : tie.Need-cast-t31 Inv-loop μ-loop
+cast-t31 c = search needs
 
 loop-holds : tie.Need-loop-holds Inv-loop μ-loop
-loop-holds c = (omega arith, written-none (omega arith), c .before .before .pre)
+loop-holds c = (omega arith, written-none (omega arith), c .before .before .before .pre)
 
 mul-words : tie.Need-mul-words Inv-loop μ-loop
 mul-words c = omega arith
@@ -65,7 +77,7 @@ same-length c = c .before .loop .inv .1 .long
 returns : tie.Need-returns Inv-loop μ-loop
 returns c =
     let l = c .before .loop in
-    let a = c .before .before .before .before .args in
+    let a = c .before .before .before .before .before .args in
     let done : l .i ≡ stateWords = omega arith in
     written-all (l .inv .1) done
     ∙ ap (λ (f : List ℕ). over 0 stateWords (λ w. getD f w 0) (now (a .words))) (laid (a .s))
@@ -77,11 +89,15 @@ store-spec =
     (tie.spec
     Inv-loop
     μ-loop
-    array-read-t8
-    array-read-t11
-    array-read-t14
-    array-read-t17
-    cast-t18
+    array-read-t9
+    array-read-t12
+    array-read-t15
+    array-read-t18
+    array-read-t21
+    array-read-t24
+    array-read-t27
+    array-read-t30
+    cast-t31
     loop-holds
     mul-words
     array-read-words

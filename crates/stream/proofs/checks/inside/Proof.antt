@@ -1,12 +1,12 @@
--- `stream::checks::live_inside` meets its contract: no live position is outside.
+-- `stream::checks::inside` meets its contract: no member is outside.
 use borrow.Author.Needs.{needs}
 use mathlib.Core.Path.{ap, _∙_}
 use mathlib.Core.List.{List}
 use Prim.Native.Nat.{ℕ}
 use Rattle.sets.specs.Set.{isEmpty, intersectionOf, complementOf, keptBelow}
 use Rattle.stream.proofs.Accepting.{inside-test}
-use Rattle.stream.proofs.checks.live_inside.Statement.{statement}
-use Rattle.stream.proofs.checks.live_inside.Tie as tie
+use Rattle.stream.proofs.checks.inside.Statement.{statement}
+use Rattle.stream.proofs.checks.inside.Tie as tie
 
 full-requires : tie.Need-full-requires
 full-requires c κs = search needs
@@ -31,14 +31,14 @@ returns c =
     let c-complement = c .before .before .complement in
     let c-below = c .before .before .before .below in
     let c-full = c .before .before .before .before .full in
-    let live = c-start .args .live in
+    let live = c-start .args .s in
     let n = c-start .args .positions in
     c-is-empty .ensures
     ∙ ap isEmpty (c-intersection .ensures ∙ ap (intersectionOf live) (c-complement .ensures ∙ ap complementOf (c-below .ensures ∙ ap (λ (s : List ℕ). keptBelow s n) (c-full .ensures))))
     ∙ inside-test live n
 
-pub live-inside-spec : {M : Type 1} → statement M
-live-inside-spec =
+pub inside-spec : {M : Type 1} → statement M
+inside-spec =
     tie.close
     (tie.spec
     full-requires

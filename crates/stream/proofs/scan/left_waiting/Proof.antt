@@ -1,0 +1,69 @@
+-- `stream::scan::left_waiting` meets its contract: nothing waits after any byte but a newline, and no pair before the first byte.
+use mathlib.Core.Path.{_∙_}
+use denote.Ref.{now}
+use lib.ListN.{length}
+use Rattle.table.specs.Automaton.{automaton}
+use Rattle.stream.specs.Invariants.{stateOf}
+use Rattle.stream.proofs.Bounds.{positions-word}
+use Rattle.stream.proofs.Answers.{none-held, none-pending, line-held, start-pending, line-pending}
+use Rattle.stream.proofs.scan.left_waiting.Statement.{statement}
+use Rattle.stream.proofs.scan.left_waiting.Tie as tie
+
+empty-requires : tie.Need-empty-requires
+empty-requires c κs = tt
+
+returns : tie.Need-returns
+returns c =
+    let c-start = c .before .before .before in
+    let c-if1 = c .before .if1 in
+    let c-empty = c .empty in
+    let a = c-start .args in
+    let w = automaton (now (a .words)) in
+    let s = stateOf (a .live) 0 (a .taken) in
+    (none-held w s (a .byte) (c-if1 .taken) (c-empty .result) (c-empty .ensures), none-pending w s (a .byte) (c-if1 .taken))
+
+shared-slice-read-positions : tie.Need-shared-slice-read-positions
+shared-slice-read-positions c =
+    let c-start = c .before .before .before in
+    positions-word (length (now (c-start .args .words))) (c-start .pre)
+
+step-requires : tie.Need-step-requires
+step-requires c κs = tt
+
+returns-2 : tie.Need-returns-2
+returns-2 c =
+    let c-start = c .before .before .before .before .before in
+    let c-if1 = c .before .before .before .if1 in
+    let c-step = c .before .step in
+    let c-if2 = c .if2 in
+    let a = c-start .args in
+    let t = now (a .words) in
+    let s = stateOf (a .live) 0 (a .taken) in
+    (line-held t (c-start .pre) s (a .byte) (c-if1 .left) (c-step .result) (c-step .ensures), start-pending t (c-start .pre) s (a .byte) (c-if1 .left) (c-if2 .taken))
+
+line-ending-requires : tie.Need-line-ending-requires
+line-ending-requires c κs = tt
+
+returns-3 : tie.Need-returns-3
+returns-3 c =
+    let c-start = c .before .before .before .before .before .before in
+    let c-if1 = c .before .before .before .before .if1 in
+    let c-step = c .before .before .step in
+    let c-if2 = c .before .if2 in
+    let c-line-ending = c .line-ending in
+    let a = c-start .args in
+    let t = now (a .words) in
+    let s = stateOf (a .live) 0 (a .taken) in
+    (line-held t (c-start .pre) s (a .byte) (c-if1 .left) (c-step .result) (c-step .ensures), line-pending t (c-start .pre) s (a .byte) (c-if1 .left) (c-if2 .left) (c-line-ending .result) (c-line-ending .ensures))
+
+pub left-waiting-spec : {M : Type 1} → statement M
+left-waiting-spec =
+    tie.close
+    (tie.spec
+    empty-requires
+    returns
+    shared-slice-read-positions
+    step-requires
+    returns-2
+    line-ending-requires
+    returns-3)

@@ -1,0 +1,56 @@
+-- `stream::scan::waiting_after` meets its contract: the last byte taken settles what waits.
+use denote.Ref.{now}
+use native.Mathlib.Omega.{arith}
+use lib.ListN.{length}
+use Rattle.table.specs.Automaton.{automaton}
+use Rattle.stream.proofs.Answers.{left-none, left-some}
+use Rattle.stream.proofs.scan.waiting_after.Statement.{statement}
+use Rattle.stream.proofs.scan.waiting_after.Tie as tie
+
+returns : tie.Need-returns
+returns c =
+    let c-start = c .before .before .before .before in
+    let c-if1 = c .before .if1 in
+    let a = c-start .args in
+    left-none (automaton (now (a .words))) (a .s) (now (a .block)) (a .before) (a .n) (c-if1 .taken)
+
+sub-last : tie.Need-sub-last
+sub-last c =
+    let c-if1 = c .if1 in
+    omega (arith, c-if1 .left)
+
+add-left-waiting : tie.Need-add-left-waiting
+add-left-waiting c =
+    let c-start = c .before .before .before .before in
+    record { fits = omega (arith, c-start .pre .1, c-start .pre .2) }
+
+shared-slice-read-left-waiting : tie.Need-shared-slice-read-left-waiting
+shared-slice-read-left-waiting c =
+    let c-start = c .before .before .before .before .before in
+    let c-if1 = c .before .before .if1 in
+    omega (arith, c-start .pre .1, c-if1 .left)
+
+left-waiting-requires : tie.Need-left-waiting-requires
+left-waiting-requires c κs =
+    let c-start = c .before .before .before .before .before in
+    c-start .pre .0
+
+returns-2 : tie.Need-returns-2
+returns-2 c =
+    let c-start = c .before .before .before .before .before .before in
+    let c-left-waiting = c .left-waiting in
+    let c-if1 = c .before .before .before .if1 in
+    let a = c-start .args in
+    let r = c-left-waiting .result in
+    left-some (automaton (now (a .words))) (a .s) (now (a .block)) (a .before) (a .n) (c-if1 .left) (r .held) (r .pending) (c-left-waiting .ensures .0) (c-left-waiting .ensures .1)
+
+pub waiting-after-spec : {M : Type 1} → statement M
+waiting-after-spec =
+    tie.close
+    (tie.spec
+    returns
+    sub-last
+    add-left-waiting
+    shared-slice-read-left-waiting
+    left-waiting-requires
+    returns-2)
