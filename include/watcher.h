@@ -19,7 +19,7 @@
  * same call.
  *
  * Numbers other than WATCHER_SUCCESS are refusals. A refused call changes
- * nothing but *place, *taken and *reports; an opening refused with
+ * nothing but *place, *taken, *reports and *used; an opening refused with
  * WATCHER_NO_TABLE also closes the state. docs/EMBEDDING.md tells more.
  */
 #ifndef WATCHER_H
@@ -43,6 +43,15 @@ extern "C" {
  */
 #define WATCHER_MAX_RULES 64
 #define WATCHER_REPORT_SLOTS (2 * WATCHER_MAX_RULES)
+
+/*
+ * A scan is given an allowance of work. A byte costs one unit, and one for each
+ * position that is live before it, so never more than WATCHER_MAX_BYTE_UNITS;
+ * with so many units a scan takes at least one byte of its block. The allowance
+ * WATCHER_NO_LIMIT is more than any scan can use.
+ */
+#define WATCHER_NO_LIMIT UINT64_MAX
+#define WATCHER_MAX_BYTE_UNITS UINT64_C(257)
 
 /* On a card a table takes so many blocks, each of so many bytes. */
 #define WATCHER_BLOCK_BYTES 512
@@ -113,18 +122,21 @@ watcher_error_t watcher_open(const uint64_t *table, size_t table_words,
 /*
  * Scans a block. Reports are written from the front of both lists, ids[i] with
  * offsets[i], by rising offset and for one offset by rising id; slots past
- * *reports keep what they held. The scan stops before the first byte whose
- * reports do not all fit, so *taken may be less than the length: take the reports
- * out and call again with the rest of the block. Each accepted call with a byte
- * in its block takes at least one; with WATCHER_REPORT_SLOTS slots or more no call
- * is refused for its space.
+ * *reports keep what they held. The scan stops before the first byte that the
+ * units left of the allowance do not pay for, or whose reports do not all fit, so
+ * *taken may be less than the length: take the reports out and call again with
+ * the rest of the block. *used is what the bytes taken cost, 0 for a refusal. An
+ * allowance of 0 takes nothing and is no refusal. Each accepted call with a byte
+ * in its block and WATCHER_MAX_BYTE_UNITS units or more takes at least one; with
+ * WATCHER_REPORT_SLOTS slots or more no call is refused for its space.
  */
 watcher_error_t watcher_scan(const uint64_t *table, size_t table_words,
                              uint64_t *state, size_t state_words,
+                             uint64_t allowance,
                              const uint8_t *block, size_t block_length,
                              uint32_t *ids, size_t ids_length,
                              uint64_t *offsets, size_t offsets_length,
-                             size_t *taken, size_t *reports);
+                             size_t *taken, size_t *reports, uint64_t *used);
 
 /*
  * Closes the stream, and reports the matches that needed its end: if its last
@@ -141,7 +153,8 @@ watcher_error_t watcher_close(const uint64_t *table, size_t table_words,
 
 /*
  * The busy figure: how many positions are live. Those that wait for the stream's
- * end are none of them. 0 for too few words.
+ * end are none of them. The next byte costs one unit more than this. 0 for too few
+ * words.
  */
 uint32_t watcher_busy(const uint64_t *state, size_t state_words);
 

@@ -11,7 +11,7 @@ mod rules;
 use std::hint::black_box;
 
 use watcher::raw;
-use watcher::{REPORT_SLOTS, STATE_WORDS, TABLE_WORDS};
+use watcher::{NO_LIMIT, REPORT_SLOTS, STATE_WORDS, TABLE_WORDS};
 
 use crate::ordinary::Matcher;
 use crate::rules::RULES;
@@ -89,7 +89,7 @@ fn by_library(table: &[u64], log: &[u8], block: usize, reports: &mut Reports) {
     for part in log.chunks(block) {
         let mut rest = part;
         loop {
-            let answer = raw::scan(table, &mut state, rest, &mut ids, &mut offsets);
+            let answer = raw::scan(table, &mut state, NO_LIMIT, rest, &mut ids, &mut offsets);
             reports.extend(ids.iter().copied().zip(offsets).take(answer.reports));
             rest = &rest[answer.taken..];
             if rest.is_empty() {
@@ -148,7 +148,7 @@ fn single_calls(table: &[u64]) {
         black_box(raw::open(black_box(table), &mut state));
     });
     let empty = each(10_000, || {
-        black_box(raw::scan(black_box(table), &mut state, &[], &mut ids, &mut offsets));
+        black_box(raw::scan(black_box(table), &mut state, NO_LIMIT, &[], &mut ids, &mut offsets));
     });
     let mut words = vec![0; TABLE_WORDS];
     let emptying = each(10_000, || {

@@ -1,6 +1,6 @@
 /*
- * Two rules, their table to a card and back, a stream in two blocks with a match across the border, and what was
- * reported.
+ * Two rules, their table to a card and back, a stream in two blocks with a match across the border, the second in
+ * slices of work, and what was reported.
  */
 #include <stdio.h>
 #include <string.h>
@@ -35,14 +35,16 @@ static void show(size_t reports) {
   }
 }
 
-/* Offers a block until all of it is taken. */
-static int scan(const char *block) {
+/* Offers a block until all of it is taken, with so many units of work a call; WATCHER_MAX_BYTE_UNITS at least. */
+static int scan(const char *block, uint64_t allowance) {
   const uint8_t *next = (const uint8_t *)block;
   size_t left = strlen(block);
   do {
     size_t taken, reports;
-    watcher_error_t number = watcher_scan(table, WATCHER_TABLE_WORDS, state, WATCHER_STATE_WORDS, next, left, ids,
-                                          WATCHER_REPORT_SLOTS, offsets, WATCHER_REPORT_SLOTS, &taken, &reports);
+    uint64_t used;
+    watcher_error_t number =
+        watcher_scan(table, WATCHER_TABLE_WORDS, state, WATCHER_STATE_WORDS, allowance, next, left, ids,
+                     WATCHER_REPORT_SLOTS, offsets, WATCHER_REPORT_SLOTS, &taken, &reports, &used);
     if (number != WATCHER_SUCCESS) {
       return refused("scan", number);
     }
@@ -91,7 +93,7 @@ int main(void) {
   if (number != WATCHER_SUCCESS) {
     return refused("opening", number);
   }
-  if (scan("fooxyzb") || scan("arbar")) {
+  if (scan("fooxyzb", WATCHER_NO_LIMIT) || scan("arbar", WATCHER_MAX_BYTE_UNITS)) {
     return 1;
   }
   printf("busy %u\n", (unsigned)watcher_busy(state, WATCHER_STATE_WORDS));

@@ -1,7 +1,7 @@
 //! Two rules, their table to a card and back, a stream in two blocks with a match across the border,
-//! and what was reported.
+//! the second in slices of work, and what was reported.
 
-use watcher::{Error, Flags, Report, Stream, Table, BLOCKS, BLOCK_BYTES};
+use watcher::{Error, Flags, Report, Stream, Table, BLOCKS, BLOCK_BYTES, MAX_BYTE_UNITS, NO_LIMIT};
 
 fn main() -> Result<(), Error> {
     let mut table = Table::new();
@@ -17,8 +17,12 @@ fn main() -> Result<(), Error> {
     let table = Table::from_blocks(&card)?;
     let show = |report: Report| println!("{} {}", report.id, report.end);
     let mut stream = Stream::open(&table);
-    stream.scan(b"fooxyzb", show)?;
-    stream.scan(b"arbar", show)?;
+    stream.scan(NO_LIMIT, b"fooxyzb", show)?;
+    let mut rest = &b"arbar"[..];
+    while !rest.is_empty() {
+        let slice = stream.scan(MAX_BYTE_UNITS, rest, show)?;
+        rest = &rest[slice.taken..];
+    }
     println!("busy {}", stream.busy());
     stream.close(show)
 }

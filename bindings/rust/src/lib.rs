@@ -1,12 +1,12 @@
 //! A safe Rust interface to the verified stream watcher.
 //!
 //! ```no_run
-//! use watcher::{Flags, Stream, Table};
+//! use watcher::{Flags, Stream, Table, NO_LIMIT};
 //!
 //! let mut table = Table::new();
 //! table.add(7, Flags::NONE, b"foo.*bar")?;
 //! let mut stream = Stream::open(&table);
-//! stream.scan(b"fooxyzbar", |report| println!("{} {}", report.id, report.end))?;
+//! stream.scan(NO_LIMIT, b"fooxyzbar", |report| println!("{} {}", report.id, report.end))?;
 //! stream.close(|report| println!("{} {}", report.id, report.end))?;
 //! # Ok::<(), watcher::Error>(())
 //! ```
@@ -30,6 +30,12 @@ pub const STATE_WORDS: usize = 14;
 pub const MAX_RULES: usize = 64;
 /// So many report slots in each list are enough for any table: a closing may report each rule twice.
 pub const REPORT_SLOTS: usize = 2 * MAX_RULES;
+
+/// The allowance of a scan whose work has no limit.
+pub const NO_LIMIT: u64 = u64::MAX;
+/// A byte costs one unit of work and one for each live position, so never more than this. A scan with
+/// so many units takes at least one byte of its block.
+pub const MAX_BYTE_UNITS: u64 = 257;
 
 /// The bytes of a block of a table on a card, and how many blocks a table takes.
 pub const BLOCK_BYTES: usize = 512;
@@ -59,6 +65,13 @@ impl std::ops::BitOr for Flags {
 pub struct Report {
     pub id: u32,
     pub end: u64,
+}
+
+/// How far a scan went: the bytes that it took, and the units of work that they cost.
+#[derive(Clone, Copy, Debug, Default, PartialEq, Eq)]
+pub struct Scanned {
+    pub taken: usize,
+    pub used: u64,
 }
 
 /// Rules, ready to be scanned for.
@@ -139,29 +152,39 @@ impl<'t> Stream<'t> {
         &self.state
     }
 
-    /// Scans all of a block, and gives each report in order.
-    pub fn scan(&mut self, block: &[u8], mut found: impl FnMut(Report)) -> Result<(), Error> {
+    /// Scans a block as far as the allowance of work goes, with `NO_LIMIT` all of it, and gives each
+    /// report in order. With fewer units than `MAX_BYTE_UNITS` it may take nothing.
+    pub fn scan(
+        &mut self,
+        allowance: u64,
+        block: &[u8],
+        mut found: impl FnMut(Report),
+    ) -> Result<Scanned, Error> {
         let (mut ids, mut offsets) = ([0; REPORT_SLOTS], [0; REPORT_SLOTS]);
-        let mut rest = block;
+        let mut done = Scanned::default();
         loop {
-            let answer = self.scan_into(rest, &mut ids, &mut offsets)?;
+            let (left, rest) = (allowance - done.used, &block[done.taken..]);
+            let answer = self.scan_into(left, rest, &mut ids, &mut offsets)?;
             give(&ids, &offsets, answer.reports, &mut found);
-            rest = &rest[answer.taken..];
-            if rest.is_empty() {
-                return Ok(());
+            done.taken += answer.taken;
+            done.used += answer.used;
+            if answer.taken == 0 || done.taken == block.len() {
+                return Ok(done);
             }
         }
     }
 
-    /// One scan into lists of the caller's: it stops before the first byte whose reports do not all
-    /// fit. Both lists need twice as many slots as the table has rules.
+    /// One scan into lists of the caller's: it stops before the first byte that the allowance does not
+    /// pay for, or whose reports do not all fit. Both lists need twice as many slots as the table has
+    /// rules.
     pub fn scan_into(
         &mut self,
+        allowance: u64,
         block: &[u8],
         ids: &mut [u32],
         offsets: &mut [u64],
     ) -> Result<raw::Answer, Error> {
-        let answer = raw::scan(&self.table.words, &mut self.state, block, ids, offsets);
+        let answer = raw::scan(&self.table.words, &mut self.state, allowance, block, ids, offsets);
         Error::check(answer.number, 0)?;
         Ok(answer)
     }
@@ -176,7 +199,8 @@ impl<'t> Stream<'t> {
         Ok(())
     }
 
-    /// How many positions are live; those that wait for the end are none.
+    /// How many positions are live; those that wait for the end are none. The next byte costs one unit
+    /// more than this.
     pub fn busy(&self) -> u32 {
         raw::busy(&self.state)
     }

@@ -4,12 +4,14 @@
 
 use crate::sys;
 
-/// What a scan or a closing answers: its number, the bytes taken, the reports written.
+/// What a scan or a closing answers: its number, the bytes taken, the reports written, the units of
+/// work used. A closing takes no bytes and no allowance.
 #[derive(Clone, Copy, Debug, PartialEq, Eq)]
 pub struct Answer {
     pub number: u32,
     pub taken: usize,
     pub reports: usize,
+    pub used: u64,
 }
 
 pub fn empty(table: &mut [u64]) -> u32 {
@@ -44,17 +46,19 @@ pub fn open(table: &[u64], state: &mut [u64]) -> u32 {
 pub fn scan(
     table: &[u64],
     state: &mut [u64],
+    allowance: u64,
     block: &[u8],
     ids: &mut [u32],
     offsets: &mut [u64],
 ) -> Answer {
-    let (mut taken, mut reports) = (0, 0);
+    let (mut taken, mut reports, mut used) = (0, 0, 0);
     let number = unsafe {
         sys::watcher_scan(
             table.as_ptr(),
             table.len(),
             state.as_mut_ptr(),
             state.len(),
+            allowance,
             block.as_ptr(),
             block.len(),
             ids.as_mut_ptr(),
@@ -63,9 +67,10 @@ pub fn scan(
             offsets.len(),
             &mut taken,
             &mut reports,
+            &mut used,
         )
     };
-    Answer { number, taken, reports }
+    Answer { number, taken, reports, used }
 }
 
 pub fn close(table: &[u64], state: &mut [u64], ids: &mut [u32], offsets: &mut [u64]) -> Answer {
@@ -83,7 +88,7 @@ pub fn close(table: &[u64], state: &mut [u64], ids: &mut [u32], offsets: &mut [u
             &mut reports,
         )
     };
-    Answer { number, taken: 0, reports }
+    Answer { number, taken: 0, reports, used: 0 }
 }
 
 pub fn busy(state: &[u64]) -> u32 {

@@ -28,6 +28,7 @@ extern "C" {
         table_words: usize,
         state: *mut u64,
         state_words: usize,
+        allowance: u64,
         block: *const u8,
         block_length: usize,
         ids: *mut u32,
@@ -36,6 +37,7 @@ extern "C" {
         offsets_length: usize,
         taken: *mut usize,
         reports: *mut usize,
+        used: *mut u64,
     ) -> u32;
 
     pub fn watcher_close(

@@ -1,5 +1,6 @@
 // One line for each call that a case makes.
 use libc::STDOUT_FILENO;
+use stream::NO_LIMIT;
 use stream::Stream;
 use table::layout::MAX_RULES;
 
@@ -61,7 +62,9 @@ pub fn log(words: &[u64], bytes: &[u8]) {
     let mut ids = [0u32; SLOTS];
     let mut offsets = [0u64; SLOTS];
     let opened = Stream::open(words);
-    let scanned = opened.stream.scan(words, bytes, &mut ids, &mut offsets);
+    let scanned = opened
+        .stream
+        .scan(words, NO_LIMIT, bytes, &mut ids, &mut offsets);
     say(b"log of ");
     io::print_decimal(STDOUT_FILENO, bytes.len() as u64);
     say(b" bytes, taken ");

@@ -9,14 +9,14 @@ use native.Mathlib.Decide.{decLt}
 use lib.Dec.{eqb, leb, ltb}
 use lib.ListN.{length, getD, replicate}
 use borrow.Author.Tests.{le-ltb}
-use Rattle.sets.specs.Set.{on, has, any, emptySet, unionOf}
+use Rattle.sets.specs.Set.{on, has, any, emptySet, unionOf, sizeOf}
 use Rattle.sets.proofs.Laws.{has-setOf, has-empty, has-union, setOf-ext, any-ext}
 use Rattle.sets.proofs.Digits.{wordOf-ext}
 use Rattle.table.specs.Layout.{maxPositions}
 use Rattle.table.specs.Automaton.{Automaton, firstIn, startIn, followIn, lastIn}
 use Rattle.steps.specs.Step.{starts, stepped, ends, endsLine, endsAtEnd}
 use Rattle.stream.specs.declared.Stream.{Stream}
-use Rattle.stream.specs.Byte.{nextLive, nextHeld, nextPending, runIds, runMarks, byteIds, byteState, stateAfter, idsOf, endsOf, fits, lineIds, endIds, closeIds, closeEnds}
+use Rattle.stream.specs.Byte.{nextLive, nextHeld, nextPending, runIds, runMarks, byteIds, byteState, stateAfter, idsOf, endsOf, costOf, fits, lineIds, endIds, closeIds, closeEnds}
 
 -- what the two say of the rules and positions that they have
 pub record Agree (w v : Automaton) : Type 0 where
@@ -190,11 +190,17 @@ module _ (w v : Automaton) (same : Agree w v) where
     all-ends-agree (suc k) le =
         ap₂ (λ (l i : List ℕ). l ++ replicate (length i) (s .taken + suc k)) (all-ends-agree k (omega arith)) (bytes-agree k le)
 
-    pub fits-agree : (room k : ℕ) → k ≤ length block → fits w s block room k ≡ fits v s block room k
+    costs-agree : (k : ℕ) → k ≤ length block → costOf w s block k ≡ costOf v s block k
+    unfolding costOf
+    costs-agree zero le = refl
+    costs-agree (suc k) le = ap₂ (λ (n : ℕ) (x : Stream). n + suc (sizeOf (x .live))) (costs-agree k (omega arith)) (states-agree k (omega arith))
+
+    pub fits-agree : (allowance room k : ℕ) → k ≤ length block → fits w s allowance block room k ≡ fits v s allowance block room k
     unfolding fits
-    fits-agree room zero le = refl
-    fits-agree room (suc k) le =
-        ap₂ (λ (l : List ℕ) (n : ℕ). cond (leb (length l) room) (suc k) n) (all-ids-agree (suc k) le) (fits-agree room k (omega arith))
+    fits-agree allowance room zero le = refl
+    fits-agree allowance room (suc k) le =
+        ap₂ (λ (b : Bool) (n : ℕ). cond b (suc k) n)
+        (ap₂ (λ (l : List ℕ) (n : ℕ). leb (length l) room && leb n allowance) (all-ids-agree (suc k) le) (costs-agree (suc k) le)) (fits-agree allowance room k (omega arith))
 
   module _ (s : Stream) (inside : Inside s) where
     line-ids-agree : lineIds w s ≡ lineIds v s

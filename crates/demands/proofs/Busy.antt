@@ -15,7 +15,7 @@ use Rattle.sets.proofs.Laws.{count-ext, count-add}
 use Rattle.table.specs.Layout.{maxPositions}
 use Rattle.table.specs.Automaton.{automaton}
 use Rattle.stream.specs.declared.Stream.{Stream}
-use Rattle.stream.specs.Calls.{busyOf}
+use Rattle.stream.specs.Byte.{busyOf}
 use Rattle.regex.specs.Form.{positions}
 use Rattle.regex.specs.Rule.{Rule, stream}
 use Rattle.regex.specs.Live.{Reached, Live, Counts, none, one, skip, Busy}

@@ -44,7 +44,7 @@ kept t (adding this id flags pattern) h =
     ap (λ (b : Bool). cond b (withRule t id flags (readOf pattern (optionsOf flags))) t) (ne-eqb (addAnswer t id flags pattern .number) 0 h)
 kept t (adding (those u) id flags pattern) h = refl
 kept t (opening l) h = refl
-kept t (scanning l s block ids offsets) h = refl
+kept t (scanning l s allowance block ids offsets) h = refl
 kept t (closing l s ids offsets) h = refl
 kept t (writing-block l i b) h = refl
 kept t (reading-block this i b) h = read-kept t i b (λ e. h (ap (λ (a : Stored). a .number) e))
@@ -60,26 +60,26 @@ additions-alone (another o ∷ l) t h = additions-alone l (tableAfter t o) (h .1
 -- the other calls of a list, each asked on the same table
 unfoldable pub Refused : List ℕ → List Item → Type 0
 Refused t [] = Unit {0}
-Refused t (scan block ids offsets ∷ l) = Refused t l
+Refused t (scan allowance block ids offsets ∷ l) = Refused t l
 Refused t (close ids offsets ∷ l) = Refused t l
 Refused t (other o ∷ l) = (¬ (numberOf t o ≡ 0)) × Refused t l
 
 pub refused-others : (t : List ℕ) (l : List Item) (s : Stream) → Refused t l → OthersRefused t s l
 unfolding Refused OthersRefused
 refused-others t [] s h = tt
-refused-others t (scan block ids offsets ∷ l) s h = refused-others t l (scanned t s block ids offsets .stream) h
+refused-others t (scan allowance block ids offsets ∷ l) s h = refused-others t l (scanned t s allowance block ids offsets .stream) h
 refused-others t (close ids offsets ∷ l) s h = refused-others t l (closed t s ids offsets .stream) h
 refused-others t (other o ∷ l) s h = (h .0, subst (λ (u : List ℕ). OthersRefused u s l) (sym (kept t o (h .0))) (refused-others t l s (h .1)))
 
-pub takes-le : (t : List ℕ) (s : Stream) (block : List ℕ) (room : ℕ) → takenBy t s block room ≤ length block
+pub takes-le : (t : List ℕ) (s : Stream) (allowance : ℕ) (block : List ℕ) (room : ℕ) → takenBy t s allowance block room ≤ length block
 unfolding takenBy
-takes-le t s block room = fits-le (automaton t) s block room (length block)
+takes-le t s allowance block room = fits-le (automaton t) s block allowance room (length block)
 
 -- what the slots up to the count hold
 front-is : (new old : List ℕ) → take (length new) (written new old) ≡ new
 front-is new old = take-append-seam new (drop (length new) old)
 
-module _ (t : List ℕ) (s : Stream) (block ids offsets : List ℕ) where
+module _ (t : List ℕ) (s : Stream) (allowance : ℕ) (block ids offsets : List ℕ) where
   abbrev w : Automaton
   w = automaton t
 
@@ -87,15 +87,15 @@ module _ (t : List ℕ) (s : Stream) (block ids offsets : List ℕ) where
   number = scanNumber t s (length block) (space ids offsets)
 
   abbrev k : ℕ
-  k = takenBy t s block (space ids offsets)
+  k = takenBy t s allowance block (space ids offsets)
 
   -- the reports of an accepted scan
-  pub scan-reports : number ≡ 0 → reportsIn (scanned t s block ids offsets .reports) (scannedIds t s block ids offsets) (scannedOffsets t s block ids offsets)
+  pub scan-reports : number ≡ 0 → reportsIn (scanned t s allowance block ids offsets .reports) (scannedIds t s allowance block ids offsets) (scannedOffsets t s allowance block ids offsets)
       ≡ zip (idsOf w s block k) (endsOf w s block k)
   unfolding scannedIds scannedOffsets
   scan-reports ok =
       ap₂ (λ (n : ℕ) (b : Bool). reportsIn n (cond b (written (idsOf w s block k) ids) ids) (cond b (written (endsOf w s block k) offsets) offsets))
-      (ap (λ (c : Scanned). c .reports) (accepted-scan t s block ids offsets ok)) (eq-eqb number 0 ok)
+      (ap (λ (c : Scanned). c .reports) (accepted-scan t s allowance block ids offsets ok)) (eq-eqb number 0 ok)
       ∙ ap₂ zip (front-is (idsOf w s block k) ids)
       (ap (λ (n : ℕ). take n (written (endsOf w s block k) offsets)) (sym (ends-count w s block k)) ∙ front-is (endsOf w s block k) offsets)
 
@@ -136,12 +136,12 @@ module _ (t : List ℕ) where
   pub silent : (l : List Item) (s : Stream) → s .closed ≡ true → OthersRefused t s l → (bytesOf t s l ≡ []) × (reportsOf t s l ≡ [])
   unfolding bytesOf reportsOf OthersRefused zip mathlib.Core.List.zipWith
   silent [] s e h = (refl, refl)
-  silent (scan block ids offsets ∷ l) s e h =
-      let r = refused-scan t s block ids offsets (shut-scan t s (length block) (space ids offsets) e) in
-      let again : scanned t s block ids offsets .stream ≡ s = ap (λ (c : Scanned). c .stream) r in
+  silent (scan allowance block ids offsets ∷ l) s e h =
+      let r = refused-scan t s allowance block ids offsets (shut-scan t s (length block) (space ids offsets) e) in
+      let again : scanned t s allowance block ids offsets .stream ≡ s = ap (λ (c : Scanned). c .stream) r in
       let ih = silent l s e (subst (λ (x : Stream). OthersRefused t x l) again h) in (
         ap₂ (λ (n : ℕ) (x : Stream). take n block ++ bytesOf t x l) (ap (λ (c : Scanned). c .taken) r) again ∙ ih .0,
-        ap₂ (λ (n : ℕ) (x : Stream). reportsIn n (scannedIds t s block ids offsets) (scannedOffsets t s block ids offsets) ++ reportsOf t x l)
+        ap₂ (λ (n : ℕ) (x : Stream). reportsIn n (scannedIds t s allowance block ids offsets) (scannedOffsets t s allowance block ids offsets) ++ reportsOf t x l)
             (ap (λ (c : Scanned). c .reports) r) again ∙ ih .1,
       )
   silent (close ids offsets ∷ l) s e h =
@@ -189,34 +189,34 @@ module _ (t : List ℕ) where
   pub chained : (l : List Item) (s : Stream) → s .closed ≡ false → OthersRefused t s l → Closes t s l → Goes s (bytesOf t s l) (reportsOf t s l)
   unfolding bytesOf reportsOf OthersRefused Closes zip mathlib.Core.List.zipWith
   chained [] s e h c = absurd c
-  chained (scan block ids offsets ∷ l) s e h c = go (ℕ-discrete (scanNumber t s (length block) (space ids offsets)) 0) (λ x. chained l x)
+  chained (scan allowance block ids offsets ∷ l) s e h c = go (ℕ-discrete (scanNumber t s (length block) (space ids offsets)) 0) (λ x. chained l x)
     where
       Rest : Type 0
       Rest = (x : Stream) → x .closed ≡ false → OthersRefused t x l → Closes t x l → Goes x (bytesOf t x l) (reportsOf t x l)
 
       k : ℕ
-      k = takenBy t s block (space ids offsets)
+      k = takenBy t s allowance block (space ids offsets)
 
       -- the goal, by the answer and what the lists hold
       From : Scanned → List Pair → Type 0
       From a r = Goes s (take (a .taken) block ++ bytesOf t (a .stream) l) (r ++ reportsOf t (a .stream) l)
 
       go : Dec (scanNumber t s (length block) (space ids offsets) ≡ 0) → Rest
-          → From (scanned t s block ids offsets)
-          (reportsIn (scanned t s block ids offsets .reports) (scannedIds t s block ids offsets) (scannedOffsets t s block ids offsets))
+          → From (scanned t s allowance block ids offsets)
+          (reportsIn (scanned t s allowance block ids offsets .reports) (scannedIds t s allowance block ids offsets) (scannedOffsets t s allowance block ids offsets))
       go (yes ok) ih =
-          let is = accepted-scan t s block ids offsets ok in
-          let next : scanned t s block ids offsets .stream ≡ stateAfter (automaton t) s block k = ap (λ (a : Scanned). a .stream) is in
-          let le : k ≤ length block = takes-le t s block (space ids offsets) in
-          subst₂ From (sym is) (sym (scan-reports t s block ids offsets ok))
+          let is = accepted-scan t s allowance block ids offsets ok in
+          let next : scanned t s allowance block ids offsets .stream ≡ stateAfter (automaton t) s block k = ap (λ (a : Scanned). a .stream) is in
+          let le : k ≤ length block = takes-le t s allowance block (space ids offsets) in
+          subst₂ From (sym is) (sym (scan-reports t s allowance block ids offsets ok))
           (scan-goes s block k le (bytesOf t (stateAfter (automaton t) s block k) l) (reportsOf t (stateAfter (automaton t) s block k) l)
           (ih (stateAfter (automaton t) s block k) (closed-after (automaton t) s block k ∙ e)
           (subst (λ (x : Stream). OthersRefused t x l) next h) (subst (λ (x : Stream). Closes t x l) next c)))
       go (no bad) ih =
-          let is = refused-scan t s block ids offsets bad in
-          let next : scanned t s block ids offsets .stream ≡ s = ap (λ (a : Scanned). a .stream) is in
+          let is = refused-scan t s allowance block ids offsets bad in
+          let next : scanned t s allowance block ids offsets .stream ≡ s = ap (λ (a : Scanned). a .stream) is in
           subst₂ From (sym is)
-          (sym (ap (λ (n : ℕ). reportsIn n (scannedIds t s block ids offsets) (scannedOffsets t s block ids offsets)) (ap (λ (a : Scanned). a .reports) is)))
+          (sym (ap (λ (n : ℕ). reportsIn n (scannedIds t s allowance block ids offsets) (scannedOffsets t s allowance block ids offsets)) (ap (λ (a : Scanned). a .reports) is)))
           (ih s e (subst (λ (x : Stream). OthersRefused t x l) next h) (subst (λ (x : Stream). Closes t x l) next c))
   chained (close ids offsets ∷ l) s e h c = go (ℕ-discrete (closeNumber t s (space ids offsets)) 0) (λ x. chained l x) c
     where
@@ -249,9 +249,9 @@ module _ (t : List ℕ) where
   pub joined-bytes : (l : List Item) (s : Stream) → OthersRefused t s l → Blocks l → Bytes (bytesOf t s l)
   unfolding bytesOf OthersRefused Blocks
   joined-bytes [] s h b = λ i lt. absurd (omega arith)
-  joined-bytes (scan block ids offsets ∷ l) s h b =
-      append-bytes (take (scanned t s block ids offsets .taken) block) (bytesOf t (scanned t s block ids offsets .stream) l)
-      (take-bytes block (scanned t s block ids offsets .taken) (b .0)) (joined-bytes l (scanned t s block ids offsets .stream) h (b .1))
+  joined-bytes (scan allowance block ids offsets ∷ l) s h b =
+      append-bytes (take (scanned t s allowance block ids offsets .taken) block) (bytesOf t (scanned t s allowance block ids offsets .stream) l)
+      (take-bytes block (scanned t s allowance block ids offsets .taken) (b .0)) (joined-bytes l (scanned t s allowance block ids offsets .stream) h (b .1))
   joined-bytes (close ids offsets ∷ l) s h b = joined-bytes l (closed t s ids offsets .stream) h b
   joined-bytes (other o ∷ l) s h b =
       let same : tableAfter t o ≡ t = kept t o (h .0) in

@@ -52,18 +52,19 @@ open-refused t = go (isTable t)
     go true h = absurd (h refl)
     go false h = refl
 
-module _ (t : List ℕ) (s : Stream) (block ids offsets : List ℕ) (bad : ¬ (scanned t s block ids offsets .number ≡ 0)) where
+module _ (t : List ℕ) (s : Stream) (allowance : ℕ) (block ids offsets : List ℕ) (bad : ¬ (scanned t s allowance block ids offsets .number ≡ 0)) where
   not-zero : ¬ (scanNumber t s (length block) (space ids offsets) ≡ 0)
-  not-zero ok = bad (ap (λ (a : Scanned). a .number) (accepted-scan t s block ids offsets ok))
+  not-zero ok = bad (ap (λ (a : Scanned). a .number) (accepted-scan t s allowance block ids offsets ok))
 
-  scan-refused : ScanRefused t s block ids offsets
+  scan-refused : ScanRefused t s allowance block ids offsets
   unfolding scannedIds scannedOffsets
   scan-refused =
-      let r = refused-scan t s block ids offsets not-zero in
+      let r = refused-scan t s allowance block ids offsets not-zero in
       let no = ne-eqb (scanNumber t s (length block) (space ids offsets)) 0 not-zero in
       record {
         taken = ap (λ (a : Scanned). a .taken) r;
         reports = ap (λ (a : Scanned). a .reports) r;
+        used = ap (λ (a : Scanned). a .used) r;
         state = ap (λ (a : Scanned). a .stream) r;
         ids-kept = rw no;
         offsets-kept = rw no;

@@ -53,8 +53,8 @@ module _ (t : List ℕ) (a : Addition) (ok : addAnswer t (a .id) (a .flags) (a .
 
 pub addition-ends-streams : AdditionEndsStreams
 unfolding scanNumber closeNumber
-addition-ends-streams t a ok s fits block ids offsets = (
-  scan-number (u t a ok) s block ids offsets ∙ unfit (isTable (u t a ok)) (valid (automaton (u t a ok)) s) _ (table t a ok) (bad t a ok s fits),
+addition-ends-streams t a ok s fits allowance block ids offsets = (
+  scan-number (u t a ok) s allowance block ids offsets ∙ unfit (isTable (u t a ok)) (valid (automaton (u t a ok)) s) _ (table t a ok) (bad t a ok s fits),
   close-number-is (u t a ok) s ids offsets ∙ unfit (isTable (u t a ok)) (valid (automaton (u t a ok)) s) _ (table t a ok) (bad t a ok s fits),
 )
 
@@ -62,8 +62,8 @@ addition-ends-streams t a ok s fits block ids offsets = (
 
 pub closing-ends-stream : ClosingEndsStream
 unfolding scanNumber closeNumber
-closing-ends-stream t s ids offsets ok block laterIds laterOffsets = (
-  scan-number t after block laterIds laterOffsets ∙ fit (isTable t) (valid (automaton t) after) _ is-table fits
+closing-ends-stream t s ids offsets ok allowance block laterIds laterOffsets = (
+  scan-number t after allowance block laterIds laterOffsets ∙ fit (isTable t) (valid (automaton t) after) _ is-table fits
       ∙ ap (λ (b : Bool). cond b 19 (cond (overLimit after (length block)) 21 (spaceNumber t (space laterIds laterOffsets)))) shut,
   close-number-is t after laterIds laterOffsets ∙ fit (isTable t) (valid (automaton t) after) _ is-table fits
       ∙ ap (λ (b : Bool). cond b 19 (spaceNumber t (space laterIds laterOffsets))) shut,

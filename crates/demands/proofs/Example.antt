@@ -5,7 +5,7 @@ use mathlib.Core.List.{List, [], zip}
 use Prim.Native.Nat.{ℕ, _≤_}
 use native.Mathlib.Omega.{arith}
 use lib.ListN.{length}
-use Rattle.sets.specs.Set.{on, has, setOf, wordOf, any, emptySet, insertedRange, unionOf, complementOf, inserted, fullSet}
+use Rattle.sets.specs.Set.{on, has, setOf, wordOf, any, count, sizeOf, emptySet, insertedRange, unionOf, complementOf, inserted, fullSet}
 use Rattle.kinds.specs.Kind.{isDigit, isLower, isUpper, isBlank, isAlpha, isAlnum, isCntrl}
 use Rattle.kinds.specs.Case.{otherCase, caseClosed}
 use Rattle.atoms.specs.Number.{digitOf, digits, valueFrom, blanks, numeralOf}
@@ -29,7 +29,7 @@ use Rattle.pattern.specs.Walk.{chained, chosen, one, repeating, closing, openin
 use Rattle.pattern.specs.Read.{judged, readOf, optionsOf}
 use Rattle.steps.specs.Step.{starts, stepped, ends, endsLine, endsAtEnd}
 use Rattle.stream.specs.declared.Stream.{Stream}
-use Rattle.stream.specs.Byte.{nextHeld, nextPending, runIds, runMarks, byteIds, byteState, stateAfter, idsOf, endsOf, fits, lineIds, endIds, closeIds, closeEnds}
+use Rattle.stream.specs.Byte.{nextHeld, nextPending, runIds, runMarks, byteIds, byteState, stateAfter, idsOf, endsOf, costOf, fits, lineIds, endIds, closeIds, closeEnds}
 use Rattle.stream.specs.Calls.{opened, scanNumber}
 use Rattle.stream.proofs.Results.{opened-valid}
 use Rattle.rules.specs.declared.Added.{Added}
@@ -56,7 +56,7 @@ module _ (words : List ℕ) (long : tableWords ≤ length words) where
 
   -- by the accepted rule alone: its id is taken, and this is what the calls give
   computes : (nextAnswer (acceptedIn c) (rule 5 0 "a") .number ≡ 3) × (run (computedOf (acceptedIn c)) (startOf (acceptedIn c)) (callsIn items) ≡ outcomes)
-  unfolding callsIn scanLeft closeLeft gives moves run items outcomes on has setOf wordOf any emptySet insertedRange unionOf complementOf inserted fullSet isDigit isLower isUpper isBlank otherCase caseClosed digitOf digits valueFrom blanks numeralOf bracedOf shortOf flipped64 raised controlOf typeOf namedOf placedOf hexOf octalOf isAlpha isAlnum escapeOf lower isMark gapOf names begins named nameAmong nameOf bracketOf memberOf rangeFault jointOf memberAt membersOf classOf joined settled lettersOf beforeClose commentOf openingOf bounded open-ended bracesOf formOf marked quantifierOf escaped unquotedOf lexemeOf itemSet copied capped saturating nullable write positions repeated copies optionals null first last follow byteSets chained chosen one repeating closing opening act next finish walk judged readOf optionsOf unknownFlag placed used taken nextAnswer withNew afterNext acceptedAfter laid insert into owner computed starts stepped ends endsLine endsAtEnd nextHeld nextPending runIds runMarks byteIds byteState lineIds endIds closeIds closeEnds all bytes stateAfter idsOf endsOf fits zip mathlib.Core.List.zipWith additionsOf steps isCntrl anyRaw withRaw spelledAt spelledOf
+  unfolding callsIn scanLeft closeLeft gives moves run items outcomes on has setOf wordOf any emptySet insertedRange unionOf complementOf inserted fullSet isDigit isLower isUpper isBlank otherCase caseClosed digitOf digits valueFrom blanks numeralOf bracedOf shortOf flipped64 raised controlOf typeOf namedOf placedOf hexOf octalOf isAlpha isAlnum escapeOf lower isMark gapOf names begins named nameAmong nameOf bracketOf memberOf rangeFault jointOf memberAt membersOf classOf joined settled lettersOf beforeClose commentOf openingOf bounded open-ended bracesOf formOf marked quantifierOf escaped unquotedOf lexemeOf itemSet copied capped saturating nullable write positions repeated copies optionals null first last follow byteSets chained chosen one repeating closing opening act next finish walk judged readOf optionsOf unknownFlag placed used taken nextAnswer withNew afterNext acceptedAfter laid insert into owner computed starts stepped ends endsLine endsAtEnd nextHeld nextPending runIds runMarks byteIds byteState lineIds endIds closeIds closeEnds all bytes stateAfter idsOf endsOf costOf fits sizeOf count zip mathlib.Core.List.zipWith additionsOf steps isCntrl anyRaw withRaw spelledAt spelledOf
   computes = (refl, refl)
 
   -- before the opening: the state is closed
@@ -73,11 +73,11 @@ module _ (words : List ℕ) (long : tableWords ≤ length words) where
 
   blocks : Blocks items
   unfolding Blocks items bytes all
-  blocks = (bytes-tested (bytes "abbb") tt, (bytes-tested (bytes "b") tt, (bytes-tested [] tt, (bytes-tested (bytes "b") tt, (bytes-tested (bytes "b") tt, tt)))))
+  blocks = (bytes-tested (bytes "abbb") tt, (bytes-tested (bytes "b") tt, (bytes-tested [] tt, (bytes-tested (bytes "b") tt, (bytes-tested (bytes "b") tt, (bytes-tested (bytes "b") tt, tt))))))
 
   in-calls : BytesIn (callsIn items)
   unfolding callsIn BytesIn items bytes all
-  in-calls = (bytes-tested (bytes "abbb") tt, (bytes-tested (bytes "b") tt, (bytes-tested [] tt, (bytes-tested (bytes "b") tt, (bytes-tested (bytes "b") tt, tt)))))
+  in-calls = (bytes-tested (bytes "abbb") tt, (bytes-tested (bytes "b") tt, (bytes-tested [] tt, (bytes-tested (bytes "b") tt, (bytes-tested (bytes "b") tt, (bytes-tested (bytes "b") tt, tt))))))
 
   each : outcomesOf t (streamIn c) items ≡ outcomes
   each =

@@ -1,5 +1,5 @@
 -- From words to meaning: Acceptance (which additions are accepted), Carried (what additions built), Tracked and Whole (a stream follows the meaning), Bytewise,
--- Chained, Streams and States (lists of calls), Busy, Validity, Theorems; Ends, Demand1, Alone.
+-- Chained, Streams and States (lists of calls), Busy, Validity, Theorems; Ends, Allowances, Demand1, Alone.
 -- From words to values, for the worked cases: Agreeing, Computing and Outcomes (calls followed by an automaton that computes), Logs, Cases, Example.
 pub mod Acceptance
 pub mod Carried
@@ -13,6 +13,7 @@ pub mod Busy
 pub mod Validity
 pub mod Theorems
 pub mod Ends
+pub mod Allowances
 pub mod Demand1
 pub mod Agreeing
 pub mod Computing

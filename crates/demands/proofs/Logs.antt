@@ -19,7 +19,7 @@ use Rattle.stream.specs.Byte.{byteIds, byteState, stateAfter, idsOf, endsOf, fi
 use Rattle.stream.specs.Valid.{streamLimit}
 use Rattle.stream.specs.Calls.{fresh, opened, space}
 use Rattle.stream.proofs.Results.{opened-stream, opened-valid}
-use Rattle.stream.proofs.Blocks.{fits-is, ends-count, closed-after, two-parts}
+use Rattle.stream.proofs.Blocks.{cost-few, fits-is, ends-count, closed-after, two-parts}
 use Rattle.regex.specs.Ordered.{Pair}
 use Rattle.regex.proofs.Logic.{and-T, true-T}
 use Rattle.rules.specs.Additions.{Accepted, used}
@@ -149,13 +149,13 @@ module _ (w : Automaton) where
     close-open room wide = let b : ltb room (2 * w .rules) ≡ false = le-ltb room (2 * w .rules) (omega arith) in rw (running, b)
 
     scan-whole : (b : String × List Pair) → T (Small s b) → passed s (bytes (b .0)) ≡ b .1 → (room : ℕ) → 2 * maxRules ≤ room
-        → (gives w s (scans (bytes (b .0)) room) ≡ by-scan 0 (length (bytes (b .0))) (b .1)) × (moves w s (scans (bytes (b .0)) room) ≡ pass s (bytes (b .0)))
+        → (gives w s (scans (257 * length (bytes (b .0))) (bytes (b .0)) room) ≡ by-scan 0 (length (bytes (b .0))) (b .1)) × (moves w s (scans (257 * length (bytes (b .0))) (bytes (b .0)) room) ≡ pass s (bytes (b .0)))
     unfolding gives moves
     scan-whole b ok same room wide =
         let block : List ℕ = bytes (b .0) in
         let number : scanLeft (w .rules) s (length block) room ≡ 0 = scan-open (length block) room (below-limit s b ok) wide in
-        let taken : fits w s block room (length block) ≡ length block =
-        fits-is w s block room (length block) (length block) (omega arith) (omega (arith, few s b ok same)) (λ lt. absurd (omega arith)) in (
+        let taken : fits w s (257 * length block) block room (length block) ≡ length block =
+        fits-is w s block (257 * length block) room (length block) (length block) (omega arith) (omega (arith, few s b ok same)) (cost-few w s block (length block)) (λ lt. absurd (omega arith)) in (
           ap₂ (λ (n k : ℕ). cond (eqb n 0) (by-scan 0 k (zip (idsOf w s block k) (endsOf w s block k))) (by-scan n 0 [])) number taken
               ∙ ap (by-scan 0 (length block)) (passed-is block s ∙ same),
           ap₂ (λ (n k : ℕ). cond (eqb n 0) (stateAfter w s block k) s) number taken ∙ pass-is block s,

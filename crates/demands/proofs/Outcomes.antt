@@ -28,12 +28,12 @@ use Rattle.demands.proofs.Agreeing.{Agree, Inside, states-agree, all-id
 
 -- a call of the stream, of whose lent lists only the space counts
 pub data Call : Type 0 where
-  scans : (block : List ℕ) (room : ℕ) → Call
+  scans : (allowance : ℕ) (block : List ℕ) (room : ℕ) → Call
   closes : (room : ℕ) → Call
 
 unfoldable pub callsIn : List Item → List Call
 callsIn [] = []
-callsIn (scan block ids offsets ∷ l) = scans block (space ids offsets) ∷ callsIn l
+callsIn (scan allowance block ids offsets ∷ l) = scans allowance block (space ids offsets) ∷ callsIn l
 callsIn (close ids offsets ∷ l) = closes (space ids offsets) ∷ callsIn l
 callsIn (other o ∷ l) = callsIn l
 
@@ -45,8 +45,8 @@ unfoldable pub closeLeft : (rules : ℕ) → Stream → (room : ℕ) → ℕ
 closeLeft rules s room = cond (s .closed) 19 (cond (ltb room (2 * rules)) 20 0)
 
 module _ (w : Automaton) where
-  abbrev bytesTaken : Stream → List ℕ → ℕ → ℕ
-  bytesTaken s block room = fits w s block room (length block)
+  abbrev bytesTaken : Stream → ℕ → List ℕ → ℕ → ℕ
+  bytesTaken s allowance block room = fits w s allowance block room (length block)
 
   -- the pairs of the first k bytes of a block, and of the closing
   abbrev pairsTo : Stream → List ℕ → ℕ → List Pair
@@ -57,13 +57,13 @@ module _ (w : Automaton) where
 
   -- what a call gives, and the state after it
   unfoldable pub gives : Stream → Call → Outcome
-  gives s (scans block room) =
+  gives s (scans allowance block room) =
       let number : ℕ = scanLeft (w .rules) s (length block) room in
-      cond (eqb number 0) (by-scan 0 (bytesTaken s block room) (pairsTo s block (bytesTaken s block room))) (by-scan number 0 [])
+      cond (eqb number 0) (by-scan 0 (bytesTaken s allowance block room) (pairsTo s block (bytesTaken s allowance block room))) (by-scan number 0 [])
   gives s (closes room) = let number : ℕ = closeLeft (w .rules) s room in cond (eqb number 0) (by-close 0 (pairsAtEnd s)) (by-close number [])
 
   unfoldable pub moves : Stream → Call → Stream
-  moves s (scans block room) = cond (eqb (scanLeft (w .rules) s (length block) room) 0) (stateAfter w s block (bytesTaken s block room)) s
+  moves s (scans allowance block room) = cond (eqb (scanLeft (w .rules) s (length block) room) 0) (stateAfter w s block (bytesTaken s allowance block room)) s
   moves s (closes room) = cond (eqb (closeLeft (w .rules) s room) 0) (shut s) s
 
   unfoldable pub run : Stream → List Call → List Outcome
@@ -81,20 +81,20 @@ module _ (t : List ℕ) (table : isTable t ≡ true) (s : Stream) (fit : valid (
   unfolding closeNumber closeLeft spaceNumber automaton
   close-left room = rw (table, fit)
 
-  module _ (block ids offsets : List ℕ) where
+  module _ (allowance : ℕ) (block ids offsets : List ℕ) where
     abbrev left : ℕ
     left = scanLeft (automaton t .rules) s (length block) (space ids offsets)
 
     abbrev k : ℕ
-    k = fits (automaton t) s block (space ids offsets) (length block)
+    k = fits (automaton t) s allowance block (space ids offsets) (length block)
 
     abbrev given : Outcome
     given =
-        by-scan (scanned t s block ids offsets .number) (scanned t s block ids offsets .taken)
-        (reportsIn (scanned t s block ids offsets .reports) (scannedIds t s block ids offsets) (scannedOffsets t s block ids offsets))
+        by-scan (scanned t s allowance block ids offsets .number) (scanned t s allowance block ids offsets .taken)
+        (reportsIn (scanned t s allowance block ids offsets .reports) (scannedIds t s allowance block ids offsets) (scannedOffsets t s allowance block ids offsets))
 
-    scan-gives : (given ≡ gives (automaton t) s (scans block (space ids offsets)))
-        × (scanned t s block ids offsets .stream ≡ moves (automaton t) s (scans block (space ids offsets)))
+    scan-gives : (given ≡ gives (automaton t) s (scans allowance block (space ids offsets)))
+        × (scanned t s allowance block ids offsets .stream ≡ moves (automaton t) s (scans allowance block (space ids offsets)))
     unfolding gives moves takenBy zip mathlib.Core.List.zipWith
     scan-gives = go (ℕ-discrete (scanNumber t s (length block) (space ids offsets)) 0)
       where
@@ -103,18 +103,18 @@ module _ (t : List ℕ) (table : isTable t ≡ true) (s : Stream) (fit : valid (
 
         go : Dec (scanNumber t s (length block) (space ids offsets) ≡ 0)
             → (given ≡ cond (eqb left 0) (by-scan 0 k (zip (idsOf (automaton t) s block k) (endsOf (automaton t) s block k))) (by-scan left 0 []))
-            × (scanned t s block ids offsets .stream ≡ cond (eqb left 0) (stateAfter (automaton t) s block k) s)
+            × (scanned t s allowance block ids offsets .stream ≡ cond (eqb left 0) (stateAfter (automaton t) s block k) s)
         go (yes ok) =
-            let r = accepted-scan t s block ids offsets ok in
+            let r = accepted-scan t s allowance block ids offsets ok in
             let z : eqb left 0 ≡ true = eq-eqb left 0 (sym e ∙ ok) in (
-              ap₂ (λ (a : Scanned) (l : List Pair). by-scan (a .number) (a .taken) l) r (scan-reports t s block ids offsets ok)
+              ap₂ (λ (a : Scanned) (l : List Pair). by-scan (a .number) (a .taken) l) r (scan-reports t s allowance block ids offsets ok)
                   ∙ sym (ap (λ (b : Bool). cond b (by-scan 0 k (zip (idsOf (automaton t) s block k) (endsOf (automaton t) s block k))) (by-scan left 0 [])) z),
               ap (λ (a : Scanned). a .stream) r ∙ sym (ap (λ (b : Bool). cond b (stateAfter (automaton t) s block k) s) z),
             )
         go (no bad) =
-            let r = refused-scan t s block ids offsets bad in
+            let r = refused-scan t s allowance block ids offsets bad in
             let z : eqb left 0 ≡ false = ne-eqb left 0 (λ h. bad (e ∙ h)) in (
-              ap (λ (a : Scanned). by-scan (a .number) (a .taken) (reportsIn (a .reports) (scannedIds t s block ids offsets) (scannedOffsets t s block ids offsets))) r
+              ap (λ (a : Scanned). by-scan (a .number) (a .taken) (reportsIn (a .reports) (scannedIds t s allowance block ids offsets) (scannedOffsets t s allowance block ids offsets))) r
                   ∙ ap (λ (n : ℕ). by-scan n 0 []) e
                   ∙ sym (ap (λ (b : Bool). cond b (by-scan 0 k (zip (idsOf (automaton t) s block k) (endsOf (automaton t) s block k))) (by-scan left 0 [])) z),
               ap (λ (a : Scanned). a .stream) r ∙ sym (ap (λ (b : Bool). cond b (stateAfter (automaton t) s block k) s) z),
@@ -158,10 +158,10 @@ module _ (t : List ℕ) (table : isTable t ≡ true) where
   pub followed : (l : List Item) (s : Stream) → valid (automaton t) s ≡ true → OthersRefused t s l → outcomesOf t s l ≡ run (automaton t) s (callsIn l)
   unfolding outcomesOf OthersRefused callsIn run
   followed [] s fit h = refl
-  followed (scan block ids offsets ∷ l) s fit h =
-      let g = scan-gives t table s fit block ids offsets in
+  followed (scan allowance block ids offsets ∷ l) s fit h =
+      let g = scan-gives t table s fit allowance block ids offsets in
       ap₂ (λ (o : Outcome) (r : List Outcome). o ∷ r) (g .0)
-      (followed l (scanned t s block ids offsets .stream) (scan-valid t table s fit block ids offsets) h
+      (followed l (scanned t s allowance block ids offsets .stream) (scan-valid t table s fit allowance block ids offsets) h
       ∙ ap (λ (x : Stream). run (automaton t) x (callsIn l)) (g .1))
   followed (close ids offsets ∷ l) s fit h =
       let g = close-gives t table s fit ids offsets in
@@ -176,18 +176,18 @@ module _ (t : List ℕ) (table : isTable t ≡ true) where
 
 unfoldable pub BytesIn : List Call → Type 0
 BytesIn [] = Unit {0}
-BytesIn (scans block room ∷ l) = Bytes block × BytesIn l
+BytesIn (scans allowance block room ∷ l) = Bytes block × BytesIn l
 BytesIn (closes room ∷ l) = BytesIn l
 
 module _ (w v : Automaton) (same : Agree w v) where
-  scan-same : (s : Stream) → Inside w v same s → (block : List ℕ) (room : ℕ) → Bytes block
-      → (gives w s (scans block room) ≡ gives v s (scans block room)) × (moves w s (scans block room) ≡ moves v s (scans block room))
+  scan-same : (s : Stream) → Inside w v same s → (allowance : ℕ) (block : List ℕ) (room : ℕ) → Bytes block
+      → (gives w s (scans allowance block room) ≡ gives v s (scans allowance block room)) × (moves w s (scans allowance block room) ≡ moves v s (scans allowance block room))
   unfolding gives moves
-  scan-same s inside block room small =
+  scan-same s inside allowance block room small =
       let n : ℕ = length block in
-      let k : ℕ = fits w s block room n in
-      let le : k ≤ n = fits-le w s block room n in
-      let taken : k ≡ fits v s block room n = fits-agree w v same s inside block small room n (omega arith) in
+      let k : ℕ = fits w s allowance block room n in
+      let le : k ≤ n = fits-le w s block allowance room n in
+      let taken : k ≡ fits v s allowance block room n = fits-agree w v same s inside block small allowance room n (omega arith) in
       let left : scanLeft (w .rules) s n room ≡ scanLeft (v .rules) s n room = ap (λ (r : ℕ). scanLeft r s n room) (same .rules) in
       let pairs : zip (idsOf w s block k) (endsOf w s block k) ≡ zip (idsOf v s block k) (endsOf v s block k) =
       ap₂ zip (all-ids-agree w v same s inside block small k le) (all-ends-agree w v same s inside block small k le) in (
@@ -207,10 +207,10 @@ module _ (w v : Automaton) (same : Agree w v) where
 
   moves-inside : (s : Stream) (c : Call) → Inside w v same s → Inside w v same (moves w s c)
   unfolding moves
-  moves-inside s (scans block room) inside = go (eqb (scanLeft (w .rules) s (length block) room) 0)
+  moves-inside s (scans allowance block room) inside = go (eqb (scanLeft (w .rules) s (length block) room) 0)
     where
-      go : (b : Bool) → Inside w v same (cond b (stateAfter w s block (fits w s block room (length block))) s)
-      go true = inside-after w v same s block inside (fits w s block room (length block))
+      go : (b : Bool) → Inside w v same (cond b (stateAfter w s block (fits w s allowance block room (length block))) s)
+      go true = inside-after w v same s block inside (fits w s allowance block room (length block))
       go false = inside
   moves-inside s (closes room) inside = go (eqb (closeLeft (w .rules) s room) 0)
     where
@@ -221,10 +221,10 @@ module _ (w v : Automaton) (same : Agree w v) where
   pub runs-same : (l : List Call) (s : Stream) → Inside w v same s → BytesIn l → run w s l ≡ run v s l
   unfolding run BytesIn
   runs-same [] s inside small = refl
-  runs-same (scans block room ∷ l) s inside small =
-      let g = scan-same s inside block room (small .0) in
+  runs-same (scans allowance block room ∷ l) s inside small =
+      let g = scan-same s inside allowance block room (small .0) in
       ap₂ (λ (o : Outcome) (r : List Outcome). o ∷ r) (g .0)
-      (runs-same l (moves w s (scans block room)) (moves-inside s (scans block room) inside) (small .1) ∙ ap (λ (x : Stream). run v x l) (g .1))
+      (runs-same l (moves w s (scans allowance block room)) (moves-inside s (scans allowance block room) inside) (small .1) ∙ ap (λ (x : Stream). run v x l) (g .1))
   runs-same (closes room ∷ l) s inside small =
       let g = close-same s room inside in
       ap₂ (λ (o : Outcome) (r : List Outcome). o ∷ r) (g .0)
@@ -240,9 +240,9 @@ reportsIn-all (by-close number l ∷ r) = l ++ reportsIn-all r
 pub reports-joined : (t : List ℕ) (s : Stream) (l : List Item) → reportsOf t s l ≡ reportsIn-all (outcomesOf t s l)
 unfolding reportsOf outcomesOf reportsIn-all
 reports-joined t s [] = refl
-reports-joined t s (scan block ids offsets ∷ l) =
-    ap (λ (r : List Pair). reportsIn (scanned t s block ids offsets .reports) (scannedIds t s block ids offsets) (scannedOffsets t s block ids offsets) ++ r)
-    (reports-joined t (scanned t s block ids offsets .stream) l)
+reports-joined t s (scan allowance block ids offsets ∷ l) =
+    ap (λ (r : List Pair). reportsIn (scanned t s allowance block ids offsets .reports) (scannedIds t s allowance block ids offsets) (scannedOffsets t s allowance block ids offsets) ++ r)
+    (reports-joined t (scanned t s allowance block ids offsets .stream) l)
 reports-joined t s (close ids offsets ∷ l) =
     ap (λ (r : List Pair). reportsIn (closed t s ids offsets .reports) (closedIds t s ids offsets) (closedOffsets t s ids offsets) ++ r)
     (reports-joined t (closed t s ids offsets .stream) l)
@@ -250,9 +250,9 @@ reports-joined t s (other o ∷ l) = reports-joined (tableAfter t o) s l
 
 unfoldable pub bytesIn-all : List Call → List Outcome → List ℕ
 bytesIn-all [] r = []
-bytesIn-all (scans block room ∷ l) (by-scan number taken p ∷ r) = take taken block ++ bytesIn-all l r
-bytesIn-all (scans block room ∷ l) (by-close number p ∷ r) = []
-bytesIn-all (scans block room ∷ l) [] = []
+bytesIn-all (scans allowance block room ∷ l) (by-scan number taken p ∷ r) = take taken block ++ bytesIn-all l r
+bytesIn-all (scans allowance block room ∷ l) (by-close number p ∷ r) = []
+bytesIn-all (scans allowance block room ∷ l) [] = []
 bytesIn-all (closes room ∷ l) (by-close number p ∷ r) = bytesIn-all l r
 bytesIn-all (closes room ∷ l) (by-scan number taken p ∷ r) = []
 bytesIn-all (closes room ∷ l) [] = []
@@ -260,8 +260,8 @@ bytesIn-all (closes room ∷ l) [] = []
 pub bytes-joined : (t : List ℕ) (s : Stream) (l : List Item) → bytesOf t s l ≡ bytesIn-all (callsIn l) (outcomesOf t s l)
 unfolding bytesOf outcomesOf callsIn bytesIn-all
 bytes-joined t s [] = refl
-bytes-joined t s (scan block ids offsets ∷ l) =
-    ap (λ (r : List ℕ). take (scanned t s block ids offsets .taken) block ++ r) (bytes-joined t (scanned t s block ids offsets .stream) l)
+bytes-joined t s (scan allowance block ids offsets ∷ l) =
+    ap (λ (r : List ℕ). take (scanned t s allowance block ids offsets .taken) block ++ r) (bytes-joined t (scanned t s allowance block ids offsets .stream) l)
 bytes-joined t s (close ids offsets ∷ l) = bytes-joined t (closed t s ids offsets .stream) l
 bytes-joined t s (other o ∷ l) = bytes-joined (tableAfter t o) s l
 
@@ -275,7 +275,7 @@ Shuts (by-close (suc n) l ∷ r) = Shuts r
 pub closes-seen : (t : List ℕ) (s : Stream) (l : List Item) → Shuts (outcomesOf t s l) → Closes t s l
 unfolding outcomesOf Shuts Closes
 closes-seen t s [] h = h
-closes-seen t s (scan block ids offsets ∷ l) h = closes-seen t (scanned t s block ids offsets .stream) l h
+closes-seen t s (scan allowance block ids offsets ∷ l) h = closes-seen t (scanned t s allowance block ids offsets .stream) l h
 closes-seen t s (close ids offsets ∷ l) h = go (closed t s ids offsets .number) refl h (λ m. closes-seen t (closed t s ids offsets .stream) l m)
   where
     rest : List Outcome

@@ -36,9 +36,9 @@ module _ (t : List ℕ) where
   stays-shut : (l : List Item) (s : Stream) → s .closed ≡ true → OthersRefused t s l → (stateOf t s l ≡ s) × (bytesOf t s l ≡ [])
   unfolding stateOf bytesOf OthersRefused
   stays-shut [] s e h = (refl, refl)
-  stays-shut (scan block ids offsets ∷ l) s e h =
-      let r = refused-scan t s block ids offsets (shut-scan t s (length block) (space ids offsets) e) in
-      let again : scanned t s block ids offsets .stream ≡ s = ap (λ (c : Scanned). c .stream) r in
+  stays-shut (scan allowance block ids offsets ∷ l) s e h =
+      let r = refused-scan t s allowance block ids offsets (shut-scan t s (length block) (space ids offsets) e) in
+      let again : scanned t s allowance block ids offsets .stream ≡ s = ap (λ (c : Scanned). c .stream) r in
       let ih = stays-shut l s e (subst (λ (x : Stream). OthersRefused t x l) again h) in (
         ap (λ (x : Stream). stateOf t x l) again ∙ ih .0,
         ap₂ (λ (n : ℕ) (x : Stream). take n block ++ bytesOf t x l) (ap (λ (c : Scanned). c .taken) r) again ∙ ih .1,
@@ -62,24 +62,24 @@ module _ (t : List ℕ) where
   pub state-is : (l : List Item) (s : Stream) → s .closed ≡ false → OthersRefused t s l → Ends s (stateOf t s l) (bytesOf t s l)
   unfolding stateOf bytesOf OthersRefused stateAfter
   state-is [] s e h = like-self s
-  state-is (scan block ids offsets ∷ l) s e h = go (ℕ-discrete (scanNumber t s (length block) (space ids offsets)) 0) (λ x. state-is l x)
+  state-is (scan allowance block ids offsets ∷ l) s e h = go (ℕ-discrete (scanNumber t s (length block) (space ids offsets)) 0) (λ x. state-is l x)
     where
       k : ℕ
-      k = takenBy t s block (space ids offsets)
+      k = takenBy t s allowance block (space ids offsets)
 
       From : Scanned → Type 0
       From a = Ends s (stateOf t (a .stream) l) (take (a .taken) block ++ bytesOf t (a .stream) l)
 
       go : Dec (scanNumber t s (length block) (space ids offsets) ≡ 0)
-          → ((x : Stream) → x .closed ≡ false → OthersRefused t x l → Ends x (stateOf t x l) (bytesOf t x l)) → From (scanned t s block ids offsets)
+          → ((x : Stream) → x .closed ≡ false → OthersRefused t x l → Ends x (stateOf t x l) (bytesOf t x l)) → From (scanned t s allowance block ids offsets)
       go (yes ok) ih =
-          let is = accepted-scan t s block ids offsets ok in
-          let next : scanned t s block ids offsets .stream ≡ stateAfter w s block k = ap (λ (a : Scanned). a .stream) is in
+          let is = accepted-scan t s allowance block ids offsets ok in
+          let next : scanned t s allowance block ids offsets .stream ≡ stateAfter w s block k = ap (λ (a : Scanned). a .stream) is in
           subst From (sym is)
-          (scan-ends s (stateOf t (stateAfter w s block k) l) block k (takes-le t s block (space ids offsets)) (bytesOf t (stateAfter w s block k) l)
+          (scan-ends s (stateOf t (stateAfter w s block k) l) block k (takes-le t s allowance block (space ids offsets)) (bytesOf t (stateAfter w s block k) l)
           (ih (stateAfter w s block k) (closed-after w s block k ∙ e) (subst (λ (x : Stream). OthersRefused t x l) next h)))
       go (no bad) ih =
-          let is = refused-scan t s block ids offsets bad in
+          let is = refused-scan t s allowance block ids offsets bad in
           subst From (sym is) (ih s e (subst (λ (x : Stream). OthersRefused t x l) (ap (λ (a : Scanned). a .stream) is) h))
   state-is (close ids offsets ∷ l) s e h = go (ℕ-discrete (closeNumber t s (space ids offsets)) 0) (λ x. state-is l x)
     where

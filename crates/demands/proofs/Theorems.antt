@@ -13,8 +13,8 @@ use Rattle.table.specs.Table.{isTable, emptied}
 use Rattle.table.specs.Automaton.{automaton}
 use Rattle.table.proofs.Test.{accepted as passing}
 use Rattle.stream.specs.declared.Stream.{Stream}
-use Rattle.stream.specs.Byte.{stateAfter}
-use Rattle.stream.specs.Calls.{fresh, busyOf}
+use Rattle.stream.specs.Byte.{stateAfter, busyOf}
+use Rattle.stream.specs.Calls.{fresh}
 use Rattle.stream.proofs.Results.{opened-stream, opened-valid, progress as byte-taken}
 use Rattle.regex.specs.Rule.{Rule}
 use Rattle.regex.specs.Ordered.{Entry, entry, Pair, pair, Ordered}
@@ -36,7 +36,7 @@ use Rattle.demands.proofs.Streams.{ordered}
 use Rattle.demands.proofs.Validity.{all-fit, Offered, offered}
 
 pub progress : Progress
-progress t s block ids offsets ok some = byte-taken t s block ids offsets ok some
+progress t s allowance block ids offsets ok paid some = byte-taken t s allowance block ids offsets ok paid some
 
 module _ (c : Setting) (between : Between c) where
   pub built : Built (tableIn c) (acceptedIn c)
@@ -128,12 +128,12 @@ same-for-cuttings c items others a b ca cb same =
     (subst (λ (l : List ℕ). Ordered (rulesIn c) l (reportsOf (tableIn c) (streamIn c) items)) same (demand3 c items a ca)) (demand3 c others b cb)
 
 pub offered-again : OfferedAgain
-offered-again c between log small short lists ids offsets enough roomy wide =
+offered-again c between log small short turns ids offsets enough roomy wide =
     let t : List ℕ = tableIn c in
     let passes : isTable t ≡ true = table c between in
     let count : rulesOf t ≡ length (acceptedIn c) = built c between .rules in
-    let calls : Offered t passes (streamIn c) log (offering t (streamIn c) log lists ids offsets) =
-    offered t passes lists ids offsets (omega (arith, count, wide)) (subst (λ (n : ℕ). Roomy (2 * n) lists) (sym count) roomy) log small enough (streamIn c)
+    let calls : Offered t passes (streamIn c) log (offering t (streamIn c) log turns ids offsets) =
+    offered t passes turns ids offsets (omega (arith, count, wide)) (subst (λ (n : ℕ). Roomy (2 * n) turns) (sym count) roomy) log small enough (streamIn c)
     (opened-valid t passes) (ap (λ (s : Stream). s .closed) (begins c between)) (omega (arith, short, ap (λ (s : Stream). s .taken) (begins c between))) in
-    subst (λ (l : List ℕ). Ordered (rulesIn c) l (reportsOf t (streamIn c) (offering t (streamIn c) log lists ids offsets))) (calls .bytes)
-    (demand3 c (offering t (streamIn c) log lists ids offsets) (between, calls .others, calls .blocks) (calls .closes))
+    subst (λ (l : List ℕ). Ordered (rulesIn c) l (reportsOf t (streamIn c) (offering t (streamIn c) log turns ids offsets))) (calls .bytes)
+    (demand3 c (offering t (streamIn c) log turns ids offsets) (between, calls .others, calls .blocks) (calls .closes))

@@ -7,7 +7,7 @@ use Rattle.demands.specs.Chain.{additionsOf, Item}
 use Rattle.demands.specs.Demands.{Setting, acceptedIn, Calls, closes, taken, joined}
 
 -- "the joined list, kept to one id, is the list of a table with that rule alone, on the same stream. Both are lists of calls as demand 3 takes them;
--- space .. and cutting may differ."
+-- space, allowances and cutting may differ."
 abbrev pub Undisturbed : Type 0
 Undisturbed = (c d : Setting) (r : Accepted) → List·Memᴰ r (acceptedIn c) → acceptedIn d ≡ r ∷ []
     → (items others : List Item) → Calls c items → Calls d others → closes c items → closes d others → taken c items ≡ taken d others

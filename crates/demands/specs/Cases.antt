@@ -36,10 +36,10 @@ pub record Case : Type 0 where
 
 -- ---- what it means that a case holds
 
--- the calls of a log: a scan of each block as it is cut, then a closing; call i is lent the two lists `lent i`
+-- the calls of a log: a scan of each block as it is cut, with units for any bytes of its length, then a closing; call i is lent the two lists `lent i`
 unfoldable pub callsOn : List (String × List Pair) → (lent : ℕ → List ℕ × List ℕ) → List Item
 callsOn [] lent = close (lent 0 .0) (lent 0 .1) ∷ []
-callsOn (b ∷ bs) lent = scan (bytes (b .0)) (lent 0 .0) (lent 0 .1) ∷ callsOn bs (λ i. lent (suc i))
+callsOn (b ∷ bs) lent = scan (257 * length (bytes (b .0))) (bytes (b .0)) (lent 0 .0) (lent 0 .1) ∷ callsOn bs (λ i. lent (suc i))
 
 -- every call is accepted, every scan takes its whole block, and the reports are those of the log
 unfoldable pub expected : List (String × List Pair) → List Pair → List Outcome

@@ -27,7 +27,7 @@ pub data Other : Type 0 where
   emptying : Lent → Other
   adding : Lent → (id flags : ℕ) (pattern : List ℕ) → Other
   opening : Lent → Other
-  scanning : Lent → Stream → (block ids offsets : List ℕ) → Other
+  scanning : Lent → Stream → (allowance : ℕ) (block ids offsets : List ℕ) → Other
   closing : Lent → Stream → (ids offsets : List ℕ) → Other
   writing-block : Lent → (number : ℕ) (block : List ℕ) → Other
   reading-block : Lent → (number : ℕ) (block : List ℕ) → Other
@@ -37,7 +37,7 @@ unfoldable pub numberOf : List ℕ → Other → ℕ
 numberOf t (emptying l) = emptyNumber (lent t l)
 numberOf t (adding l id flags pattern) = addAnswer (lent t l) id flags pattern .number
 numberOf t (opening l) = opened (lent t l) .number
-numberOf t (scanning l s block ids offsets) = scanNumber (lent t l) s (length block) (space ids offsets)
+numberOf t (scanning l s allowance block ids offsets) = scanNumber (lent t l) s (length block) (space ids offsets)
 numberOf t (closing l s ids offsets) = closeNumber (lent t l) s (space ids offsets)
 numberOf t (writing-block l i b) = writeAnswer (lent t l) i b .number
 numberOf t (reading-block l i b) = readAnswer (lent t l) i b .number
@@ -49,7 +49,7 @@ tableAfter t (emptying (those u)) = t
 tableAfter t (adding this id flags pattern) = addWords t id flags pattern
 tableAfter t (adding (those u) id flags pattern) = t
 tableAfter t (opening l) = t
-tableAfter t (scanning l s block ids offsets) = t
+tableAfter t (scanning l s allowance block ids offsets) = t
 tableAfter t (closing l s ids offsets) = t
 tableAfter t (writing-block l i b) = t
 tableAfter t (reading-block this i b) = readWords t i b
@@ -81,9 +81,9 @@ OthersRefusedBefore t (another o ∷ l) = (¬ (numberOf t o ≡ 0)) × OthersRef
 
 -- ---- after the opening
 
--- a call of the list: a scan or a closing of the stream with its block and its two lent lists, or another call
+-- a call of the list: a scan of the stream with its allowance of work, its block and its two lent lists, a closing, or another call
 pub data Item : Type 0 where
-  scan : (block ids offsets : List ℕ) → Item
+  scan : (allowance : ℕ) (block ids offsets : List ℕ) → Item
   close : (ids offsets : List ℕ) → Item
   other : Other → Item
 
@@ -95,15 +95,15 @@ reportsIn count ids offsets = zip (take count ids) (take count offsets)
 -- joined; the reports of all calls, joined
 unfoldable pub bytesOf : List ℕ → Stream → List Item → List ℕ
 bytesOf t s [] = []
-bytesOf t s (scan block ids offsets ∷ l) = take (scanned t s block ids offsets .taken) block ++ bytesOf t (scanned t s block ids offsets .stream) l
+bytesOf t s (scan allowance block ids offsets ∷ l) = take (scanned t s allowance block ids offsets .taken) block ++ bytesOf t (scanned t s allowance block ids offsets .stream) l
 bytesOf t s (close ids offsets ∷ l) = bytesOf t (closed t s ids offsets .stream) l
 bytesOf t s (other o ∷ l) = bytesOf (tableAfter t o) s l
 
 unfoldable pub reportsOf : List ℕ → Stream → List Item → List Pair
 reportsOf t s [] = []
-reportsOf t s (scan block ids offsets ∷ l) =
-    reportsIn (scanned t s block ids offsets .reports) (scannedIds t s block ids offsets) (scannedOffsets t s block ids offsets)
-    ++ reportsOf t (scanned t s block ids offsets .stream) l
+reportsOf t s (scan allowance block ids offsets ∷ l) =
+    reportsIn (scanned t s allowance block ids offsets .reports) (scannedIds t s allowance block ids offsets) (scannedOffsets t s allowance block ids offsets)
+    ++ reportsOf t (scanned t s allowance block ids offsets .stream) l
 reportsOf t s (close ids offsets ∷ l) =
     reportsIn (closed t s ids offsets .reports) (closedIds t s ids offsets) (closedOffsets t s ids offsets) ++ reportsOf t (closed t s ids offsets .stream) l
 reportsOf t s (other o ∷ l) = reportsOf (tableAfter t o) s l
@@ -115,10 +115,10 @@ pub data Outcome : Type 0 where
 
 unfoldable pub outcomesOf : List ℕ → Stream → List Item → List Outcome
 outcomesOf t s [] = []
-outcomesOf t s (scan block ids offsets ∷ l) =
-    by-scan (scanned t s block ids offsets .number) (scanned t s block ids offsets .taken)
-    (reportsIn (scanned t s block ids offsets .reports) (scannedIds t s block ids offsets) (scannedOffsets t s block ids offsets))
-    ∷ outcomesOf t (scanned t s block ids offsets .stream) l
+outcomesOf t s (scan allowance block ids offsets ∷ l) =
+    by-scan (scanned t s allowance block ids offsets .number) (scanned t s allowance block ids offsets .taken)
+    (reportsIn (scanned t s allowance block ids offsets .reports) (scannedIds t s allowance block ids offsets) (scannedOffsets t s allowance block ids offsets))
+    ∷ outcomesOf t (scanned t s allowance block ids offsets .stream) l
 outcomesOf t s (close ids offsets ∷ l) =
     by-close (closed t s ids offsets .number) (reportsIn (closed t s ids offsets .reports) (closedIds t s ids offsets) (closedOffsets t s ids offsets))
     ∷ outcomesOf t (closed t s ids offsets .stream) l
@@ -131,21 +131,21 @@ begun t = opened t .stream
 -- the state that the last of these calls hands on
 unfoldable pub stateOf : List ℕ → Stream → List Item → Stream
 stateOf t s [] = s
-stateOf t s (scan block ids offsets ∷ l) = stateOf t (scanned t s block ids offsets .stream) l
+stateOf t s (scan allowance block ids offsets ∷ l) = stateOf t (scanned t s allowance block ids offsets .stream) l
 stateOf t s (close ids offsets ∷ l) = stateOf t (closed t s ids offsets .stream) l
 stateOf t s (other o ∷ l) = stateOf (tableAfter t o) s l
 
 -- every other call is refused where it stands
 unfoldable pub OthersRefused : List ℕ → Stream → List Item → Type 0
 OthersRefused t s [] = Unit {0}
-OthersRefused t s (scan block ids offsets ∷ l) = OthersRefused t (scanned t s block ids offsets .stream) l
+OthersRefused t s (scan allowance block ids offsets ∷ l) = OthersRefused t (scanned t s allowance block ids offsets .stream) l
 OthersRefused t s (close ids offsets ∷ l) = OthersRefused t (closed t s ids offsets .stream) l
 OthersRefused t s (other o ∷ l) = (¬ (numberOf t o ≡ 0)) × OthersRefused (tableAfter t o) s l
 
 -- some closing of the stream is accepted
 unfoldable pub Closes : List ℕ → Stream → List Item → Type 0
 Closes t s [] = ⊥
-Closes t s (scan block ids offsets ∷ l) = Closes t (scanned t s block ids offsets .stream) l
+Closes t s (scan allowance block ids offsets ∷ l) = Closes t (scanned t s allowance block ids offsets .stream) l
 Closes t s (close ids offsets ∷ l) = (closed t s ids offsets .number ≡ 0) ⊎ Closes t (closed t s ids offsets .stream) l
 Closes t s (other o ∷ l) = Closes (tableAfter t o) s l
 
@@ -156,21 +156,25 @@ Fit number = (¬ (number ≡ 1)) × (¬ (number ≡ 18))
 -- no scan or closing of the stream is refused so
 unfoldable pub AllFit : List ℕ → Stream → List Item → Type 0
 AllFit t s [] = Unit {0}
-AllFit t s (scan block ids offsets ∷ l) = Fit (scanned t s block ids offsets .number) × AllFit t (scanned t s block ids offsets .stream) l
+AllFit t s (scan allowance block ids offsets ∷ l) = Fit (scanned t s allowance block ids offsets .number) × AllFit t (scanned t s allowance block ids offsets .stream) l
 AllFit t s (close ids offsets ∷ l) = Fit (closed t s ids offsets .number) × AllFit t (closed t s ids offsets .stream) l
 AllFit t s (other o ∷ l) = AllFit (tableAfter t o) s l
 
--- Offering what was not taken again: one scan for each pair of lent lists, each of the bytes that the scans before did not take, and then a closing.
-unfoldable pub offering : List ℕ → Stream → (log : List ℕ) → List (List ℕ × List ℕ) → (ids offsets : List ℕ) → List Item
-offering t s log [] ids offsets = close ids offsets ∷ []
-offering t s log (lists ∷ more) ids offsets =
-    scan log (lists .0) (lists .1)
-    ∷ offering t (scanned t s log (lists .0) (lists .1) .stream) (drop (scanned t s log (lists .0) (lists .1) .taken) log) more ids offsets
+-- an allowance of work and two lists, for one scan
+abbrev pub Turn : Type 0
+Turn = ℕ × List ℕ × List ℕ
 
--- every two lists have room for n reports
-unfoldable pub Roomy : ℕ → List (List ℕ × List ℕ) → Type 0
+-- Offering what was not taken again: one scan for each turn, each of the bytes that the scans before did not take, and then a closing.
+unfoldable pub offering : List ℕ → Stream → (log : List ℕ) → List Turn → (ids offsets : List ℕ) → List Item
+offering t s log [] ids offsets = close ids offsets ∷ []
+offering t s log (turn ∷ more) ids offsets =
+    scan (turn .0) log (turn .1) (turn .2)
+    ∷ offering t (scanned t s (turn .0) log (turn .1) (turn .2) .stream) (drop (scanned t s (turn .0) log (turn .1) (turn .2) .taken) log) more ids offsets
+
+-- "demand 3's last sentence needs 257 units": in every turn any byte can be paid for, and there is room for n reports
+unfoldable pub Roomy : ℕ → List Turn → Type 0
 Roomy n [] = Unit {0}
-Roomy n (lists ∷ more) = (n ≤ space (lists .0) (lists .1)) × Roomy n more
+Roomy n (turn ∷ more) = (257 ≤ turn .0) × (n ≤ space (turn .1) (turn .2)) × Roomy n more
 
 -- a block is of bytes
 abbrev pub Bytes : List ℕ → Type 0
@@ -178,6 +182,6 @@ Bytes block = (i : ℕ) → i < length block → getD block i 0 < 256
 
 unfoldable pub Blocks : List Item → Type 0
 Blocks [] = Unit {0}
-Blocks (scan block ids offsets ∷ l) = Bytes block × Blocks l
+Blocks (scan allowance block ids offsets ∷ l) = Bytes block × Blocks l
 Blocks (close ids offsets ∷ l) = Blocks l
 Blocks (other o ∷ l) = Blocks l

@@ -33,7 +33,7 @@ pub record Answers : Type 2 where
   pub adding : {M : Type 1} → add M
   -- opening a stream (crates/stream/src/lib.rt): number and state are `opened`
   pub opening : {M : Type 1} → stream-open M
-  -- scanning a block: number, bytes taken, count of reports and next state are `scanned`, the two lists are `scannedIds` and `scannedOffsets`
+  -- scanning a block: number, bytes taken, count of reports, units used and next state are `scanned`, the two lists are `scannedIds` and `scannedOffsets`
   pub scanning : {M : Type 1} → stream-scan M
   -- closing: number, count of reports and next state are `closed`, the two lists are `closedIds` and `closedOffsets`
   pub closing : {M : Type 1} → stream-close M
@@ -44,13 +44,14 @@ pub record Answers : Type 2 where
   -- reading one: number and place are `readAnswer`, the words are `readWords`
   pub reading-block : {M : Type 1} → card-read M
 
--- "Other refusals return the number, no bytes taken, no reports, the state unchanged", and both lists keep every word
-pub record ScanRefused (t : List ℕ) (s : Stream) (block ids offsets : List ℕ) : Type 0 where
-  pub taken : scanned t s block ids offsets .taken ≡ 0
-  pub reports : scanned t s block ids offsets .reports ≡ 0
-  pub state : scanned t s block ids offsets .stream ≡ s
-  pub ids-kept : scannedIds t s block ids offsets ≡ ids
-  pub offsets-kept : scannedOffsets t s block ids offsets ≡ offsets
+-- "Other refusals return the number, no bytes taken, no reports, the state unchanged"; what was used is "0 when refused", and both lists keep every word
+pub record ScanRefused (t : List ℕ) (s : Stream) (allowance : ℕ) (block ids offsets : List ℕ) : Type 0 where
+  pub taken : scanned t s allowance block ids offsets .taken ≡ 0
+  pub reports : scanned t s allowance block ids offsets .reports ≡ 0
+  pub used : scanned t s allowance block ids offsets .used ≡ 0
+  pub state : scanned t s allowance block ids offsets .stream ≡ s
+  pub ids-kept : scannedIds t s allowance block ids offsets ≡ ids
+  pub offsets-kept : scannedOffsets t s allowance block ids offsets ≡ offsets
 
 pub record CloseRefused (t : List ℕ) (s : Stream) (ids offsets : List ℕ) : Type 0 where
   pub reports : closed t s ids offsets .reports ≡ 0
@@ -66,7 +67,7 @@ pub record Refusals : Type 0 where
   pub added : (t : List ℕ) (id flags : ℕ) (pattern : List ℕ) → addAnswer t id flags pattern .number ≡ 0 → addAnswer t id flags pattern .place ≡ 0
   -- "A refused opening hands back a closed state, all else in it zero."
   pub opening : (t : List ℕ) → ¬ (opened t .number ≡ 0) → opened t .stream ≡ fresh 0 0 true
-  pub scanning : (t : List ℕ) (s : Stream) (block ids offsets : List ℕ) → ¬ (scanned t s block ids offsets .number ≡ 0) → ScanRefused t s block ids offsets
+  pub scanning : (t : List ℕ) (s : Stream) (allowance : ℕ) (block ids offsets : List ℕ) → ¬ (scanned t s allowance block ids offsets .number ≡ 0) → ScanRefused t s allowance block ids offsets
   pub closing : (t : List ℕ) (s : Stream) (ids offsets : List ℕ) → ¬ (closed t s ids offsets .number ≡ 0) → CloseRefused t s ids offsets
   -- "A refused call leaves the lent table as it found it", and the writer's the lent block
   pub writing-block : (t : List ℕ) (i : ℕ) (b : List ℕ) → ¬ (writeAnswer t i b .number ≡ 0) → writtenBlock t i b ≡ b

@@ -1,5 +1,5 @@
--- Demands 2 and 3, and what follows for whole lists of calls. Each statement is a type here and a theorem of its name in proofs/Theorems.antt, the last two in
--- proofs/Ends.antt. (Demand 1 stands in Demand1.antt, the worked cases in Cases.antt, one instance of demand 3 in Example.antt, that one rule does not disturb
+-- Demands 2 and 3, and what follows for whole lists of calls. Each statement is a type here and a theorem of its name in proofs/Theorems.antt, those on streams
+-- that end in proofs/Ends.antt, those on allowances in proofs/Allowances.antt. (Demand 1 stands in Demand1.antt, the worked cases in Cases.antt, one instance of demand 3 in Example.antt, that one rule does not disturb
 -- another in Alone.antt.) Assumes nothing: these are definitions.
 use mathlib.Core.Path.{_≡_}
 use mathlib.Core.Logic.{_↔_}
@@ -7,13 +7,14 @@ use mathlib.Core.List.{List, [], map, List·Memᴰ}
 use mathlib.Core.Bool.{true}
 use Prim.Native.Nat.{ℕ, _+_, _*_, _<_, _≤_}
 use lib.Bits.{bitAnd}
-use lib.ListN.{length}
+use lib.ListN.{length, take}
 use Rattle.table.specs.Layout.{tableWords, maxRules, maxPositions}
 use Rattle.table.specs.Table.{knownFlags, emptied}
 use Rattle.table.specs.Automaton.{automaton}
 use Rattle.stream.specs.declared.Stream.{Stream}
 use Rattle.stream.specs.Valid.{streamLimit, valid}
-use Rattle.stream.specs.Calls.{space, scanned, closed, busyOf}
+use Rattle.stream.specs.Byte.{busyOf}
+use Rattle.stream.specs.Calls.{space, scanned, scannedIds, scannedOffsets, closed}
 use Rattle.regex.specs.Form.{write, positions}
 use Rattle.regex.specs.Rule.{Rule}
 use Rattle.regex.specs.Ordered.{Reported, Pair, Ordered, Once}
@@ -24,7 +25,7 @@ use Rattle.pattern.specs.Read.{longest, optionsOf}
 use Rattle.pattern.specs.Reasons.{Reason}
 use Rattle.rules.specs.Add.{addAnswer, addWords}
 use Rattle.rules.specs.Additions.{Addition, Accepted, ruleOf, used, readingOf, nextAnswer, acceptedAfter}
-use Rattle.demands.specs.Chain.{Step, tableOf, additionsOf, OthersRefusedBefore, Item, Bytes, AllFit, Roomy, offering, begun, bytesOf, reportsOf, stateOf, OthersRefused, Closes, Blocks}
+use Rattle.demands.specs.Chain.{Step, tableOf, additionsOf, OthersRefusedBefore, Item, Turn, Bytes, AllFit, Roomy, offering, begun, bytesOf, reportsOf, stateOf, OthersRefused, Closes, Blocks}
 
 -- ---- the table and the calls
 
@@ -114,18 +115,18 @@ Meaning = (c : Setting) (items : List Item) → Calls c items → closes c items
 abbrev pub Demand3 : Type 0
 Demand3 = (c : Setting) (items : List Item) → Calls c items → closes c items → Ordered (rulesIn c) (taken c items) (joined c items)
 
--- "An accepted scan with a byte in its block takes at least one", on any table and any state
+-- "An accepted scan with a byte in its block takes at least one", on any table and any state; "its last sentence needs 257 units"
 abbrev pub Progress : Type 0
-Progress = (t : List ℕ) (s : Stream) (block ids offsets : List ℕ) → scanned t s block ids offsets .number ≡ 0 → 0 < length block
-    → 0 < scanned t s block ids offsets .taken
+Progress = (t : List ℕ) (s : Stream) (allowance : ℕ) (block ids offsets : List ℕ) → scanned t s allowance block ids offsets .number ≡ 0 → 257 ≤ allowance → 0 < length block
+    → 0 < scanned t s allowance block ids offsets .taken
 
--- "unused bytes may be offered again": as many scans as the log has bytes, each with room for two reports of each rule, give the whole log's list.
+-- "unused bytes may be offered again": as many scans as the log has bytes, each with 257 units and room for two reports of each rule, give the whole log's list.
 abbrev pub OfferedAgain : Type 0
-OfferedAgain = (c : Setting) → Between c → (log : List ℕ) → Bytes log → length log ≤ streamLimit → (lists : List (List ℕ × List ℕ)) (ids offsets : List ℕ)
-    → length log ≤ length lists → Roomy (2 * length (acceptedIn c)) lists → 2 * length (acceptedIn c) ≤ space ids offsets
-    → Ordered (rulesIn c) log (joined c (offering (tableIn c) (streamIn c) log lists ids offsets))
+OfferedAgain = (c : Setting) → Between c → (log : List ℕ) → Bytes log → length log ≤ streamLimit → (turns : List Turn) (ids offsets : List ℕ)
+    → length log ≤ length turns → Roomy (2 * length (acceptedIn c)) turns → 2 * length (acceptedIn c) ≤ space ids offsets
+    → Ordered (rulesIn c) log (joined c (offering (tableIn c) (streamIn c) log turns ids offsets))
 
--- two cuttings of one log, with any report space, give the same joined list
+-- two cuttings of one log, with any allowances and report space, give the same joined list
 abbrev pub SameForCuttings : Type 0
 SameForCuttings = (c : Setting) (items others : List Item) → Calls c items → Calls c others → closes c items → closes c others
     → taken c items ≡ taken c others → joined c items ≡ joined c others
@@ -149,13 +150,33 @@ BusyFigure = (c : Setting) (items : List Item) → Calls c items → Busy (rules
 -- "So an accepted addition ends all open streams": every state that was valid is refused with 18, whatever block and space.
 abbrev pub AdditionEndsStreams : Type 0
 AdditionEndsStreams = (t : List ℕ) (a : Addition) → addAnswer t (a .id) (a .flags) (a .pattern) .number ≡ 0
-    → (s : Stream) → valid (automaton t) s ≡ true → (block ids offsets : List ℕ)
-    → (scanned (addWords t (a .id) (a .flags) (a .pattern)) s block ids offsets .number ≡ 18)
+    → (s : Stream) → valid (automaton t) s ≡ true → (allowance : ℕ) (block ids offsets : List ℕ)
+    → (scanned (addWords t (a .id) (a .flags) (a .pattern)) s allowance block ids offsets .number ≡ 18)
     × (closed (addWords t (a .id) (a .flags) (a .pattern)) s ids offsets .number ≡ 18)
 
 -- after an accepted closing, "Later calls get 19": every scan and closing of the state that it handed back
 abbrev pub ClosingEndsStream : Type 0
 ClosingEndsStream = (t : List ℕ) (s : Stream) (ids offsets : List ℕ) → closed t s ids offsets .number ≡ 0
-    → (block laterIds laterOffsets : List ℕ)
-    → (scanned t (closed t s ids offsets .stream) block laterIds laterOffsets .number ≡ 19)
+    → (allowance : ℕ) (block laterIds laterOffsets : List ℕ)
+    → (scanned t (closed t s ids offsets .stream) allowance block laterIds laterOffsets .number ≡ 19)
     × (closed t (closed t s ids offsets .stream) laterIds laterOffsets .number ≡ 19)
+
+-- "The figure used is the sum of those costs, never above 257 for each byte taken", and never above the allowance; "An allowance of 0 takes nothing", since a byte
+-- costs a unit at least
+abbrev pub Used : Type 0
+Used = (t : List ℕ) (s : Stream) (allowance : ℕ) (block ids offsets : List ℕ)
+    → (scanned t s allowance block ids offsets .used ≤ allowance)
+    × (scanned t s allowance block ids offsets .taken ≤ scanned t s allowance block ids offsets .used)
+    × (scanned t s allowance block ids offsets .used ≤ 257 * scanned t s allowance block ids offsets .taken)
+
+-- "For one call on the same table, state, block and space, more allowance never changes a report already given; it only carries the same lists further."
+pub record Further (t : List ℕ) (s : Stream) (less more : ℕ) (block ids offsets : List ℕ) : Type 0 where
+  pub number : scanned t s less block ids offsets .number ≡ scanned t s more block ids offsets .number
+  pub taken : scanned t s less block ids offsets .taken ≤ scanned t s more block ids offsets .taken
+  pub used : scanned t s less block ids offsets .used ≤ scanned t s more block ids offsets .used
+  pub reports : scanned t s less block ids offsets .reports ≤ scanned t s more block ids offsets .reports
+  pub ids-same : take (scanned t s less block ids offsets .reports) (scannedIds t s less block ids offsets) ≡ take (scanned t s less block ids offsets .reports) (scannedIds t s more block ids offsets)
+  pub offsets-same : take (scanned t s less block ids offsets .reports) (scannedOffsets t s less block ids offsets) ≡ take (scanned t s less block ids offsets .reports) (scannedOffsets t s more block ids offsets)
+
+abbrev pub MoreAllowance : Type 0
+MoreAllowance = (t : List ℕ) (s : Stream) (less more : ℕ) → less ≤ more → (block ids offsets : List ℕ) → Further t s less more block ids offsets

@@ -1,5 +1,5 @@
 -- One list of calls that meets what demand 3 asks for, so that the theorem is seen to speak of something: refused additions, other refused calls before the
--- opening and after it, report space for two reports only, refused scans and closings, an empty block, and calls after the closing. The theorem is `instance` of
+-- opening and after it, report space for two reports only, an allowance too small for a byte, refused scans and closings, an empty block, and calls after the closing. The theorem is `instance` of
 -- proofs/Example.antt. Assumes nothing: these are definitions.
 use mathlib.Core.Path.{_≡_}
 use mathlib.Core.List.{List, [], _∷_}
@@ -21,29 +21,31 @@ slots = 0 ∷ 0 ∷ []
 unfoldable pub steps : List Step
 steps =
     addition (rule 5 0 "ab+")
-    -- refused: the state that a refused opening hands back is closed
-    ∷ another (scanning this (begun []) (bytes "ab") slot slot)
+    -- refused with 18: the state that a refused opening hands back has other counts
+    ∷ another (scanning this (begun []) 257 (bytes "ab") slot slot)
     -- refused, 10 at 2
     ∷ addition (rule 8 0 "a**")
     ∷ []
 
 unfoldable pub items : List Item
 items =
-    -- takes 3 bytes: the fourth has a third report
-    scan (bytes "abbb") slots slots
+    -- takes 3 bytes, for 5 units: the fourth has a third report
+    scan 10 (bytes "abbb") slots slots
     -- refused with 3: the id is in the table
     ∷ other (adding this 5 0 (bytes "a"))
     -- refused with 20: report space for one report
-    ∷ scan (bytes "b") slots slot
+    ∷ scan 257 (bytes "b") slots slot
     -- refused with 1: no table
-    ∷ other (scanning (those []) (begun []) (bytes "ab") slot slot)
+    ∷ other (scanning (those []) (begun []) 257 (bytes "ab") slot slot)
     -- an empty block
-    ∷ scan [] slots slots
+    ∷ scan 257 [] slots slots
     ∷ close slot slots
-    ∷ scan (bytes "b") slots slots
+    -- takes nothing: the byte costs two units
+    ∷ scan 1 (bytes "b") slots slots
+    ∷ scan 2 (bytes "b") slots slots
     ∷ close slots slots
     -- refused with 19: the stream is closed
-    ∷ scan (bytes "b") slots slots
+    ∷ scan 257 (bytes "b") slots slots
     ∷ close slots slots
     ∷ []
 
@@ -54,6 +56,7 @@ outcomes =
     ∷ by-scan 20 0 []
     ∷ by-scan 0 0 []
     ∷ by-close 20 []
+    ∷ by-scan 0 0 []
     ∷ by-scan 0 1 ((5, 4) ∷ [])
     ∷ by-close 0 []
     ∷ by-scan 19 0 []

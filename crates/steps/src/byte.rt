@@ -13,10 +13,10 @@ use table::layout::TAKERS_AT;
 ghost use mathlib.Core.Path.{_≡_};
 ghost use Prim.Native.Nat.{_≤_};
 ghost use lib.ListN.{length};
-ghost use Rattle.sets.specs.Set.{setOf};
+ghost use Rattle.sets.specs.Set.{setOf, sizeOf};
 ghost use Rattle.table.specs.Layout.{tableWords};
 ghost use Rattle.table.specs.Automaton.{automaton, firstIn, startIn};
-ghost use Rattle.steps.specs.Step.{setOn, starts, stepped};
+ghost use Rattle.steps.specs.Step.{setOn, numberOn, starts, stepped};
 ghost use Rattle.steps.specs.Invariants.{followRows};
 
 // The positions that can take the first byte of a match inside the stream; where `line` is true, as if its last line ended before that byte.
@@ -72,8 +72,14 @@ pub fn takers(words: &[u64], byte: u8) -> [u64; 4]
     row(words, TAKERS_AT + byte as usize * SET_WORDS)
 }
 
-// The live set after one more byte, `taken` bytes into the stream; where `line` is true, as if the last line ended before the byte. A caller
-// reads the number of positions once, and not for each byte.
+// What one byte leaves: the live set after it, and how many positions were live before it, each of which took a turn.
+pub struct Stepped {
+    pub live: [u64; 4],
+    pub turns: u32,
+}
+
+// The step of one more byte, `taken` bytes into the stream; where `line` is true, as if the last line ended before the byte. A caller reads the
+// number of positions once, and not for each byte.
 pub fn step(
     line: bool,
     live: [u64; 4],
@@ -81,13 +87,22 @@ pub fn step(
     words: &[u64],
     positions: usize,
     byte: u8,
-) -> [u64; 4]
-    ensures { λ r. ⌜ r ≡ setOn (now (words .entry)) (stepped (automaton (now (words .entry))) line positions live taken byte) ⌝ }
+) -> Stepped
+    ensures live { λ r. ⌜ r .live ≡ setOn (now (words .entry)) (stepped (automaton (now (words .entry))) line positions live taken byte) ⌝ }
+    ensures turns { λ r. ⌜ r .turns ≡ numberOn (now (words .entry)) (sizeOf live) ⌝ }
 {
     if words.len() < TABLE_WORDS {
-        return sets::empty();
+        let none = sets::empty();
+        return Stepped {
+            live: none,
+            turns: 0,
+        };
     }
     let walked = walk(live, firsts(line, words, taken), follow_rows(line), words);
-    let next = walked.set;
-    sets::below(sets::intersection(next, takers(words, byte)), positions)
+    let reached = walked.set;
+    let next = sets::below(sets::intersection(reached, takers(words, byte)), positions);
+    Stepped {
+        live: next,
+        turns: walked.turns,
+    }
 }

@@ -5,6 +5,7 @@ mod byte;
 mod rows;
 mod walk;
 
+pub use byte::Stepped;
 pub use byte::step;
 pub use byte::takers;
 pub use rows::closing;

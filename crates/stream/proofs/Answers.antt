@@ -8,14 +8,14 @@ use native.Mathlib.Omega.{arith}
 use lib.Dec.{eqb, leb, ltb}
 use lib.ListN.{length, getD, replicate}
 use borrow.Author.Tests.{eq-eqb, ne-eqb, eqb-true, eqb-false, lt-ltb}
-use Rattle.sets.specs.Set.{emptySet}
+use Rattle.sets.specs.Set.{emptySet, sizeOf}
 use Rattle.table.specs.Layout.{tableWords, rulesOf, positionsOf}
 use Rattle.table.specs.Table.{isTable}
 use Rattle.table.specs.Automaton.{Automaton, automaton}
 use Rattle.steps.specs.Step.{setOn, numberOn, stepped, ends, endsLine, rulesWhere}
 use Rattle.steps.proofs.TableSets.{set-on, number-on}
 use Rattle.stream.specs.declared.Stream.{Stream}
-use Rattle.stream.specs.Byte.{nextLive, nextHeld, nextPending, runIds, runMarks, byteIds, byteState, stateAfter, idsOf, endsOf, fits}
+use Rattle.stream.specs.Byte.{nextLive, nextHeld, nextPending, runIds, runMarks, byteIds, byteState, stateAfter, idsOf, endsOf, costOf, fits}
 use Rattle.stream.specs.Calls.{fresh, opened, space, scanNumber, closeNumber, takenBy, written, scanned, scannedIds, scannedOffsets, shut, closed, closedIds, closedOffsets}
 use Rattle.stream.specs.Invariants.{stateOf, Left, Ended, Ran}
 use Rattle.stream.proofs.Blocks.{state-more, taken-after, rules-after, positions-after, closed-after}
@@ -91,10 +91,17 @@ module _ (w : Automaton) (s z : Stream) (live : s .live ≡ z .live) (marks : s 
       (ap₂ (λ (l : List ℕ) (n : ℕ). replicate (length l) (n + suc k))
       (ids-alike w (stateAfter w s block k) (stateAfter w z block k) (parts-alike k .0) (parts-alike k .1) (taken-alike k) (getD block k 0)) taken)
 
-  all-fit : (room k : ℕ) → fits w s block room k ≡ fits w z block room k
+  all-cost : (k : ℕ) → costOf w s block k ≡ costOf w z block k
+  unfolding costOf
+  all-cost zero = refl
+  all-cost (suc k) = ap₂ (λ (n : ℕ) (l : List ℕ). n + suc (sizeOf l)) (all-cost k) (parts-alike k .0)
+
+  all-fit : (allowance room k : ℕ) → fits w s allowance block room k ≡ fits w z allowance block room k
   unfolding fits
-  all-fit room zero = refl
-  all-fit room (suc k) = ap₂ (λ (l : List ℕ) (n : ℕ). cond (leb (length l) room) (suc k) n) (all-ids (suc k)) (all-fit room k)
+  all-fit allowance room zero = refl
+  all-fit allowance room (suc k) =
+      ap₂ (λ (b : Bool) (n : ℕ). cond b (suc k) n)
+      (ap₂ (λ (l : List ℕ) (n : ℕ). leb (length l) room && leb n allowance) (all-ids (suc k)) (all-cost (suc k))) (all-fit allowance room k)
 
 -- ---- what waits for the stream's end
 
@@ -155,8 +162,8 @@ unfolding stateAfter
 none-wait w s block = record { held-is = refl; pending-is = refl }
 
 -- what the last of them leaves, from the live set before it
-module _ (w : Automaton) (s : Stream) (block ids offsets live before : List ℕ) (marks taken reports : ℕ) (ids′ offsets′ : List ℕ)
-    (ran : Ran w (stateOf (s .live) (s .reported) (s .taken)) block ids offsets live before marks taken reports ids′ offsets′) where
+module _ (w : Automaton) (s : Stream) (allowance : ℕ) (block ids offsets live before : List ℕ) (marks taken reports left : ℕ) (ids′ offsets′ : List ℕ)
+    (ran : Ran w (stateOf (s .live) (s .reported) (s .taken)) allowance block ids offsets live before marks taken reports left ids′ offsets′) where
   last-waits : 0 < taken
       → Waits w s block taken (nextHeld w (stateOf before 0 (s .taken + (taken - 1))) (getD block (taken - 1) 0)) (nextPending w (stateOf before 0 (s .taken + (taken - 1))) (getD block (taken - 1) 0))
   last-waits some =
@@ -204,27 +211,27 @@ opened-is t z e f = ap (λ (x : Stream). record { number = 0; stream = x }) f �
 
 -- ---- scanning
 
-module _ (t : List ℕ) (s : Stream) (block ids offsets : List ℕ) (number : ℕ) (is : number ≡ scanNumber t s (length block) (space ids offsets)) where
+module _ (t : List ℕ) (s : Stream) (allowance : ℕ) (block ids offsets : List ℕ) (number : ℕ) (is : number ≡ scanNumber t s (length block) (space ids offsets)) where
   -- a refused scan gives its number and leaves all else
   module _ (refused : number ≡ 0 → ⊥) where
     shut-test : eqb (scanNumber t s (length block) (space ids offsets)) 0 ≡ false
     shut-test = ne-eqb (scanNumber t s (length block) (space ids offsets)) 0 (λ z. refused (is ∙ z))
 
-    pub scan-refused : record { number = number; taken = 0; reports = 0; stream = s } ≡ scanned t s block ids offsets
+    pub scan-refused : record { number = number; taken = 0; reports = 0; used = 0; stream = s } ≡ scanned t s allowance block ids offsets
     unfolding scanned
-    scan-refused = ap (λ (n : ℕ). record { number = n; taken = 0; reports = 0; stream = s }) is ∙ sym (rw shut-test)
+    scan-refused = ap (λ (n : ℕ). record { number = n; taken = 0; reports = 0; used = 0; stream = s }) is ∙ sym (rw shut-test)
 
-    pub scan-refused-ids : ids ≡ scannedIds t s block ids offsets
+    pub scan-refused-ids : ids ≡ scannedIds t s allowance block ids offsets
     unfolding scannedIds
     scan-refused-ids = sym (rw shut-test)
 
-    pub scan-refused-offsets : offsets ≡ scannedOffsets t s block ids offsets
+    pub scan-refused-offsets : offsets ≡ scannedOffsets t s allowance block ids offsets
     unfolding scannedOffsets
     scan-refused-offsets = sym (rw shut-test)
 
   -- an accepted scan gives what the loop left, put back into the state
-  module _ (accepted : number ≡ 0) (live before : List ℕ) (marks taken reports : ℕ) (ids′ offsets′ : List ℕ)
-      (ran : Ran (automaton t) (stateOf (s .live) (s .reported) (s .taken)) block ids offsets live before marks taken reports ids′ offsets′)
+  module _ (accepted : number ≡ 0) (live before : List ℕ) (marks taken reports left : ℕ) (ids′ offsets′ : List ℕ)
+      (ran : Ran (automaton t) (stateOf (s .live) (s .reported) (s .taken)) allowance block ids offsets live before marks taken reports left ids′ offsets′)
       (held : List ℕ) (pending : ℕ) (waits : Waits (automaton t) s block taken held pending) where
     w : Automaton
     w = automaton t
@@ -235,20 +242,26 @@ module _ (t : List ℕ) (s : Stream) (block ids offsets : List ℕ) (number : �
     open-test : eqb (scanNumber t s (length block) (space ids offsets)) 0 ≡ true
     open-test = eq-eqb (scanNumber t s (length block) (space ids offsets)) 0 (sym is ∙ accepted)
 
-    taken-is : taken ≡ takenBy t s block (space ids offsets)
+    taken-is : taken ≡ takenBy t s allowance block (space ids offsets)
     unfolding takenBy w z
-    taken-is = ran .taken-is ∙ sym (all-fit w s z refl refl refl block (space ids offsets) (length block))
+    taken-is = ran .taken-is ∙ sym (all-fit w s z refl refl refl block allowance (space ids offsets) (length block))
 
-    ids-are : idsOf (automaton t) (stateOf (s .live) (s .reported) (s .taken)) block taken ≡ idsOf (automaton t) s block (takenBy t s block (space ids offsets))
+    ids-are : idsOf (automaton t) (stateOf (s .live) (s .reported) (s .taken)) block taken ≡ idsOf (automaton t) s block (takenBy t s allowance block (space ids offsets))
     unfolding w z
     ids-are = sym (all-ids w s z refl refl refl block taken) ∙ ap (idsOf (automaton t) s block) taken-is
 
-    ends-are : endsOf (automaton t) (stateOf (s .live) (s .reported) (s .taken)) block taken ≡ endsOf (automaton t) s block (takenBy t s block (space ids offsets))
+    ends-are : endsOf (automaton t) (stateOf (s .live) (s .reported) (s .taken)) block taken ≡ endsOf (automaton t) s block (takenBy t s allowance block (space ids offsets))
     unfolding w z
     ends-are = sym (all-ends w s z refl refl refl block taken) ∙ ap (endsOf (automaton t) s block) taken-is
 
+    used-is : allowance - left ≡ costOf (automaton t) s block (takenBy t s allowance block (space ids offsets))
+    unfolding w z
+    used-is =
+        let spent : allowance - left ≡ costOf w z block taken = omega (arith, ran .left-is) in
+        spent ∙ sym (all-cost w s z refl refl refl block taken) ∙ ap (costOf (automaton t) s block) taken-is
+
     state-is : record { live = live; held = held; reported = marks; pending = pending; taken = s .taken + taken; rules = s .rules; positions = s .positions; closed = s .closed }
-        ≡ stateAfter (automaton t) s block (takenBy t s block (space ids offsets))
+        ≡ stateAfter (automaton t) s block (takenBy t s allowance block (space ids offsets))
     unfolding w z
     state-is =
         (λ i. record {
@@ -263,17 +276,17 @@ module _ (t : List ℕ) (s : Stream) (block ids offsets : List ℕ) (number : �
         })
         ∙ ap (stateAfter (automaton t) s block) taken-is
 
-    pub scan-accepted : record { number = 0; taken = taken; reports = reports; stream = record { live = live; held = held; reported = marks; pending = pending; taken = s .taken + taken; rules = s .rules; positions = s .positions; closed = s .closed } }
-        ≡ scanned t s block ids offsets
+    pub scan-accepted : record { number = 0; taken = taken; reports = reports; used = allowance - left; stream = record { live = live; held = held; reported = marks; pending = pending; taken = s .taken + taken; rules = s .rules; positions = s .positions; closed = s .closed } }
+        ≡ scanned t s allowance block ids offsets
     unfolding scanned
     scan-accepted =
-        (λ i. record { number = 0; taken = taken-is i; reports = (ran .reports-are ∙ ap length ids-are) i; stream = state-is i }) ∙ sym (rw open-test)
+        (λ i. record { number = 0; taken = taken-is i; reports = (ran .reports-are ∙ ap length ids-are) i; used = used-is i; stream = state-is i }) ∙ sym (rw open-test)
 
-    pub scan-accepted-ids : ids′ ≡ scannedIds t s block ids offsets
+    pub scan-accepted-ids : ids′ ≡ scannedIds t s allowance block ids offsets
     unfolding scannedIds
     scan-accepted-ids = ran .ids-are ∙ ap (λ (l : List ℕ). written l ids) ids-are ∙ sym (rw open-test)
 
-    pub scan-accepted-offsets : offsets′ ≡ scannedOffsets t s block ids offsets
+    pub scan-accepted-offsets : offsets′ ≡ scannedOffsets t s allowance block ids offsets
     unfolding scannedOffsets
     scan-accepted-offsets = ran .offsets-are ∙ ap (λ (l : List ℕ). written l offsets) ends-are ∙ sym (rw open-test)
 

@@ -1,10 +1,10 @@
--- Some bytes of a block, one more at a time. The ids and offsets only grow, with at most as many reports a byte as there are rules, so `fits` is the one number
--- of bytes whose reports fit while those of the next byte do not. What the parts of a block give is joined in `two-parts`.
+-- Some bytes of a block, one more at a time. The ids, the offsets and the cost only grow, with at most as many reports a byte as there are rules, and at most 257
+-- units, so `fits` is the one number of bytes that fit and can be paid for while one more would not. What the parts of a block give is joined in `two-parts`.
 use mathlib.Core.Path.{_≡_, refl, sym, ap, ap₂, _∙_, subst}
-use mathlib.Core.Bool.{Bool, true, false, cond}
-use mathlib.Core.Logic.{⊎-elim}
+use mathlib.Core.Bool.{Bool, true, false, true≢false, cond, _&&_, and-false, and-eq-true-iff}
+use mathlib.Core.Logic.{_⊎_, inl, inr, ⊎-elim}
 use mathlib.Core.List.{List, _++_, append-nil, append-assoc}
-use Prim.Native.Nat.{ℕ, zero, suc, _+_, _<_, _≤_, zero-le}
+use Prim.Native.Nat.{ℕ, zero, suc, _+_, _*_, _<_, _≤_, zero-le}
 use native.Mathlib.Nat.{add-zero, add-suc, eq-or-lt-of-le, le-refl}
 use native.Mathlib.Decide.{le-ind}
 use native.Mathlib.Numerals.{add-one}
@@ -12,11 +12,14 @@ use native.Mathlib.Omega.{arith}
 use lib.Dec.{leb}
 use lib.ListN.{length, getD, drop, replicate, length-append, length-replicate, List·getD-append}
 use lib.Seq.{getD-drop, drop-append-seam}
-use borrow.Author.Tests.{le-leb, lt-leb, leb-true, leb-false}
+use borrow.Author.Tests.{le-leb, lt-leb, leb-true}
+use Rattle.sets.specs.Set.{has, sizeOf}
+use Rattle.sets.proofs.Digits.{count-le}
+use Rattle.table.specs.Layout.{maxPositions}
 use Rattle.table.specs.Automaton.{Automaton}
 use Rattle.steps.specs.Step.{ends}
 use Rattle.stream.specs.declared.Stream.{Stream}
-use Rattle.stream.specs.Byte.{nextLive, byteIds, byteState, stateAfter, idsOf, endsOf, fits}
+use Rattle.stream.specs.Byte.{nextLive, byteIds, byteState, stateAfter, idsOf, endsOf, costOf, within, fits}
 use Rattle.stream.proofs.Runs.{run-few}
 
 module _ (w : Automaton) (s : Stream) (block : List ℕ) where
@@ -99,60 +102,117 @@ module _ (w : Automaton) (s : Stream) (block : List ℕ) where
             length-append (idsOf w s block n) (byteIds w (stateAfter w s block n) (getD block n 0)),
           )
 
+  -- ---- what bytes cost
+
+  cost-none : costOf w s block 0 ≡ 0
+  unfolding costOf
+  cost-none = refl
+
+  pub cost-more : (k : ℕ) → costOf w s block (k + 1) ≡ costOf w s block k + suc (sizeOf (stateAfter w s block k .live))
+  unfolding costOf
+  cost-more k = ap (costOf w s block) (add-one k)
+
+  pub cost-grow : (j k : ℕ) → j ≤ k → costOf w s block j ≤ costOf w s block k
+  cost-grow j k h =
+      le-ind (λ (n : ℕ). costOf w s block j ≤ costOf w s block n) (le-refl (costOf w s block j))
+      (λ n l e. omega (arith, ap (costOf w s block) (add-one n), cost-more n)) k h
+
+  -- "never above 257 for each byte taken"
+  byte-cost : (k : ℕ) → costOf w s block (k + 1) ≤ costOf w s block k + 257
+  unfolding sizeOf
+  byte-cost k = omega (arith, cost-more k, count-le maxPositions (has (stateAfter w s block k .live)))
+
+  -- and a unit at least
+  pub cost-some : (k : ℕ) → k ≤ costOf w s block k
+  cost-some zero = zero-le
+  cost-some (suc k) = omega (arith, ap (costOf w s block) (add-one k), cost-more k, cost-some k)
+
+  pub cost-few : (k : ℕ) → costOf w s block k ≤ 257 * k
+  cost-few zero = omega (arith, cost-none)
+  cost-few (suc k) = omega (arith, ap (costOf w s block) (add-one k), byte-cost k, cost-few k)
+
   -- ---- how many bytes fit
 
-  pub fits-le : (room k : ℕ) → fits w s block room k ≤ k
-  unfolding fits
-  fits-le room zero = zero-le
-  fits-le room (suc k) = go (leb (length (idsOf w s block (suc k))) room) (fits-le room k)
-    where
-      go : (b : Bool) → fits w s block room k ≤ k → cond b (suc k) (fits w s block room k) ≤ suc k
-      go true h = le-refl (suc k)
-      go false h = omega arith
+  module _ (allowance : ℕ) where
+    -- a number of bytes passes the test or fails it
+    within-both : (room k : ℕ) → within w s allowance block room k ≡ true → (length (idsOf w s block k) ≤ room) × (costOf w s block k ≤ allowance)
+    within-both room k e =
+        let c = and-eq-true-iff (leb (length (idsOf w s block k)) room) (leb (costOf w s block k) allowance) .0 e in
+        (leb-true (length (idsOf w s block k)) room (c .0), leb-true (costOf w s block k) allowance (c .1))
 
-  -- their reports fit
-  pub fits-room : (room k : ℕ) → length (idsOf w s block (fits w s block room k)) ≤ room
-  unfolding fits
-  fits-room room zero = omega (arith, ids-none)
-  fits-room room (suc k) = go (leb (length (idsOf w s block (suc k))) room) refl (fits-room room k)
-    where
-      go : (b : Bool) → leb (length (idsOf w s block (suc k))) room ≡ b → length (idsOf w s block (fits w s block room k)) ≤ room
-          → length (idsOf w s block (cond b (suc k) (fits w s block room k))) ≤ room
-      go true e h = leb-true (length (idsOf w s block (suc k))) room e
-      go false e h = h
+    within-is : (room k : ℕ) → length (idsOf w s block k) ≤ room → costOf w s block k ≤ allowance → within w s allowance block room k ≡ true
+    within-is room k f c = ap₂ (λ (x y : Bool). x && y) (le-leb (length (idsOf w s block k)) room f) (le-leb (costOf w s block k) allowance c)
 
-  -- a number of bytes whose reports fit, while those of one more would not
-  pub fits-is : (room at k : ℕ) → at ≤ k → length (idsOf w s block at) ≤ room → (at < k → room < length (idsOf w s block (at + 1))) → fits w s block room k ≡ at
-  unfolding fits
-  fits-is room at zero h f n = omega arith
-  fits-is room at (suc k) h f n = ⊎-elim last (before (λ l. fits-is room at k (omega arith) f (λ m. n (omega arith)))) (eq-or-lt-of-le h)
-    where
-      last : at ≡ suc k → cond (leb (length (idsOf w s block (suc k))) room) (suc k) (fits w s block room k) ≡ at
-      last e =
-          ap (λ (b : Bool). cond b (suc k) (fits w s block room k))
-          (le-leb (length (idsOf w s block (suc k))) room (subst (λ (i : ℕ). length (idsOf w s block i) ≤ room) e f)) ∙ sym e
+    -- too many reports, or too much work
+    abbrev pub Over : (room k : ℕ) → Type 0
+    Over room k = (room < length (idsOf w s block k)) ⊎ (allowance < costOf w s block k)
 
-      before : (at < suc k → fits w s block room k ≡ at) → at < suc k → cond (leb (length (idsOf w s block (suc k))) room) (suc k) (fits w s block room k) ≡ at
-      before ih l =
-          ap (λ (b : Bool). cond b (suc k) (fits w s block room k))
-          (lt-leb (length (idsOf w s block (suc k))) room (omega (arith, n l, ids-grow (at + 1) (suc k) (omega arith))))
-          ∙ ih l
+    over-more : (room j k : ℕ) → j ≤ k → Over room j → Over room k
+    over-more room j k l (inl h) = inl (omega (arith, ids-grow j k l))
+    over-more room j k l (inr h) = inr (omega (arith, cost-grow j k l))
 
-  -- no fewer than any number of bytes whose reports fit
-  pub fits-most : (room at k : ℕ) → at ≤ k → length (idsOf w s block at) ≤ room → at ≤ fits w s block room k
-  unfolding fits
-  fits-most room at zero h f = h
-  fits-most room at (suc k) h f = go (leb (length (idsOf w s block (suc k))) room) refl (λ l. fits-most room at k l f)
-    where
-      go : (b : Bool) → leb (length (idsOf w s block (suc k))) room ≡ b → (at ≤ k → at ≤ fits w s block room k) → at ≤ cond b (suc k) (fits w s block room k)
-      go true e ih = h
-      go false e ih =
-          ⊎-elim (λ q. absurd (omega (arith, leb-false (length (idsOf w s block (suc k))) room e, ap (λ (i : ℕ). length (idsOf w s block i)) q)))
-          (λ l. ih (omega arith)) (eq-or-lt-of-le h)
+    over-not : (room k : ℕ) → Over room k → within w s allowance block room k ≡ false
+    over-not room k (inl h) = ap (λ (x : Bool). x && leb (costOf w s block k) allowance) (lt-leb (length (idsOf w s block k)) room h)
+    over-not room k (inr h) = ap (λ (y : Bool). leb (length (idsOf w s block k)) room && y) (lt-leb (costOf w s block k) allowance h) ∙ and-false (leb (length (idsOf w s block k)) room)
 
-  -- where a byte's reports fit, one byte is taken
-  pub one-fits : (room k : ℕ) → 0 < k → w .rules ≤ room → 0 < fits w s block room k
-  one-fits room k h l = omega (arith, fits-most room 1 k (omega arith) (omega (arith, byte-few 0, ids-none)))
+    pub fits-le : (room k : ℕ) → fits w s allowance block room k ≤ k
+    unfolding fits
+    fits-le room zero = zero-le
+    fits-le room (suc k) = go (within w s allowance block room (suc k)) (fits-le room k)
+      where
+        go : (b : Bool) → fits w s allowance block room k ≤ k → cond b (suc k) (fits w s allowance block room k) ≤ suc k
+        go true h = le-refl (suc k)
+        go false h = omega arith
+
+    -- they pass the test
+    pub fits-within : (room k : ℕ) → (length (idsOf w s block (fits w s allowance block room k)) ≤ room) × (costOf w s block (fits w s allowance block room k) ≤ allowance)
+    unfolding fits
+    fits-within room zero = (omega (arith, ids-none), omega (arith, cost-none))
+    fits-within room (suc k) = go (within w s allowance block room (suc k)) refl (fits-within room k)
+      where
+        go : (b : Bool) → within w s allowance block room (suc k) ≡ b
+            → (length (idsOf w s block (fits w s allowance block room k)) ≤ room) × (costOf w s block (fits w s allowance block room k) ≤ allowance)
+            → (length (idsOf w s block (cond b (suc k) (fits w s allowance block room k))) ≤ room) × (costOf w s block (cond b (suc k) (fits w s allowance block room k)) ≤ allowance)
+        go true e h = within-both room (suc k) e
+        go false e h = h
+
+    -- a number of bytes that passes, while one more would not
+    pub fits-is : (room at k : ℕ) → at ≤ k → length (idsOf w s block at) ≤ room → costOf w s block at ≤ allowance → (at < k → Over room (at + 1)) → fits w s allowance block room k ≡ at
+    unfolding fits
+    fits-is room at zero h f c n = omega arith
+    fits-is room at (suc k) h f c n = ⊎-elim last (before (λ l. fits-is room at k (omega arith) f c (λ m. n (omega arith)))) (eq-or-lt-of-le h)
+      where
+        last : at ≡ suc k → cond (within w s allowance block room (suc k)) (suc k) (fits w s allowance block room k) ≡ at
+        last e =
+            ap (λ (b : Bool). cond b (suc k) (fits w s allowance block room k))
+            (subst (λ (i : ℕ). within w s allowance block room i ≡ true) e (within-is room at f c)) ∙ sym e
+
+        before : (at < suc k → fits w s allowance block room k ≡ at) → at < suc k → cond (within w s allowance block room (suc k)) (suc k) (fits w s allowance block room k) ≡ at
+        before ih l =
+            ap (λ (b : Bool). cond b (suc k) (fits w s allowance block room k)) (over-not room (suc k) (over-more room (at + 1) (suc k) (omega arith) (n l)))
+            ∙ ih l
+
+    -- no fewer than any number of bytes that passes
+    pub fits-most : (room at k : ℕ) → at ≤ k → length (idsOf w s block at) ≤ room → costOf w s block at ≤ allowance → at ≤ fits w s allowance block room k
+    unfolding fits
+    fits-most room at zero h f c = h
+    fits-most room at (suc k) h f c = go (within w s allowance block room (suc k)) refl (λ l. fits-most room at k l f c)
+      where
+        go : (b : Bool) → within w s allowance block room (suc k) ≡ b → (at ≤ k → at ≤ fits w s allowance block room k) → at ≤ cond b (suc k) (fits w s allowance block room k)
+        go true e ih = h
+        go false e ih =
+            ⊎-elim (λ q. absurd (true≢false (sym (subst (λ (i : ℕ). within w s allowance block room i ≡ true) q (within-is room at f c)) ∙ e)))
+            (λ l. ih (omega arith)) (eq-or-lt-of-le h)
+
+    -- where a byte's reports fit and any byte can be paid for, one byte is taken
+    pub one-fits : (room k : ℕ) → 0 < k → w .rules ≤ room → 257 ≤ allowance → 0 < fits w s allowance block room k
+    one-fits room k h l c = omega (arith, fits-most room 1 k (omega arith) (omega (arith, byte-few 0, ids-none)) (omega (arith, byte-cost 0, cost-none)))
+
+  -- more allowance takes no fewer bytes
+  pub fits-further : (a b : ℕ) → a ≤ b → (room k : ℕ) → fits w s a block room k ≤ fits w s b block room k
+  fits-further a b l room k =
+      let h = fits-within a room k in
+      fits-most b room (fits w s a block room k) k (fits-le a room k) (h .0) (omega (arith, h .1))
 
 -- ---- a block in two parts
 

@@ -18,12 +18,24 @@ rules-word n h = omega arith
 pub positions-word : (n : ℕ) → tableWords ≤ n → 2 < n
 positions-word n h = omega arith
 
--- a place up to the end is inside, unless it is the end
-pub inside : (at n : ℕ) → at ≤ n → (at ≡ n → ⊥) → at < n
-inside at n h e = omega arith
+-- the end of what can be paid for: that of the block, or as many bytes on as there are units
+pub short-end : (end n m : ℕ) → end ≡ min n m → end ≤ n
+short-end end n m e = omega arith
 
-pub not-both : {A : Type 0} (a b : ℕ) → a < b → b ≤ a → A
-not-both a b h l = absurd (omega arith)
+pub from-end : (at end n left : ℕ) → at ≤ n → end ≡ min n (at + left) → at ≤ end
+from-end at end n left h e = omega arith
+
+pub to-end : (to end n m : ℕ) → to ≤ end → end ≡ min n m → to ≤ n
+to-end to end n m h e = omega arith
+
+pub before-end : (to end n m : ℕ) → to ≤ end → (to ≡ end → ⊥) → end ≡ min n m → to < n
+before-end to end n m h d e = omega arith
+
+pub paid-for : (at to end n left : ℕ) → to ≤ end → end ≡ min n (at + left) → to - at ≤ left
+paid-for at to end n left h e = omega arith
+
+pub all-spent : (to end n at left : ℕ) → to ≡ end → end ≡ min n (at + left) → to < n → left - (to - at) ≡ 0
+all-spent to end n at left d e h = omega arith
 
 -- sums and products
 pub sum-fits : (a b n : ℕ) → a + n < 2 ^ 64 → b ≤ n → Fits w64 (a + b)

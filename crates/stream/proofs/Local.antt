@@ -13,7 +13,7 @@ use Rattle.table.proofs.Local.{same-word, automaton-local, isTable-local}
 use Rattle.stream.specs.declared.Stream.{Stream}
 use Rattle.stream.specs.declared.Scanned.{Scanned}
 use Rattle.stream.specs.declared.Closed.{Closed}
-use Rattle.stream.specs.Byte.{stateAfter, idsOf, endsOf, fits, closeIds, closeEnds}
+use Rattle.stream.specs.Byte.{stateAfter, idsOf, endsOf, costOf, fits, closeIds, closeEnds}
 use Rattle.stream.specs.Valid.{valid}
 use Rattle.stream.specs.Calls.{fresh, opened, space, spaceNumber, scanNumber, closeNumber, takenBy, written, scanned, scannedIds, scannedOffsets, shut, closed, closedIds, closedOffsets, overLimit}
 
@@ -46,27 +46,27 @@ module _ (t u : List ℕ) (same : take tableWords t ≡ take tableWords u) where
       ap₂ (λ (b : Bool) (w : Automaton). cond b (cond (valid w s) (cond (s .closed) 19 (spaceNumber t room)) 18) 1) table machine
       ∙ ap (λ (n : ℕ). cond (isTable u) (cond (valid (automaton u) s) (cond (s .closed) 19 (cond (ltb room (2 * n)) 20 0)) 18) 1) rules
 
-  module _ (s : Stream) (block ids offsets : List ℕ) where
-    pub scanned-local : scanned t s block ids offsets ≡ scanned u s block ids offsets
+  module _ (s : Stream) (allowance : ℕ) (block ids offsets : List ℕ) where
+    pub scanned-local : scanned t s allowance block ids offsets ≡ scanned u s allowance block ids offsets
     unfolding scanned takenBy
     scanned-local = ap₂ answer (scanNumber-local s (length block) (space ids offsets)) machine
       where
         answer : ℕ → Automaton → Scanned
         answer n w =
-            let k : ℕ = fits w s block (space ids offsets) (length block) in
-            cond (eqb n 0) (record { number = 0; taken = k; reports = length (idsOf w s block k); stream = stateAfter w s block k })
-            (record { number = n; taken = 0; reports = 0; stream = s })
+            let k : ℕ = fits w s allowance block (space ids offsets) (length block) in
+            cond (eqb n 0) (record { number = 0; taken = k; reports = length (idsOf w s block k); used = costOf w s block k; stream = stateAfter w s block k })
+            (record { number = n; taken = 0; reports = 0; used = 0; stream = s })
 
-    pub scannedIds-local : scannedIds t s block ids offsets ≡ scannedIds u s block ids offsets
+    pub scannedIds-local : scannedIds t s allowance block ids offsets ≡ scannedIds u s allowance block ids offsets
     unfolding scannedIds takenBy
     scannedIds-local =
-        ap₂ (λ (n : ℕ) (w : Automaton). cond (eqb n 0) (written (idsOf w s block (fits w s block (space ids offsets) (length block))) ids) ids)
+        ap₂ (λ (n : ℕ) (w : Automaton). cond (eqb n 0) (written (idsOf w s block (fits w s allowance block (space ids offsets) (length block))) ids) ids)
         (scanNumber-local s (length block) (space ids offsets)) machine
 
-    pub scannedOffsets-local : scannedOffsets t s block ids offsets ≡ scannedOffsets u s block ids offsets
+    pub scannedOffsets-local : scannedOffsets t s allowance block ids offsets ≡ scannedOffsets u s allowance block ids offsets
     unfolding scannedOffsets takenBy
     scannedOffsets-local =
-        ap₂ (λ (n : ℕ) (w : Automaton). cond (eqb n 0) (written (endsOf w s block (fits w s block (space ids offsets) (length block))) offsets) offsets)
+        ap₂ (λ (n : ℕ) (w : Automaton). cond (eqb n 0) (written (endsOf w s block (fits w s allowance block (space ids offsets) (length block))) offsets) offsets)
         (scanNumber-local s (length block) (space ids offsets)) machine
 
   module _ (s : Stream) (ids offsets : List ℕ) where

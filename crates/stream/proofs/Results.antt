@@ -1,9 +1,9 @@
--- What callers may count on. An accepted scan takes some byte, since there is space for the reports of one; the state that comes back is valid again, since a live
+-- What callers may count on. An accepted scan that may use 257 units takes some byte, since there is space for the reports of one; the state that comes back is valid again, since a live
 -- set is kept below the count, a mark is set for single-match rules alone, and the bytes stay within the limit.
 use mathlib.Core.Path.{_≡_, refl, sym, ap, ap₂, _∙_}
 use mathlib.Core.Bool.{Bool, true, false, cond, not, _||_, _&&_, or-true, and-false}
 use mathlib.Core.List.{List}
-use Prim.Native.Nat.{ℕ, zero, suc, _+_, _<_, _≤_, zero-le}
+use Prim.Native.Nat.{ℕ, zero, suc, _+_, _*_, _<_, _≤_, zero-le}
 use native.Mathlib.Omega.{arith}
 use lib.Dec.{eqb, leb, ltb}
 use lib.ListN.{length, getD}
@@ -19,10 +19,10 @@ use Rattle.steps.proofs.Members.{not-below}
 use Rattle.stream.specs.declared.Stream.{Stream}
 use Rattle.stream.specs.declared.Scanned.{Scanned}
 use Rattle.stream.specs.declared.Closed.{Closed}
-use Rattle.stream.specs.Byte.{nextLive, nextHeld, nextPending, runMarks, byteState, stateAfter, idsOf, closeIds}
+use Rattle.stream.specs.Byte.{nextLive, nextHeld, nextPending, runMarks, byteState, stateAfter, idsOf, costOf, fits, closeIds, busyOf}
 use Rattle.stream.specs.Valid.{streamLimit, sameCounts, liveInside, marksSingle, underLimit, heldInside, pendingInside, pendingLate, valid}
-use Rattle.stream.specs.Calls.{fresh, opened, space, scanNumber, closeNumber, takenBy, scanned, shut, closed, busyOf}
-use Rattle.stream.proofs.Blocks.{fits-le, one-fits, taken-after, rules-after, positions-after}
+use Rattle.stream.specs.Calls.{fresh, opened, space, scanNumber, closeNumber, takenBy, scanned, shut, closed}
+use Rattle.stream.proofs.Blocks.{cost-some, cost-few, fits-le, fits-within, one-fits, taken-after, rules-after, positions-after}
 use Rattle.stream.proofs.Accepting.{Fitting, fitted, Accepted, accepted, close-number}
 
 -- ---- an opened stream
@@ -182,9 +182,9 @@ by-test : {A : Type 0} (P : A → Type 0) (b : Bool) {x y : A} → (b ≡ true �
 by-test P true f g = f refl
 by-test P false f g = g refl
 
-module _ (t : List ℕ) (s : Stream) (block ids offsets : List ℕ) where
+module _ (t : List ℕ) (s : Stream) (allowance : ℕ) (block ids offsets : List ℕ) where
   -- the number in the answer is the call's number
-  pub scan-number : scanned t s block ids offsets .number ≡ scanNumber t s (length block) (space ids offsets)
+  pub scan-number : scanned t s allowance block ids offsets .number ≡ scanNumber t s (length block) (space ids offsets)
   unfolding scanned
   scan-number = by-test (λ (r : Scanned). r .number ≡ n) (eqb n 0) (λ e. sym (eqb-true n 0 e)) (λ e. refl)
     where
@@ -192,27 +192,27 @@ module _ (t : List ℕ) (s : Stream) (block ids offsets : List ℕ) where
       n = scanNumber t s (length block) (space ids offsets)
 
   -- at most all bytes are taken
-  pub taken-within : scanned t s block ids offsets .taken ≤ length block
+  pub taken-within : scanned t s allowance block ids offsets .taken ≤ length block
   unfolding scanned takenBy
   taken-within =
       by-test (λ (r : Scanned). r .taken ≤ length block) (eqb (scanNumber t s (length block) (space ids offsets)) 0)
-      (λ e. fits-le (automaton t) s block (space ids offsets) (length block)) (λ e. zero-le)
+      (λ e. fits-le (automaton t) s block allowance (space ids offsets) (length block)) (λ e. zero-le)
 
   -- by its number
   module _ (ok : scanNumber t s (length block) (space ids offsets) ≡ 0) where
     abbrev k : ℕ
-    k = takenBy t s block (space ids offsets)
+    k = takenBy t s allowance block (space ids offsets)
 
-    pub accepted-scan : scanned t s block ids offsets ≡ record { number = 0; taken = k; reports = length (idsOf (automaton t) s block k); stream = stateAfter (automaton t) s block k }
+    pub accepted-scan : scanned t s allowance block ids offsets ≡ record { number = 0; taken = k; reports = length (idsOf (automaton t) s block k); used = costOf (automaton t) s block k; stream = stateAfter (automaton t) s block k }
     unfolding scanned
     accepted-scan = rw (eq-eqb (scanNumber t s (length block) (space ids offsets)) 0 ok)
 
   pub refused-scan : ¬ (scanNumber t s (length block) (space ids offsets) ≡ 0)
-      → scanned t s block ids offsets ≡ record { number = scanNumber t s (length block) (space ids offsets); taken = 0; reports = 0; stream = s }
+      → scanned t s allowance block ids offsets ≡ record { number = scanNumber t s (length block) (space ids offsets); taken = 0; reports = 0; used = 0; stream = s }
   unfolding scanned
   refused-scan bad = rw (ne-eqb (scanNumber t s (length block) (space ids offsets)) 0 bad)
 
-  module _ (ok : scanned t s block ids offsets .number ≡ 0) where
+  module _ (ok : scanned t s allowance block ids offsets .number ≡ 0) where
     is-accepted : scanNumber t s (length block) (space ids offsets) ≡ 0
     is-accepted = sym scan-number ∙ ok
 
@@ -220,21 +220,35 @@ module _ (t : List ℕ) (s : Stream) (block ids offsets : List ℕ) where
     held = accepted t s (length block) (space ids offsets) is-accepted
 
     -- the state handed back is that after the bytes taken
-    pub scan-state : scanned t s block ids offsets .stream ≡ stateAfter (automaton t) s block (scanned t s block ids offsets .taken)
+    pub scan-state : scanned t s allowance block ids offsets .stream ≡ stateAfter (automaton t) s block (scanned t s allowance block ids offsets .taken)
     scan-state = ap (λ (r : Scanned). r .stream) (accepted-scan is-accepted) ∙ sym (ap (λ (r : Scanned). stateAfter (automaton t) s block (r .taken)) (accepted-scan is-accepted))
 
-    -- an accepted scan of a block with a byte takes one
-    pub progress : 0 < length block → 0 < scanned t s block ids offsets .taken
+    -- an accepted scan of a block with a byte takes one, if it may use 257 units
+    pub progress : 257 ≤ allowance → 0 < length block → 0 < scanned t s allowance block ids offsets .taken
     unfolding takenBy automaton
-    progress h =
-        omega (arith, ap (λ (r : Scanned). r .taken) (accepted-scan is-accepted), one-fits (automaton t) s block (space ids offsets) (length block) h (omega (arith, held .space)))
+    progress wide h =
+        omega (arith, ap (λ (r : Scanned). r .taken) (accepted-scan is-accepted), one-fits (automaton t) s block allowance (space ids offsets) (length block) h (omega (arith, held .space)) wide)
 
     -- and gives back a state that is valid for the same words
-    pub scanned-valid : valid (automaton t) (scanned t s block ids offsets .stream) ≡ true
+    pub scanned-valid : valid (automaton t) (scanned t s allowance block ids offsets .stream) ≡ true
     scanned-valid =
         ap (valid (automaton t)) scan-state
-        ∙ fitted (automaton t) (stateAfter (automaton t) s block (scanned t s block ids offsets .taken))
-        (fitting-after (automaton t) s block (held .state) (scanned t s block ids offsets .taken) (omega (arith, held .short, taken-within)))
+        ∙ fitted (automaton t) (stateAfter (automaton t) s block (scanned t s allowance block ids offsets .taken))
+        (fitting-after (automaton t) s block (held .state) (scanned t s allowance block ids offsets .taken) (omega (arith, held .short, taken-within)))
+
+  -- what a scan uses: no more than it may, and from 1 to 257 units for each byte that it takes
+  pub used-within : (scanned t s allowance block ids offsets .used ≤ allowance)
+      × (scanned t s allowance block ids offsets .taken ≤ scanned t s allowance block ids offsets .used)
+      × (scanned t s allowance block ids offsets .used ≤ 257 * scanned t s allowance block ids offsets .taken)
+  unfolding scanned takenBy
+  used-within =
+      by-test (λ (r : Scanned). (r .used ≤ allowance) × (r .taken ≤ r .used) × (r .used ≤ 257 * r .taken)) (eqb (scanNumber t s (length block) (space ids offsets)) 0)
+      (λ e. (
+        fits-within (automaton t) s block allowance (space ids offsets) (length block) .1,
+        cost-some (automaton t) s block (fits (automaton t) s allowance block (space ids offsets) (length block)),
+        cost-few (automaton t) s block (fits (automaton t) s allowance block (space ids offsets) (length block)),
+      ))
+      (λ e. (zero-le, zero-le, zero-le))
 
 -- ---- the answer of a closing
 

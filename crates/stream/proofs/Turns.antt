@@ -1,10 +1,11 @@
 -- The scanning loop. A byte's run is delivered in one of three ways, each with its law: no rule ends, the reports do not fit, they are written. `Running` says
 -- what holds once `at` bytes are taken: live set, marks and lists are those of the definitions. A byte that is taken and bytes passed over keep it; where the
--- loop leaves, `at` is what `fits` says.
+-- loop leaves, `at` is what `fits` says, and what is left of the allowance is what these bytes do not cost (`Paid`).
 use mathlib.Core.Path.{_≡_, refl, sym, ap, ap₂, _∙_, subst}
 use mathlib.Core.Bool.{Bool, true, false, cond, not, _&&_}
+use mathlib.Core.Logic.{inl}
 use mathlib.Core.List.{List, [], _++_, append-nil, append-assoc}
-use Prim.Native.Nat.{ℕ, zero, suc, _+_, _-_, _^_, _<_, _≤_, zero-le}
+use Prim.Native.Nat.{ℕ, zero, suc, _+_, _-_, _^_, _<_, _≤_, min, zero-le}
 use native.Mathlib.Nat.{add-zero, le-refl}
 use native.Mathlib.Omega.{arith}
 use lib.Dec.{ltb}
@@ -13,18 +14,18 @@ use lib.Seq.{drop-drop, drop-at, take-at, take-all}
 use borrow.Rule.Slice.PartMut.{putMid}
 use borrow.Author.Count.{below-more}
 use borrow.Author.Tests.{lt-ltb, le-ltb, ltb-true, ltb-false}
-use Rattle.sets.specs.Set.{on, has, any, count, emptySet, unionOf}
-use Rattle.sets.proofs.Laws.{has-setOf, has-empty, any-none, any-never}
+use Rattle.sets.specs.Set.{on, has, any, count, emptySet, unionOf, sizeOf}
+use Rattle.sets.proofs.Laws.{has-setOf, has-empty, any-none, any-never, count-never}
 use Rattle.table.specs.Layout.{maxPositions}
 use Rattle.table.specs.Automaton.{Automaton}
 use Rattle.steps.specs.Step.{stepped, ends, endsAtEnd, lastsOf, rulesWhere}
 use Rattle.steps.proofs.Members.{on-places}
 use Rattle.stream.specs.declared.Stream.{Stream}
-use Rattle.stream.specs.Byte.{nextLive, runIds, runMarks, byteIds, byteState, stateAfter, idsOf, endsOf, lineIds, endIds, closeIds, closeEnds}
+use Rattle.stream.specs.Byte.{nextLive, runIds, runMarks, byteIds, byteState, stateAfter, idsOf, endsOf, costOf, lineIds, endIds, closeIds, closeEnds}
 use Rattle.stream.specs.Calls.{space, written}
 use Rattle.stream.specs.Invariants.{Wrote, Delivered, Skipped, Ran, Ended}
 use Rattle.stream.proofs.Runs.{run-ext, run-none, marks-none, marks-small, due-count, wrote-ext, wrote-none}
-use Rattle.stream.proofs.Blocks.{state-more, ids-more, ends-more, taken-after, ends-count, fits-le, fits-is}
+use Rattle.stream.proofs.Blocks.{state-more, ids-more, ends-more, taken-after, ends-count, cost-more, Over, fits-le, fits-is}
 
 -- ---- the rules that end
 
@@ -46,6 +47,11 @@ gate w live a h e =
 pub ends-empty : (w : Automaton) (a : ℕ) → ends w emptySet a ≡ false
 unfolding ends
 ends-empty w a = any-never maxPositions (λ p. has emptySet p && w .last a p) (λ p l. ap (λ (b : Bool). b && w .last a p) (has-empty p l))
+
+-- nothing is live in the empty set
+size-empty : sizeOf emptySet ≡ 0
+unfolding sizeOf
+size-empty = count-never maxPositions (has emptySet) has-empty
 
 -- ---- one byte's run
 
@@ -95,12 +101,12 @@ module _ (w : Automaton) (live : List ℕ) (marks end : ℕ) (ids offsets : List
 -- ---- bytes passed over
 
 module _ (w : Automaton) (block : List ℕ) (taken from : ℕ) where
-  pub skipped-none : (live : List ℕ) → from ≤ length block → Skipped w live block taken from from
-  skipped-none live h = record { rises = le-refl from; inside = h; empty = λ l. absurd (omega arith); still = λ j l m. absurd (omega arith) }
+  pub skipped-none : (live : List ℕ) (end : ℕ) → from ≤ end → Skipped w live block taken from end from
+  skipped-none live end h = record { rises = le-refl from; inside = h; empty = λ l. absurd (omega arith); still = λ j l m. absurd (omega arith) }
 
-  pub skipped-more : (at : ℕ) → Skipped w emptySet block taken from at → at < length block → stepped w false (w .positions) emptySet (taken + at) (getD block at 0) ≡ emptySet
-      → Skipped w emptySet block taken from (at + 1)
-  skipped-more at h l e =
+  pub skipped-more : (end at : ℕ) → Skipped w emptySet block taken from end at → at < end → stepped w false (w .positions) emptySet (taken + at) (getD block at 0) ≡ emptySet
+      → Skipped w emptySet block taken from end (at + 1)
+  skipped-more end at h l e =
       record {
         rises = omega (arith, h .rises);
         inside = omega arith;
@@ -109,8 +115,8 @@ module _ (w : Automaton) (block : List ℕ) (taken from : ℕ) where
             below-more (λ (i : ℕ). from ≤ i → stepped w false (w .positions) emptySet (taken + i) (getD block i 0) ≡ emptySet) at (λ i m k. h .still i k m) (λ k. e) j g f;
       }
 
-  pub skipped-live : (at : ℕ) (live : List ℕ) → live ≡ emptySet → Skipped w emptySet block taken from at → Skipped w live block taken from at
-  skipped-live at live e h = record { rises = h .rises; inside = h .inside; empty = λ l. e; still = h .still }
+  pub skipped-live : (end at : ℕ) (live : List ℕ) → live ≡ emptySet → Skipped w emptySet block taken from end at → Skipped w live block taken from end at
+  skipped-live end at live e h = record { rises = h .rises; inside = h .inside; empty = λ l. e; still = h .still }
 
 -- ---- the loop
 
@@ -129,6 +135,10 @@ pub record Running (w : Automaton) (s : Stream) (block ids₀ offsets₀ live : 
 -- the live set before the last byte taken
 abbrev pub Before : (w : Automaton) (s : Stream) (block before : List ℕ) (at : ℕ) → Type 0
 Before w s block before at = 0 < at → before ≡ stateAfter w s block (at - 1) .live
+
+-- the units that are left once `at` bytes are taken
+abbrev pub Paid : (w : Automaton) (s : Stream) (allowance : ℕ) (block : List ℕ) (at left : ℕ) → Type 0
+Paid w s allowance block at left = left + costOf w s block at ≡ allowance
 
 -- a part from a on that came back: x was I ++ drop a x₀, and D was put at the part's front
 grow : (I D x x₀ last : List ℕ) (a : ℕ) → length I ≡ a → a ≤ length x → x ≡ I ++ drop a x₀ → last ≡ written D (take (length x - a) (drop a x))
@@ -217,12 +227,14 @@ module _ (w : Automaton) (s : Stream) (block ids₀ offsets₀ : List ℕ) where
   pub offsets-hold : (live : List ℕ) (reported : ℕ) (ids offsets : List ℕ) (count at : ℕ) → Running w s block ids₀ offsets₀ live reported ids offsets count at → count ≤ length offsets
   offsets-hold live reported ids offsets count at h = omega (arith, h .room, h .offsets-long)
 
-  -- where the loop leaves: at the block's end, or before a byte whose reports do not fit
-  pub running-done : (live before : List ℕ) (reported : ℕ) (ids offsets : List ℕ) (count at : ℕ) → Running w s block ids₀ offsets₀ live reported ids offsets count at
-      → Before w s block before at → (at < length block → space ids₀ offsets₀ < length (idsOf w s block (at + 1))) → Ran w s block ids₀ offsets₀ live before reported at count ids offsets
-  running-done live before reported ids offsets count at h b stopped =
+  -- where the loop leaves: at the block's end, or before a byte that cannot be paid for or whose reports do not fit
+  pub running-done : (allowance : ℕ) (live before : List ℕ) (reported : ℕ) (ids offsets : List ℕ) (count at left : ℕ) → Running w s block ids₀ offsets₀ live reported ids offsets count at
+      → Before w s block before at → Paid w s allowance block at left → (at < length block → Over w s block allowance (space ids₀ offsets₀) (at + 1))
+      → Ran w s allowance block ids₀ offsets₀ live before reported at count left ids offsets
+  running-done allowance live before reported ids offsets count at left h b paid stopped =
       record {
-        taken-is = sym (fits-is w s block (space ids₀ offsets₀) at (length block) (h .inside) (omega (arith, h .count-is, h .room)) stopped);
+        taken-is = sym (fits-is w s block allowance (space ids₀ offsets₀) at (length block) (h .inside) (omega (arith, h .count-is, h .room)) (omega (arith, paid)) stopped);
+        left-is = paid;
         live-is = h .live-is;
         before-is = b;
         marks-are = h .marks-are;
@@ -352,10 +364,11 @@ module _ (w : Automaton) (s : Stream) (block ids₀ offsets₀ : List ℕ) where
             offsets-long = lo ∙ h .offsets-long;
           }
 
-      pub running-stop : (before : List ℕ) → Before w s block before at → full ≡ true → length (putMid count (length ids - count) ids ilast) ≡ length ids → length (putMid count (length offsets - count) offsets olast) ≡ length offsets
-          → Ran w s block ids₀ offsets₀ live before reported at count (putMid count (length ids - count) ids ilast) (putMid count (length offsets - count) offsets olast)
-      running-stop before b e li lo =
-          running-done live before reported (putMid count (length ids - count) ids ilast) (putMid count (length offsets - count) offsets olast) count at (running-kept e li lo) b (λ g. running-full e)
+      pub running-stop : (allowance left : ℕ) (before : List ℕ) → Before w s block before at → Paid w s allowance block at left → full ≡ true → length (putMid count (length ids - count) ids ilast) ≡ length ids → length (putMid count (length offsets - count) offsets olast) ≡ length offsets
+          → Ran w s allowance block ids₀ offsets₀ live before reported at count left (putMid count (length ids - count) ids ilast) (putMid count (length offsets - count) offsets olast)
+      running-stop allowance left before b paid e li lo =
+          running-done allowance live before reported (putMid count (length ids - count) ids ilast) (putMid count (length offsets - count) offsets olast) count at left (running-kept e li lo) b paid
+          (λ g. inl (running-full e))
 
     -- a byte with which no rule ends
     pub running-silent : at < length block → ((a : ℕ) → a < w .rules → ends w next a ≡ false) → Running w s block ids₀ offsets₀ next reported ids offsets count (at + 1)
@@ -379,9 +392,9 @@ module _ (w : Automaton) (s : Stream) (block ids₀ offsets₀ : List ℕ) where
 
   module _ (live : List ℕ) (reported : ℕ) (ids offsets : List ℕ) (count : ℕ) where
     -- bytes passed over
-    pub running-skip : (at to : ℕ) → Running w s block ids₀ offsets₀ live reported ids offsets count at → Skipped w live block (s .taken) at to
+    pub running-skip : (at end to : ℕ) → end ≤ length block → Running w s block ids₀ offsets₀ live reported ids offsets count at → Skipped w live block (s .taken) at end to
         → Running w s block ids₀ offsets₀ live reported ids offsets count to
-    running-skip at to h q =
+    running-skip at end to short h q =
         let whole : at + (to - at) ≡ to = omega (arith, q .rises) in
         subst (λ (n : ℕ). Running w s block ids₀ offsets₀ live reported ids offsets count n) whole (over (to - at) (omega (arith, q .rises)))
       where
@@ -407,23 +420,61 @@ module _ (w : Automaton) (s : Stream) (block ids₀ offsets₀ : List ℕ) where
       let last : at ≡ at + 1 - 1 = omega arith in
       h .live-is ∙ ap (λ (n : ℕ). stateAfter w s block n .live) last
 
-  pub before-skip : (live : List ℕ) (reported : ℕ) (ids offsets : List ℕ) (count at to : ℕ) → Running w s block ids₀ offsets₀ live reported ids offsets count at
-      → Skipped w live block (s .taken) at to → at < to → Before w s block live to
-  before-skip live reported ids offsets count at to h q m l =
-      running-skip live reported ids offsets count at (to - 1) h
-      (record { rises = omega arith; inside = omega (arith, q .inside); empty = λ g. q .empty m; still = λ j f g. q .still j f (omega arith) }) .live-is
+  -- bytes passed over up to some place of them
+  skipped-to : (live : List ℕ) (at end to n : ℕ) → Skipped w live block (s .taken) at end to → at ≤ n → n ≤ to → Skipped w live block (s .taken) at end n
+  skipped-to live at end to n q l m =
+      record { rises = l; inside = omega (arith, q .inside); empty = λ g. q .empty (omega arith); still = λ j f g. q .still j f (omega arith) }
 
-  pub before-passed : (live before : List ℕ) (reported : ℕ) (ids offsets : List ℕ) (count at to : ℕ) → Running w s block ids₀ offsets₀ live reported ids offsets count at
-      → Before w s block before at → Skipped w live block (s .taken) at to → (now : List ℕ) → now ≡ cond (ltb at to) live before → Before w s block now to
-  before-passed live before reported ids offsets count at to h b q now e = go (ltb at to) refl
+  before-skip : (live : List ℕ) (reported : ℕ) (ids offsets : List ℕ) (count at end to : ℕ) → end ≤ length block → Running w s block ids₀ offsets₀ live reported ids offsets count at
+      → Skipped w live block (s .taken) at end to → at < to → Before w s block live to
+  before-skip live reported ids offsets count at end to short h q m l =
+      running-skip live reported ids offsets count at end (to - 1) short h (skipped-to live at end to (to - 1) q (omega arith) (omega arith)) .live-is
+
+  -- what they cost: a unit each
+  module _ (allowance : ℕ) where
+    pub paid-start : Paid w s allowance block 0 allowance
+    unfolding costOf
+    paid-start = add-zero allowance
+
+    module _ (live : List ℕ) (reported : ℕ) (ids offsets : List ℕ) (count at : ℕ) (h : Running w s block ids₀ offsets₀ live reported ids offsets count at) (left : ℕ)
+        (paid : Paid w s allowance block at left) where
+      cost-skip : (end to : ℕ) → end ≤ length block → Skipped w live block (s .taken) at end to → (d : ℕ) → at + d ≤ to → costOf w s block (at + d) ≡ costOf w s block at + d
+      cost-skip end to short q zero l = ap (costOf w s block) (add-zero at) ∙ sym (add-zero (costOf w s block at))
+      cost-skip end to short q (suc d) l =
+          let next : at + d + 1 ≡ at + suc d = omega arith in
+          let same : live ≡ stateAfter w s block (at + d) .live =
+          running-skip live reported ids offsets count at end (at + d) short h (skipped-to live at end to (at + d) q (omega arith) (omega arith)) .live-is in
+          let none : sizeOf (stateAfter w s block (at + d) .live) ≡ 0 = ap sizeOf (sym same ∙ q .empty (omega arith)) ∙ size-empty in
+          omega (arith, ap (costOf w s block) next, cost-more w s block (at + d), none, cost-skip end to short q d (omega arith))
+
+      pub paid-skip : (end to : ℕ) → end ≡ min (length block) (at + left) → Skipped w live block (s .taken) at end to → Paid w s allowance block to (left - (to - at))
+      paid-skip end to e q =
+          let whole : at + (to - at) ≡ to = omega (arith, q .rises) in
+          omega (arith, paid, q .rises, q .inside, e, ap (costOf w s block) (sym whole), cost-skip end to (omega (arith, e)) q (to - at) (omega arith))
+
+      -- a byte costs a unit, and one for each position that is live before it
+      pub paid-byte : (turns : ℕ) → turns ≡ sizeOf live → 1 + turns ≤ left → Paid w s allowance block (at + 1) (left - (1 + turns))
+      paid-byte turns e l = omega (arith, paid, cost-more w s block at, ap sizeOf (sym (h .live-is)), e)
+
+      -- one that cannot be paid for
+      pub unpaid : (turns : ℕ) → turns ≡ sizeOf live → left < 1 + turns → allowance < costOf w s block (at + 1)
+      unpaid turns e l = omega (arith, paid, cost-more w s block at, ap sizeOf (sym (h .live-is)), e)
+
+      -- nor can any where nothing is left
+      pub spent : left ≡ 0 → allowance < costOf w s block (at + 1)
+      spent e = omega (arith, paid, cost-more w s block at)
+
+  pub before-passed : (live before : List ℕ) (reported : ℕ) (ids offsets : List ℕ) (count at end to : ℕ) → end ≤ length block → Running w s block ids₀ offsets₀ live reported ids offsets count at
+      → Before w s block before at → Skipped w live block (s .taken) at end to → (now : List ℕ) → now ≡ cond (ltb at to) live before → Before w s block now to
+  before-passed live before reported ids offsets count at end to short h b q now e = go (ltb at to) refl
     where
       go : (x : Bool) → ltb at to ≡ x → Before w s block now to
-      go true x = subst (λ (y : List ℕ). Before w s block y to) (sym (e ∙ ap (λ (z : Bool). cond z live before) x)) (before-skip live reported ids offsets count at to h q (ltb-true at to x))
+      go true x = subst (λ (y : List ℕ). Before w s block y to) (sym (e ∙ ap (λ (z : Bool). cond z live before) x)) (before-skip live reported ids offsets count at end to short h q (ltb-true at to x))
       go false x =
           let same : at ≡ to = omega (arith, q .rises, ltb-false at to x) in
           subst (λ (y : List ℕ). Before w s block y to) (sym (e ∙ ap (λ (z : Bool). cond z live before) x)) (subst (λ (n : ℕ). Before w s block before n) same b)
 
 -- no more bytes are taken than there are
-pub ran-inside : (w : Automaton) (s : Stream) (block ids offsets live before : List ℕ) (reported taken reports : ℕ) (ids′ offsets′ : List ℕ)
-    → Ran w s block ids offsets live before reported taken reports ids′ offsets′ → taken ≤ length block
-ran-inside w s block ids offsets live before reported taken reports ids′ offsets′ h = omega (arith, h .taken-is, fits-le w s block (space ids offsets) (length block))
+pub ran-inside : (w : Automaton) (s : Stream) (allowance : ℕ) (block ids offsets live before : List ℕ) (reported taken reports left : ℕ) (ids′ offsets′ : List ℕ)
+    → Ran w s allowance block ids offsets live before reported taken reports left ids′ offsets′ → taken ≤ length block
+ran-inside w s allowance block ids offsets live before reported taken reports left ids′ offsets′ h = omega (arith, h .taken-is, fits-le w s block allowance (space ids offsets) (length block))

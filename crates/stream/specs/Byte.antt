@@ -5,10 +5,15 @@ use mathlib.Core.List.{List, [], _∷_, _++_}
 use Prim.Native.Nat.{ℕ, zero, suc, _+_, _-_}
 use lib.Dec.{eqb, leb, ltb}
 use lib.ListN.{length, getD, replicate}
-use Rattle.sets.specs.Set.{on, wordOf, emptySet, unionOf}
+use Rattle.sets.specs.Set.{on, wordOf, emptySet, unionOf, sizeOf}
 use Rattle.table.specs.Automaton.{Automaton, single}
 use Rattle.steps.specs.Step.{stepped, ends, endsLine, endsAtEnd, rulesWhere}
 use Rattle.stream.specs.declared.Stream.{Stream}
+
+-- "The state also shows its busy figure: the number of live positions"; "It equals the ones in the live set."; "positions behind an unsettled assertion aren't in
+-- the busy figure, nor does closing put them there".
+abbrev pub busyOf : Stream → ℕ
+busyOf s = sizeOf (s .live)
 
 module _ (w : Automaton) where
   -- the next live set of a state: what byte x steps to, among the positions of the table
@@ -67,11 +72,19 @@ module _ (w : Automaton) where
   endsOf s block (suc k) =
       endsOf s block k ++ replicate (length (byteIds (stateAfter s block k) (getD block k 0))) (s .taken + suc k)
 
-  -- It "stops before the first byte whose reports would not all fit in the free space": of the first k bytes of the block, as many as have reports that fit in
-  -- `room`. More bytes never have fewer reports, so the next byte is the first that does not fit.
-  unfoldable pub fits : Stream → List ℕ → (room k : ℕ) → ℕ
-  fits s block room zero = 0
-  fits s block room (suc k) = cond (leb (length (idsOf s block (suc k))) room) (suc k) (fits s block room k)
+  -- "A byte costs one unit plus the busy figure before it": the units that the first k bytes cost
+  unfoldable pub costOf : Stream → List ℕ → ℕ → ℕ
+  costOf s block zero = 0
+  costOf s block (suc k) = costOf s block k + suc (busyOf (stateAfter s block k))
+
+  -- "The scan stops before the first byte it can't pay for or can't report": of the first k bytes of the block, as many as have reports that fit in `room` and cost
+  -- no more than the allowance. More bytes never have fewer reports and always cost more, so the next byte is the first that does not fit.
+  abbrev pub within : Stream → (allowance : ℕ) → List ℕ → (room k : ℕ) → Bool
+  within s allowance block room k = leb (length (idsOf s block k)) room && leb (costOf s block k) allowance
+
+  unfoldable pub fits : Stream → (allowance : ℕ) → List ℕ → (room k : ℕ) → ℕ
+  fits s allowance block room zero = 0
+  fits s allowance block room (suc k) = cond (within s allowance block room (suc k)) (suc k) (fits s allowance block room k)
 
   -- "Closing reports pairs at offset n-1 by rising id, then those at n": the pairs held for n-1, and those not already given whose match needs the end; "of a
   -- single-match rule that has reported, none".

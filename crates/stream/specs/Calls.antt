@@ -1,10 +1,10 @@
--- The four calls on a stream: the answer and both lists afterwards, for any words, state, block and lists. Assumes nothing: these are definitions.
+-- The four calls on a stream: the answer and both lists afterwards, for any words, state, allowance, block and lists. Assumes nothing: these are definitions.
 use mathlib.Core.Bool.{Bool, true, false, cond}
 use mathlib.Core.List.{List, _++_}
 use Prim.Native.Nat.{ℕ, _+_, _*_, min}
 use lib.Dec.{eqb, ltb}
 use lib.ListN.{length, drop}
-use Rattle.sets.specs.Set.{emptySet, sizeOf}
+use Rattle.sets.specs.Set.{emptySet}
 use Rattle.table.specs.Layout.{rulesOf, positionsOf}
 use Rattle.table.specs.Table.{isTable}
 use Rattle.table.specs.Automaton.{automaton}
@@ -12,7 +12,7 @@ use Rattle.stream.specs.declared.Stream.{Stream}
 use Rattle.stream.specs.declared.Opened.{Opened}
 use Rattle.stream.specs.declared.Scanned.{Scanned}
 use Rattle.stream.specs.declared.Closed.{Closed}
-use Rattle.stream.specs.Byte.{stateAfter, idsOf, endsOf, fits, closeIds, closeEnds}
+use Rattle.stream.specs.Byte.{stateAfter, idsOf, endsOf, costOf, fits, closeIds, closeEnds}
 use Rattle.stream.specs.Valid.{valid, streamLimit}
 
 -- a state with nothing live, held, marked or taken
@@ -52,33 +52,33 @@ unfoldable pub closeNumber : List ℕ → Stream → (room : ℕ) → ℕ
 closeNumber t s room = cond (isTable t) (cond (valid (automaton t) s) (cond (s .closed) 19 (spaceNumber t room)) 18) 1
 
 -- how many bytes of its block an accepted scan takes
-unfoldable pub takenBy : List ℕ → Stream → List ℕ → (room : ℕ) → ℕ
-takenBy t s block room = fits (automaton t) s block room (length block)
+unfoldable pub takenBy : List ℕ → Stream → (allowance : ℕ) → List ℕ → (room : ℕ) → ℕ
+takenBy t s allowance block room = fits (automaton t) s allowance block room (length block)
 
 -- a list with these reports at its front: "slots past the count keep their values"
 abbrev pub written : List ℕ → List ℕ → List ℕ
 written new old = new ++ drop (length new) old
 
--- A scan on any words, state, block and lists: the answer, and the two lists afterwards. "Other refusals return the number, no bytes taken, no reports, the
--- state unchanged."; "Reports fill two lent lists, ids and offsets, from the front".
-module _ (t : List ℕ) (s : Stream) (block ids offsets : List ℕ) where
+-- A scan on any words, state, allowance, block and lists: the answer, and the two lists afterwards. "Other refusals return the number, no bytes taken, no reports, the
+-- state unchanged."; it "says what it used, 0 when refused"; "An allowance of 0 takes nothing and is by itself no refusal."; "Reports fill two lent lists, ids and offsets, from the front".
+module _ (t : List ℕ) (s : Stream) (allowance : ℕ) (block ids offsets : List ℕ) where
   unfoldable pub scanned : Scanned
   scanned =
-      let k : ℕ = takenBy t s block (space ids offsets) in
+      let k : ℕ = takenBy t s allowance block (space ids offsets) in
       let number : ℕ = scanNumber t s (length block) (space ids offsets) in
       cond (eqb number 0)
-      (record { number = 0; taken = k; reports = length (idsOf (automaton t) s block k); stream = stateAfter (automaton t) s block k })
-      (record { number = number; taken = 0; reports = 0; stream = s })
+      (record { number = 0; taken = k; reports = length (idsOf (automaton t) s block k); used = costOf (automaton t) s block k; stream = stateAfter (automaton t) s block k })
+      (record { number = number; taken = 0; reports = 0; used = 0; stream = s })
 
   unfoldable pub scannedIds : List ℕ
   scannedIds =
       cond (eqb (scanNumber t s (length block) (space ids offsets)) 0)
-      (written (idsOf (automaton t) s block (takenBy t s block (space ids offsets))) ids) ids
+      (written (idsOf (automaton t) s block (takenBy t s allowance block (space ids offsets))) ids) ids
 
   unfoldable pub scannedOffsets : List ℕ
   scannedOffsets =
       cond (eqb (scanNumber t s (length block) (space ids offsets)) 0)
-      (written (endsOf (automaton t) s block (takenBy t s block (space ids offsets))) offsets) offsets
+      (written (endsOf (automaton t) s block (takenBy t s allowance block (space ids offsets))) offsets) offsets
 
 -- "Closing sets the closed mark and changes nothing else in the state."
 abbrev pub shut : Stream → Stream
@@ -99,8 +99,3 @@ module _ (t : List ℕ) (s : Stream) (ids offsets : List ℕ) where
   unfoldable pub closedOffsets : List ℕ
   closedOffsets =
       cond (eqb (closeNumber t s (space ids offsets)) 0) (written (closeEnds (automaton t) s) offsets) offsets
-
--- "The state also shows its busy figure: the number of live positions"; "It equals the ones in the live set."; "positions behind an unsettled assertion aren't in
--- the busy figure, nor does closing put them there".
-abbrev pub busyOf : Stream → ℕ
-busyOf s = sizeOf (s .live)

@@ -9,7 +9,7 @@ use Rattle.sets.specs.Set.{emptySet}
 use Rattle.table.specs.Automaton.{Automaton}
 use Rattle.steps.specs.Step.{stepped, ends}
 use Rattle.stream.specs.declared.Stream.{Stream}
-use Rattle.stream.specs.Byte.{nextHeld, nextPending, runIds, runMarks, stateAfter, idsOf, endsOf, fits, closeIds, closeEnds}
+use Rattle.stream.specs.Byte.{nextHeld, nextPending, runIds, runMarks, stateAfter, idsOf, endsOf, costOf, fits, closeIds, closeEnds}
 use Rattle.stream.specs.Calls.{space, written}
 
 -- a state of which the live set, the marks and the bytes taken count
@@ -28,16 +28,18 @@ pub record Delivered (w : Automaton) (live : List ℕ) (marks end : ℕ) (ids of
   pub full-if : full ≡ ltb (space ids offsets) (length (runIds w (ends w live) marks (w .rules)))
   pub wrote : Wrote w (λ a. not full && ends w live a) marks end ids offsets reports marks′ ids′ offsets′
 
--- nothing is live and the bytes of the block from `from` up to `to` leave it so, `taken` bytes of the stream before the block
-pub record Skipped (w : Automaton) (live block : List ℕ) (taken from to : ℕ) : Type 0 where
+-- nothing is live and the bytes of the block from `from` up to `to`, at most up to `end`, leave it so, `taken` bytes of the stream before the block
+pub record Skipped (w : Automaton) (live block : List ℕ) (taken from end to : ℕ) : Type 0 where
   pub rises : from ≤ to
-  pub inside : to ≤ length block
+  pub inside : to ≤ end
   pub empty : from < to → live ≡ emptySet
   pub still : (j : ℕ) → from ≤ j → j < to → stepped w false (w .positions) emptySet (taken + j) (getD block j 0) ≡ emptySet
 
--- as many bytes of the block as have reports that fit, the state after them, the live set before the last of them, and both lists
-pub record Ran (w : Automaton) (s : Stream) (block ids offsets live before : List ℕ) (reported taken reports : ℕ) (ids′ offsets′ : List ℕ) : Type 0 where
-  pub taken-is : taken ≡ fits w s block (space ids offsets) (length block)
+-- as many bytes of the block as can be paid for and have reports that fit, the state after them, the live set before the last of them, the units left, and both
+-- lists
+pub record Ran (w : Automaton) (s : Stream) (allowance : ℕ) (block ids offsets live before : List ℕ) (reported taken reports left : ℕ) (ids′ offsets′ : List ℕ) : Type 0 where
+  pub taken-is : taken ≡ fits w s allowance block (space ids offsets) (length block)
+  pub left-is : left + costOf w s block taken ≡ allowance
   pub live-is : live ≡ stateAfter w s block taken .live
   pub before-is : 0 < taken → before ≡ stateAfter w s block (taken - 1) .live
   pub marks-are : reported ≡ stateAfter w s block taken .reported

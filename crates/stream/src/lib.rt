@@ -1,5 +1,5 @@
 // The stream: opening, scanning, closing, and the busy figure. The state goes in by value and the next state comes back inside the answer.
-// Nothing is required of a caller: each promise holds for any words, state, block and lists. specs/Calls.antt says what each call gives.
+// Nothing is required of a caller: each promise holds for any words, state, allowance, block and lists. specs/Calls.antt says what each call gives.
 mod checks;
 mod reports;
 mod scan;
@@ -12,10 +12,14 @@ use scan::waiting_after;
 use table::layout::POSITIONS_AT;
 use table::layout::RULES_AT;
 ghost use mathlib.Core.Path.{_≡_};
-ghost use Rattle.stream.specs.Calls.{fresh, opened, scanned, scannedIds, scannedOffsets, closed, closedIds, closedOffsets, busyOf};
+ghost use Rattle.stream.specs.Calls.{fresh, opened, scanned, scannedIds, scannedOffsets, closed, closedIds, closedOffsets};
+ghost use Rattle.stream.specs.Byte.{busyOf};
 
 // How many bytes a stream may have.
 pub const STREAM_LIMIT: u64 = 1_099_511_627_775;
+
+// An allowance that no stream can use up.
+pub const NO_LIMIT: u64 = 0xffff_ffff_ffff_ffff;
 
 // A stream's state: the live positions, and those held in case the last line ends before the last byte taken; a mark for each single-match rule that has reported,
 // and one for each rule with a pair that is held likewise; the bytes taken, the counts of its table, and whether it is closed.
@@ -36,11 +40,12 @@ pub struct Opened {
     pub stream: Stream,
 }
 
-// The answer of a scan: its number, how many bytes it took, how many reports it wrote, the next state.
+// The answer of a scan: its number, how many bytes it took, how many reports it wrote, how many units of work it used, the next state.
 pub struct Scanned {
     pub number: u32,
     pub taken: usize,
     pub reports: usize,
+    pub used: u64,
     pub stream: Stream,
 }
 
@@ -86,17 +91,19 @@ impl Stream {
         }
     }
 
-    // Scans the bytes of a block, and writes the reports at the front of both lists.
+    // Scans the bytes of a block as far as the allowance of work and the report space go, and writes the reports at the front of both lists. A byte costs a unit,
+    // and one for each live position.
     pub fn scan(
         mut self,
         words: &[u64],
+        allowance: u64,
         block: &[u8],
         ids: &mut [u32],
         offsets: &mut [u64],
     ) -> Scanned
-        ensures answer { λ r. ⌜ r ≡ scanned (now (words .entry)) self (now (block .entry)) (now (ids .entry)) (now (offsets .entry)) ⌝ }
-        ensures ids { λ r. ⌜ now (ids .exit) ≡ scannedIds (now (words .entry)) self (now (block .entry)) (now (ids .entry)) (now (offsets .entry)) ⌝ }
-        ensures offsets { λ r. ⌜ now (offsets .exit) ≡ scannedOffsets (now (words .entry)) self (now (block .entry)) (now (ids .entry)) (now (offsets .entry)) ⌝ }
+        ensures answer { λ r. ⌜ r ≡ scanned (now (words .entry)) self allowance (now (block .entry)) (now (ids .entry)) (now (offsets .entry)) ⌝ }
+        ensures ids { λ r. ⌜ now (ids .exit) ≡ scannedIds (now (words .entry)) self allowance (now (block .entry)) (now (ids .entry)) (now (offsets .entry)) ⌝ }
+        ensures offsets { λ r. ⌜ now (offsets .exit) ≡ scannedOffsets (now (words .entry)) self allowance (now (block .entry)) (now (ids .entry)) (now (offsets .entry)) ⌝ }
     {
         let number = refusal(self, words, block.len(), least(ids.len(), offsets.len()));
         if number != 0 {
@@ -104,11 +111,21 @@ impl Stream {
                 number,
                 taken: 0,
                 reports: 0,
+                used: 0,
                 stream: self,
             };
         }
         let live = self.live;
-        let r = run(live, self.reported, self.taken, words, block, ids, offsets);
+        let r = run(
+            live,
+            self.reported,
+            self.taken,
+            words,
+            allowance,
+            block,
+            ids,
+            offsets,
+        );
         let before = r.before;
         let waits = waiting_after(self, r.taken, before, words, block);
         let after = r.live;
@@ -122,6 +139,7 @@ impl Stream {
             number: 0,
             taken: r.taken,
             reports: r.reports,
+            used: allowance - r.left,
             stream: self,
         }
     }

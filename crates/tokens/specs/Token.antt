@@ -30,7 +30,7 @@ withQuoted b o = record { caseless = o .caseless; dotall = o .dotall; quoted = b
 
 -- "A token is a byte, an escape, a quantifier with its mark, .. an opening, an option setting." What the byte c starts outside a quote, with v
 -- after it, where o are the options there. "A byte stands for itself. .. `]` and `}` outside a class are literal." "PCRE also lets `$` hold just before
--- a newline that is the last byte. Mend it."
+-- a newline that is the last byte."
 unfoldable pub unquotedOf : Options → (c : ℕ) → List ℕ → Lexeme
 unquotedOf o c v =
     cond (eqb c 92) (escaped (escapeOf false v))

@@ -107,21 +107,25 @@ runs-after t s block k h l =
       going = closed-after (automaton t) s block k ∙ h .going;
     }
 
+-- the program sets no limit to the work of a scan
+abbrev noLimit : ℕ
+noLimit = 0xffff_ffff_ffff_ffff
+
 -- a scan of a running stream is accepted: it takes a byte, and its state is that after the bytes taken
 module _ (t : List ℕ) (s : Stream) (block ids offsets : List ℕ) (h : Running t s) (short : s .taken + length block ≤ streamLimit) (room : Roomy ids offsets) where
   abbrev r : Scanned
-  r = scanned t s block ids offsets
+  r = scanned t s noLimit block ids offsets
 
   number : r .number ≡ 0
   number =
-      scan-number t s block ids offsets
+      scan-number t s noLimit block ids offsets
       ∙ sym (not-refused t s (length block) (space ids offsets) (h .table) (h .fits) (h .going) (omega arith) (omega (arith, passes t (h .table) .rules)))
 
   takes-some : 0 < length block → 0 < r .taken
-  takes-some = progress t s block ids offsets number
+  takes-some = progress t s noLimit block ids offsets number (omega arith)
 
   state-after : r .stream ≡ stateAfter (automaton t) s block (r .taken)
-  state-after = scan-state t s block ids offsets number
+  state-after = scan-state t s noLimit block ids offsets number
 
 -- the loop over a block: the bytes passed are taken
 pub record Half (t block : List ℕ) (s now : Stream) (from : ℕ) : Type 0 where
@@ -143,13 +147,13 @@ module _ (t block : List ℕ) (s now : Stream) (from : ℕ) (ids offsets : List 
   fits = omega (arith, left, taken-now, half .passed)
 
   abbrev next : Scanned
-  next = scanned t now (drop from block) ids offsets
+  next = scanned t now noLimit (drop from block) ids offsets
 
   pub next-some : from < length block → 0 < next .taken
   next-some l = takes-some t now (drop from block) ids offsets runs fits room (omega (arith, left))
 
   pub next-within : from + next .taken ≤ length block
-  next-within = omega (arith, left, half .passed, taken-within t now (drop from block) ids offsets)
+  next-within = omega (arith, left, half .passed, taken-within t now noLimit (drop from block) ids offsets)
 
   pub next-half : Half t block s (next .stream) (from + next .taken)
   next-half =
@@ -181,9 +185,9 @@ whole t block s now from h end = let n : from ≡ length block = omega (arith, h
 -- the next scan, of the rest as a part of the block
 module _ (t block : List ℕ) (s now : Stream) (from : ℕ) (h : Running t s × (s .taken + length block ≤ streamLimit)) (half : Half t block s now from)
     (l : from < length block) (ids offsets : List ℕ) (room : Roomy ids offsets) (r : Scanned)
-    (e : r ≡ scanned t now (take (length block - from) (drop from block)) ids offsets) where
-  answer-is : r ≡ scanned t now (drop from block) ids offsets
-  answer-is = e ∙ ap (λ (rest : List ℕ). scanned t now rest ids offsets) (rest-is block from)
+    (e : r ≡ scanned t now noLimit (take (length block - from) (drop from block)) ids offsets) where
+  answer-is : r ≡ scanned t now noLimit (drop from block) ids offsets
+  answer-is = e ∙ ap (λ (rest : List ℕ). scanned t now noLimit rest ids offsets) (rest-is block from)
 
   pub scan-takes : (0 < r .taken) × (from + r .taken ≤ length block)
   scan-takes = rw answer-is (next-some t block s now from ids offsets (h .0) (h .1) half room l, next-within t block s now from ids offsets (h .0) (h .1) half room)

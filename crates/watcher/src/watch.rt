@@ -1,7 +1,8 @@
 // Watching standard input: it is read in blocks, each scanned until all its bytes are taken, and then the stream is closed. No call of the library is refused
-// here: the lists have room for a report of each rule, and what is asked for stays within the stream's limit.
+// here: the lists have room for two reports of each rule, and what is asked for stays within the stream's limit.
 use crate::output;
 use libc::STDIN_FILENO;
+use stream::NO_LIMIT;
 use stream::Stream;
 ghost use mathlib.Core.Path.{_≡_};
 ghost use mathlib.Core.Bool.{true};
@@ -51,7 +52,7 @@ fn watch_block(
     let mut stream = stream;
     let mut from = 0;
     while from < block.len() {
-        let scanned = stream.scan(words, &block[from..], ids, offsets);
+        let scanned = stream.scan(words, NO_LIMIT, &block[from..], ids, offsets);
         if !output::say_reports(out, ids, offsets, scanned.reports) {
             return Watched {
                 good: false,

@@ -10,7 +10,8 @@ use Rattle.stream.specs.declared.Stream.{Stream}
 use Rattle.stream.specs.declared.Opened.{Opened}
 use Rattle.stream.specs.declared.Scanned.{Scanned}
 use Rattle.stream.specs.declared.Closed.{Closed}
-use Rattle.stream.specs.Calls.{opened, scanned, scannedIds, scannedOffsets, closed, closedIds, closedOffsets, busyOf}
+use Rattle.stream.specs.Byte.{busyOf}
+use Rattle.stream.specs.Calls.{opened, scanned, scannedIds, scannedOffsets, closed, closedIds, closedOffsets}
 use Rattle.watcher_c.specs.State.{stateWords, short, stateOf, stored}
 use Rattle.watcher_c.specs.Interface.{shortState, openNumber, openState, scanAnswer, scanState, scanIds, scanOffsets, closeAnswer, closeState, closeIds, closeOffsets, busyFigure}
 
@@ -46,73 +47,74 @@ busy-long state s r h e f = f ∙ ap busyOf e ∙ sym (ap (λ (b : Bool). cond b
 
 -- ---- scanning
 
-module _ (t state block ids offsets : List ℕ) where
-  -- what a scan leaves: the number, the state, both lists, the bytes taken, the count of reports
-  abbrev pub ScanLeaves : (number : ℕ) → (state′ ids′ offsets′ : List ℕ) → (taken reports : ℕ) → Type 0
-  ScanLeaves number state′ ids′ offsets′ taken reports =
-      (number ≡ scanAnswer t state block ids offsets .number)
-      × ((state′ ≡ scanState t state block ids offsets)
-      × ((ids′ ≡ scanIds t state block ids offsets)
-      × ((offsets′ ≡ scanOffsets t state block ids offsets)
-      × ((taken ≡ scanAnswer t state block ids offsets .taken) × (reports ≡ scanAnswer t state block ids offsets .reports)))))
+module _ (t state : List ℕ) (allowance : ℕ) (block ids offsets : List ℕ) where
+  -- what a scan leaves: the number, the state, both lists, the bytes taken, the count of reports, the units used
+  abbrev pub ScanLeaves : (number : ℕ) → (state′ ids′ offsets′ : List ℕ) → (taken reports used : ℕ) → Type 0
+  ScanLeaves number state′ ids′ offsets′ taken reports used =
+      (number ≡ scanAnswer t state allowance block ids offsets .number)
+      × ((state′ ≡ scanState t state allowance block ids offsets)
+      × ((ids′ ≡ scanIds t state allowance block ids offsets)
+      × ((offsets′ ≡ scanOffsets t state allowance block ids offsets)
+      × ((taken ≡ scanAnswer t state allowance block ids offsets .taken)
+      × ((reports ≡ scanAnswer t state allowance block ids offsets .reports) × (used ≡ scanAnswer t state allowance block ids offsets .used))))))
 
   abbrev none-scan : Scanned
-  none-scan = record { number = shortState; taken = 0; reports = 0; stream = stateOf state }
+  none-scan = record { number = shortState; taken = 0; reports = 0; used = 0; stream = stateOf state }
 
   module _ (h : length state < stateWords) where
-    scan-none : none-scan ≡ scanAnswer t state block ids offsets
+    scan-none : none-scan ≡ scanAnswer t state allowance block ids offsets
     unfolding scanAnswer
-    scan-none = sym (ap (λ (b : Bool). cond b none-scan (scanned t (stateOf state) block ids offsets)) (is-short state h))
+    scan-none = sym (ap (λ (b : Bool). cond b none-scan (scanned t (stateOf state) allowance block ids offsets)) (is-short state h))
 
-    scan-none-state : state ≡ scanState t state block ids offsets
+    scan-none-state : state ≡ scanState t state allowance block ids offsets
     unfolding scanState
     scan-none-state = ap (λ (a : Scanned). cond (eqb (a .number) 0) (stored (a .stream) state) state) scan-none
 
-    scan-none-ids : ids ≡ scanIds t state block ids offsets
+    scan-none-ids : ids ≡ scanIds t state allowance block ids offsets
     unfolding scanIds
     scan-none-ids = rw (is-short state h)
 
-    scan-none-offsets : offsets ≡ scanOffsets t state block ids offsets
+    scan-none-offsets : offsets ≡ scanOffsets t state allowance block ids offsets
     unfolding scanOffsets
     scan-none-offsets = rw (is-short state h)
 
-    pub scan-short : ScanLeaves shortState state ids offsets 0 0
-    scan-short = (ap (λ (a : Scanned). a .number) scan-none, (scan-none-state, (scan-none-ids, (scan-none-offsets, (ap (λ (a : Scanned). a .taken) scan-none, ap (λ (a : Scanned). a .reports) scan-none)))))
+    pub scan-short : ScanLeaves shortState state ids offsets 0 0 0
+    scan-short = (ap (λ (a : Scanned). a .number) scan-none, (scan-none-state, (scan-none-ids, (scan-none-offsets, (ap (λ (a : Scanned). a .taken) scan-none, (ap (λ (a : Scanned). a .reports) scan-none, ap (λ (a : Scanned). a .used) scan-none))))))
 
   -- a call on the state in the words
   module _ {s : Stream} {r : Scanned} {ids′ offsets′ : List ℕ} (h : stateWords ≤ length state) (e : s ≡ stateOf state)
-      (answer : r ≡ scanned t s block ids offsets) (ids-are : ids′ ≡ scannedIds t s block ids offsets) (offsets-are : offsets′ ≡ scannedOffsets t s block ids offsets) where
-    scan-is : r ≡ scanAnswer t state block ids offsets
+      (answer : r ≡ scanned t s allowance block ids offsets) (ids-are : ids′ ≡ scannedIds t s allowance block ids offsets) (offsets-are : offsets′ ≡ scannedOffsets t s allowance block ids offsets) where
+    scan-is : r ≡ scanAnswer t state allowance block ids offsets
     unfolding scanAnswer
     scan-is =
-        answer ∙ ap (λ (s : Stream). scanned t s block ids offsets) e
-        ∙ sym (ap (λ (b : Bool). cond b none-scan (scanned t (stateOf state) block ids offsets)) (is-long state h))
+        answer ∙ ap (λ (s : Stream). scanned t s allowance block ids offsets) e
+        ∙ sym (ap (λ (b : Bool). cond b none-scan (scanned t (stateOf state) allowance block ids offsets)) (is-long state h))
 
-    scan-ids : ids′ ≡ scanIds t state block ids offsets
+    scan-ids : ids′ ≡ scanIds t state allowance block ids offsets
     unfolding scanIds
     scan-ids =
-        ids-are ∙ ap (λ (s : Stream). scannedIds t s block ids offsets) e
-        ∙ sym (ap (λ (b : Bool). cond b ids (scannedIds t (stateOf state) block ids offsets)) (is-long state h))
+        ids-are ∙ ap (λ (s : Stream). scannedIds t s allowance block ids offsets) e
+        ∙ sym (ap (λ (b : Bool). cond b ids (scannedIds t (stateOf state) allowance block ids offsets)) (is-long state h))
 
-    scan-offsets : offsets′ ≡ scanOffsets t state block ids offsets
+    scan-offsets : offsets′ ≡ scanOffsets t state allowance block ids offsets
     unfolding scanOffsets
     scan-offsets =
-        offsets-are ∙ ap (λ (s : Stream). scannedOffsets t s block ids offsets) e
-        ∙ sym (ap (λ (b : Bool). cond b offsets (scannedOffsets t (stateOf state) block ids offsets)) (is-long state h))
+        offsets-are ∙ ap (λ (s : Stream). scannedOffsets t s allowance block ids offsets) e
+        ∙ sym (ap (λ (b : Bool). cond b offsets (scannedOffsets t (stateOf state) allowance block ids offsets)) (is-long state h))
 
-    scan-left : {state′ : List ℕ} → state′ ≡ scanState t state block ids offsets → ScanLeaves (r .number) state′ ids′ offsets′ (r .taken) (r .reports)
-    scan-left f = (ap (λ (a : Scanned). a .number) scan-is, (f, (scan-ids, (scan-offsets, (ap (λ (a : Scanned). a .taken) scan-is, ap (λ (a : Scanned). a .reports) scan-is)))))
+    scan-left : {state′ : List ℕ} → state′ ≡ scanState t state allowance block ids offsets → ScanLeaves (r .number) state′ ids′ offsets′ (r .taken) (r .reports) (r .used)
+    scan-left f = (ap (λ (a : Scanned). a .number) scan-is, (f, (scan-ids, (scan-offsets, (ap (λ (a : Scanned). a .taken) scan-is, (ap (λ (a : Scanned). a .reports) scan-is, ap (λ (a : Scanned). a .used) scan-is))))))
 
     -- accepted, the state is stored
     pub scan-accepted : {state′ : List ℕ} → r .number ≡ 0 → state′ ≡ stored (r .stream) state
-        → ScanLeaves (r .number) state′ ids′ offsets′ (r .taken) (r .reports)
+        → ScanLeaves (r .number) state′ ids′ offsets′ (r .taken) (r .reports) (r .used)
     unfolding scanState
     scan-accepted z f =
         scan-left (f ∙ sym (ap (λ (b : Bool). cond b (stored (r .stream) state) state) (eq-eqb (r .number) 0 z))
         ∙ ap (λ (a : Scanned). cond (eqb (a .number) 0) (stored (a .stream) state) state) scan-is)
 
     -- refused, it is kept
-    pub scan-refused : (r .number ≡ 0 → ⊥) → ScanLeaves (r .number) state ids′ offsets′ (r .taken) (r .reports)
+    pub scan-refused : (r .number ≡ 0 → ⊥) → ScanLeaves (r .number) state ids′ offsets′ (r .taken) (r .reports) (r .used)
     unfolding scanState
     scan-refused z =
         scan-left (sym (ap (λ (b : Bool). cond b (stored (r .stream) state) state) (ne-eqb (r .number) 0 z))

@@ -17,7 +17,7 @@ use Rattle.stream.specs.declared.Stream.{Stream}
 use Rattle.stream.specs.declared.Opened.{Opened}
 use Rattle.stream.specs.declared.Scanned.{Scanned}
 use Rattle.stream.specs.declared.Closed.{Closed}
-use Rattle.stream.specs.Byte.{nextHeld, byteState, stateAfter, idsOf, closeIds}
+use Rattle.stream.specs.Byte.{nextHeld, byteState, stateAfter, idsOf, costOf, closeIds}
 use Rattle.stream.specs.Calls.{fresh, space, opened, takenBy, scanNumber, scanned, closeNumber, closed, shut}
 use Rattle.watcher_c.specs.State.{stateWords, short, stateOf, wordsOf, stored}
 use Rattle.watcher_c.specs.Interface.{shortState, openState, scanAnswer, scanState, closeAnswer, closeState}
@@ -85,8 +85,8 @@ open-back t state e =
 
 -- ---- any scan and any closing: accepted, the new state was stored; refused, the old one stays and is what was handed back
 
-module _ (t state block ids offsets : List ℕ) where
-  pub scan-back : stateOf (scanState t state block ids offsets) ≡ scanAnswer t state block ids offsets .stream
+module _ (t state : List ℕ) (allowance : ℕ) (block ids offsets : List ℕ) where
+  pub scan-back : stateOf (scanState t state allowance block ids offsets) ≡ scanAnswer t state allowance block ids offsets .stream
   unfolding scanState scanAnswer scanned
   scan-back = go (short state) (eqb number 0) refl
     where
@@ -94,16 +94,16 @@ module _ (t state block ids offsets : List ℕ) where
       number = scanNumber t (stateOf state) (length block) (space ids offsets)
 
       k : ℕ
-      k = takenBy t (stateOf state) block (space ids offsets)
+      k = takenBy t (stateOf state) allowance block (space ids offsets)
 
       after : Stream
       after = stateAfter (automaton t) (stateOf state) block k
 
       answer : (a b : Bool) → Scanned
       answer a b =
-          cond a (record { number = shortState; taken = 0; reports = 0; stream = stateOf state })
-          (cond b (record { number = 0; taken = k; reports = length (idsOf (automaton t) (stateOf state) block k); stream = after })
-          (record { number = number; taken = 0; reports = 0; stream = stateOf state }))
+          cond a (record { number = shortState; taken = 0; reports = 0; used = 0; stream = stateOf state })
+          (cond b (record { number = 0; taken = k; reports = length (idsOf (automaton t) (stateOf state) block k); used = costOf (automaton t) (stateOf state) block k; stream = after })
+          (record { number = number; taken = 0; reports = 0; used = 0; stream = stateOf state }))
 
       go : (a b : Bool) → eqb number 0 ≡ b → stateOf (cond (eqb (answer a b .number) 0) (stored (answer a b .stream) state) state) ≡ answer a b .stream
       go true b z = refl

@@ -7,7 +7,8 @@ use lib.Dec.{eqb}
 use Rattle.table.specs.Table.{isTable}
 use Rattle.stream.specs.declared.Scanned.{Scanned}
 use Rattle.stream.specs.declared.Closed.{Closed}
-use Rattle.stream.specs.Calls.{opened, scanned, scannedIds, scannedOffsets, closed, closedIds, closedOffsets, busyOf}
+use Rattle.stream.specs.Byte.{busyOf}
+use Rattle.stream.specs.Calls.{opened, scanned, scannedIds, scannedOffsets, closed, closedIds, closedOffsets}
 use Rattle.watcher_c.specs.State.{short, stateOf, stored}
 
 -- fewer than fourteen words lent for the state; numbers from 100 on are the interface's own, not the rules'
@@ -25,20 +26,20 @@ openNumber t state = cond (short state) shortState (opened t .number)
 unfoldable pub openState : (t state : List ℕ) → List ℕ
 openState t state = cond (short state) state (stored (opened t .stream) state)
 
-module _ (t state block ids offsets : List ℕ) where
+module _ (t state : List ℕ) (allowance : ℕ) (block ids offsets : List ℕ) where
   -- what a scan of the state in these words answers
   unfoldable pub scanAnswer : Scanned
   scanAnswer =
-      cond (short state) (record { number = shortState; taken = 0; reports = 0; stream = stateOf state }) (scanned t (stateOf state) block ids offsets)
+      cond (short state) (record { number = shortState; taken = 0; reports = 0; used = 0; stream = stateOf state }) (scanned t (stateOf state) allowance block ids offsets)
 
   unfoldable pub scanState : List ℕ
   scanState = cond (eqb (scanAnswer .number) 0) (stored (scanAnswer .stream) state) state
 
   unfoldable pub scanIds : List ℕ
-  scanIds = cond (short state) ids (scannedIds t (stateOf state) block ids offsets)
+  scanIds = cond (short state) ids (scannedIds t (stateOf state) allowance block ids offsets)
 
   unfoldable pub scanOffsets : List ℕ
-  scanOffsets = cond (short state) offsets (scannedOffsets t (stateOf state) block ids offsets)
+  scanOffsets = cond (short state) offsets (scannedOffsets t (stateOf state) allowance block ids offsets)
 
 module _ (t state ids offsets : List ℕ) where
   -- what closing the state in these words answers

@@ -65,33 +65,38 @@ pub extern "C" fn watcher_open(table: &[u64], state: &mut [u64]) -> u32
     r.number
 }
 
-// Scans a block, and says how many bytes it took and how many reports it wrote.
+// Scans a block within an allowance of work, and says how many bytes it took, how many reports it wrote and how many units it used.
 #[no_mangle]
 pub extern "C" fn watcher_scan(
     table: &[u64],
     state: &mut [u64],
+    allowance: u64,
     block: &[u8],
     ids: &mut [u32],
     offsets: &mut [u64],
     taken: &mut usize,
     reports: &mut usize,
+    used: &mut u64,
 ) -> u32
-    ensures answer { λ r. ⌜ r ≡ scanAnswer (now (table .entry)) (now (state .entry)) (now (block .entry)) (now (ids .entry)) (now (offsets .entry)) .number ⌝ }
-    ensures state { λ r. ⌜ now (state .exit) ≡ scanState (now (table .entry)) (now (state .entry)) (now (block .entry)) (now (ids .entry)) (now (offsets .entry)) ⌝ }
-    ensures ids { λ r. ⌜ now (ids .exit) ≡ scanIds (now (table .entry)) (now (state .entry)) (now (block .entry)) (now (ids .entry)) (now (offsets .entry)) ⌝ }
-    ensures offsets { λ r. ⌜ now (offsets .exit) ≡ scanOffsets (now (table .entry)) (now (state .entry)) (now (block .entry)) (now (ids .entry)) (now (offsets .entry)) ⌝ }
-    ensures taken { λ r. ⌜ now (taken .exit) ≡ scanAnswer (now (table .entry)) (now (state .entry)) (now (block .entry)) (now (ids .entry)) (now (offsets .entry)) .taken ⌝ }
-    ensures reports { λ r. ⌜ now (reports .exit) ≡ scanAnswer (now (table .entry)) (now (state .entry)) (now (block .entry)) (now (ids .entry)) (now (offsets .entry)) .reports ⌝ }
+    ensures answer { λ r. ⌜ r ≡ scanAnswer (now (table .entry)) (now (state .entry)) allowance (now (block .entry)) (now (ids .entry)) (now (offsets .entry)) .number ⌝ }
+    ensures state { λ r. ⌜ now (state .exit) ≡ scanState (now (table .entry)) (now (state .entry)) allowance (now (block .entry)) (now (ids .entry)) (now (offsets .entry)) ⌝ }
+    ensures ids { λ r. ⌜ now (ids .exit) ≡ scanIds (now (table .entry)) (now (state .entry)) allowance (now (block .entry)) (now (ids .entry)) (now (offsets .entry)) ⌝ }
+    ensures offsets { λ r. ⌜ now (offsets .exit) ≡ scanOffsets (now (table .entry)) (now (state .entry)) allowance (now (block .entry)) (now (ids .entry)) (now (offsets .entry)) ⌝ }
+    ensures taken { λ r. ⌜ now (taken .exit) ≡ scanAnswer (now (table .entry)) (now (state .entry)) allowance (now (block .entry)) (now (ids .entry)) (now (offsets .entry)) .taken ⌝ }
+    ensures reports { λ r. ⌜ now (reports .exit) ≡ scanAnswer (now (table .entry)) (now (state .entry)) allowance (now (block .entry)) (now (ids .entry)) (now (offsets .entry)) .reports ⌝ }
+    ensures used { λ r. ⌜ now (used .exit) ≡ scanAnswer (now (table .entry)) (now (state .entry)) allowance (now (block .entry)) (now (ids .entry)) (now (offsets .entry)) .used ⌝ }
 {
     if state.len() < STATE_WORDS {
         *taken = 0;
         *reports = 0;
+        *used = 0;
         return SHORT_STATE;
     }
     let s = load(state);
-    let r = s.scan(table, block, ids, offsets);
+    let r = s.scan(table, allowance, block, ids, offsets);
     *taken = r.taken;
     *reports = r.reports;
+    *used = r.used;
     let next = r.stream;
     if r.number == 0 {
         store(state, next);

@@ -22,6 +22,8 @@
 //! close IDS OFFSETS NUMBER COUNT IDS OFFSETS
 //!                                 the two lent lists before, the answer, the lists afterwards;
 //!                                 a list is numbers with commas between, '-' when it has no slot
+//! scan .. used N of ALLOWANCE     a scan that may use so many units of work, and uses N
+//! scan .. used N                  a scan without limit, as the one above, that uses N units
 //! figure N                        the busy figure of the present state
 //! empty NUMBER                    empties the table
 //! lend N                          lends N words from here on: the table's first ones, or more
@@ -48,6 +50,13 @@ pub struct Lists {
     pub offsets: Vec<u64>,
 }
 
+/// The work of a scan: the units that it may use, none for no limit, and those that it uses.
+#[derive(Clone, Copy, Debug, PartialEq, Eq)]
+pub struct Work {
+    pub allowance: Option<u64>,
+    pub used: u64,
+}
+
 /// A scan (with a block) or a closing (without): what is lent and what comes back.
 #[derive(Clone, Debug, PartialEq, Eq)]
 pub struct Call {
@@ -57,6 +66,8 @@ pub struct Call {
     pub taken: usize,
     pub count: usize,
     pub after: Lists,
+    /// None for a closing, and for a scan without limit whose units are not written.
+    pub work: Option<Work>,
 }
 
 /// One pair of the ordered list; without a moment it falls at closing.
@@ -148,23 +159,25 @@ pub fn line(text: &str) -> Result<Line, String> {
             Line::Busy(figures.iter().map(|f| hex::number(f)).collect::<Result<_, _>>()?)
         }
         ["open", number] => Line::Open(hex::number(number)?),
-        ["scan", block, ids, offsets, number, taken, count, ids_after, offsets_after] => {
+        ["scan", block, ids, offsets, number, taken, count, new_ids, new_offsets, ref end @ ..] => {
             Line::Call(Call {
                 block: Some(hex::bytes(block)?),
                 before: lists(ids, offsets)?,
                 number: hex::number(number)?,
                 taken: hex::number(taken)?,
                 count: hex::number(count)?,
-                after: lists(ids_after, offsets_after)?,
+                after: lists(new_ids, new_offsets)?,
+                work: work(end)?,
             })
         }
-        ["close", ids, offsets, number, count, ids_after, offsets_after] => Line::Call(Call {
+        ["close", ids, offsets, number, count, new_ids, new_offsets] => Line::Call(Call {
             block: None,
             before: lists(ids, offsets)?,
             number: hex::number(number)?,
             taken: 0,
             count: hex::number(count)?,
-            after: lists(ids_after, offsets_after)?,
+            after: lists(new_ids, new_offsets)?,
+            work: None,
         }),
         ["figure", n] => Line::Figure(hex::number(n)?),
         ["empty", number] => Line::Empty(hex::number(number)?),
@@ -183,6 +196,26 @@ pub fn line(text: &str) -> Result<Line, String> {
 
 fn lists(ids: &str, offsets: &str) -> Result<Lists, String> {
     Ok(Lists { ids: hex::list(ids)?, offsets: hex::list(offsets)? })
+}
+
+/// The last words of a scan's line.
+fn work(words: &[&str]) -> Result<Option<Work>, String> {
+    Ok(match *words {
+        [] => None,
+        ["used", used] => Some(Work { allowance: None, used: hex::number(used)? }),
+        ["used", used, "of", allowance] => {
+            let allowance = Some(hex::number(allowance)?);
+            Some(Work { allowance, used: hex::number(used)? })
+        }
+        _ => return Err(format!("'{}' does not end a scan", words.join(" "))),
+    })
+}
+
+impl fmt::Display for Work {
+    fn fmt(&self, f: &mut fmt::Formatter<'_>) -> fmt::Result {
+        write!(f, "used {}", self.used)?;
+        self.allowance.map_or(Ok(()), |allowance| write!(f, " of {allowance}"))
+    }
 }
 
 impl fmt::Display for Lists {
@@ -209,9 +242,10 @@ impl fmt::Display for Line {
                 figures.iter().try_for_each(|figure| write!(f, " {figure}"))
             }
             Line::Open(number) => write!(f, "open {number}"),
-            Line::Call(Call { block: Some(b), before, number, taken, count, after }) => {
+            Line::Call(Call { block: Some(b), before, number, taken, count, after, work }) => {
                 let block = hex::write_bytes(b);
-                write!(f, "scan {block} {before} {number} {taken} {count} {after}")
+                write!(f, "scan {block} {before} {number} {taken} {count} {after}")?;
+                work.map_or(Ok(()), |work| write!(f, " {work}"))
             }
             Line::Call(Call { block: None, before, number, count, after, .. }) => {
                 write!(f, "close {before} {number} {count} {after}")

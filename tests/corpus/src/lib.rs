@@ -6,5 +6,5 @@ pub mod files;
 pub mod hex;
 pub mod program;
 
-pub use case::{Call, Case, Line, Lists, Report};
+pub use case::{Call, Case, Line, Lists, Report, Work};
 pub use program::ProgramCase;

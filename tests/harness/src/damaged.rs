@@ -1,17 +1,18 @@
 //! Words of any content: tables and states that are damaged here and there, or made up from nothing,
 //! and calls on them, compared with the interpreter of table words: the answer, and every lent word
 //! afterwards. States start anywhere in a stream, also past 65,535 and 4,294,967,296 bytes and at its
-//! limit, with live and held positions, marks and held pairs. Case i of a run depends on the seed and
-//! on i alone.
+//! limit, with live and held positions, marks and held pairs. Each scan is made a second time, with no
+//! smaller an allowance. Case i of a run depends on the seed and on i alone.
 
 use std::collections::BTreeMap;
 
-use words::calls::{Answer, Calls};
+use words::calls::{Answer, Calls, NO_LIMIT};
 use words::interpreter::Interpreter;
 use words::layout::*;
 
 use crate::patterns::pattern;
 use crate::rng::Rng;
+use crate::slices::{carried_further, in_bounds, Scanned};
 
 #[derive(Clone, Debug, Default)]
 pub struct Count {
@@ -19,6 +20,8 @@ pub struct Count {
     pub calls: u64,
     pub reports: u64,
     pub taken: u64,
+    /// Units of work.
+    pub used: u64,
     /// Calls by their number.
     pub by_number: BTreeMap<u32, u64>,
 }
@@ -32,12 +35,19 @@ struct Lent {
     offsets: Vec<u64>,
 }
 
-/// One call on what is lent; a scan if there is a block.
-fn call<C: Calls>(calls: &C, lent: &mut Lent, block: Option<&[u8]>) -> Answer {
-    let Lent { table, state, ids, offsets } = lent;
-    match block {
-        Some(block) => calls.scan(table, state, block, ids, offsets),
-        None => calls.close(table, state, ids, offsets),
+impl Lent {
+    /// One call on it: a scan of a block with an allowance, or a closing.
+    fn call<C: Calls>(&mut self, calls: &C, scan: Option<(&[u8], u64)>) -> Answer {
+        let Lent { table, state, ids, offsets } = self;
+        match scan {
+            Some((block, allowance)) => calls.scan(table, state, allowance, block, ids, offsets),
+            None => calls.close(table, state, ids, offsets),
+        }
+    }
+
+    fn scanned(&self, answer: &Answer) -> Scanned<'_> {
+        let &Answer { number, taken, count, used } = answer;
+        Scanned { number, taken, count, used, ids: &self.ids, offsets: &self.offsets }
     }
 }
 
@@ -68,24 +78,33 @@ fn one_case<C: Calls>(calls: &C, rng: &mut Rng, count: &mut Count) -> Result<(),
         lent.ids = (0..space(rng)).map(|_| rng.word() as u32).collect();
         lent.offsets = (0..space(rng)).map(|_| rng.word()).collect();
         let block: Vec<u8> = (0..rng.below(40)).map(|_| byte(rng)).collect();
-        let block = (!rng.once_in(6)).then_some(&block[..]);
+        let scan = (!rng.once_in(6)).then(|| (&block[..], allowance(rng)));
         same("busy figure", calls.busy(&lent.state), Interpreter.busy(&lent.state))?;
         let before = lent.clone();
         let mut wanted = before.clone();
-        let answer = call(calls, &mut lent, block);
-        let expected = call(&Interpreter, &mut wanted, block);
-        let what = || format!("{block:?} on state {:?}", before.state);
-        same(&what(), answer, expected)?;
+        let answer = lent.call(calls, scan);
+        let expected = wanted.call(&Interpreter, scan);
+        let what = |told: &str| format!("{scan:?} on state {:?}: {told}", before.state);
+        same(&what("answer"), answer, expected)?;
         if lent != wanted {
-            return Err(format!("{}: other words were left", what()));
+            return Err(what("other words were left"));
         }
         if answer.number != 0 && lent != before {
-            return Err(format!("{}: a refusal changed a word", what()));
+            return Err(what("a refusal changed a word"));
+        }
+        if let Some((block, allowance)) = scan {
+            let more = allowance.saturating_add(*rng.pick(&[1, 2, 300, NO_LIMIT]));
+            let mut others = before.clone();
+            let another = others.call(calls, Some((block, more)));
+            in_bounds(&lent.scanned(&answer), allowance, u64::from(calls.busy(&before.state)))
+                .and_then(|()| carried_further(&lent.scanned(&answer), &others.scanned(&another)))
+                .map_err(|message| what(&message))?;
         }
         count.calls += 1;
         *count.by_number.entry(answer.number).or_default() += 1;
         count.reports += answer.count as u64;
         count.taken += answer.taken as u64;
+        count.used += answer.used;
     }
     Ok(())
 }
@@ -117,6 +136,18 @@ fn same<T: PartialEq + std::fmt::Debug>(what: &str, got: T, wanted: T) -> Result
         return Ok(());
     }
     Err(format!("{what}: got {got:?}, wanted {wanted:?}"))
+}
+
+/// Half the time no limit; nothing, a little, about what a byte costs here, or more than 32 bits hold.
+fn allowance(rng: &mut Rng) -> u64 {
+    match rng.below(10) {
+        0 => 0,
+        1 => 1 + rng.word() % 20,
+        2 => 250 + rng.word() % 20,
+        3 => rng.word() % 3_000,
+        4 => (rng.word() % 4) << 32 | rng.word() % 40,
+        _ => NO_LIMIT,
+    }
 }
 
 /// Mostly enough for all rules, each at two offsets.

@@ -5,13 +5,15 @@
 //! An accepted pattern stands twice in the table, plain and as a single-match rule, and all its
 //! streams are opened on that table one after another. Each cut is scanned with the least report
 //! space, so that the stop rule is at work wherever bytes report, and, cut into single bytes, with
-//! the busy figure asked after each byte and after the closing.
+//! the busy figure asked after each byte and after the closing. Each cut is made a second time by work
+//! allowances: all the rest of the log is offered with just the units that the next part costs and,
+//! before each single byte, with one unit too few.
 
 use corpus::Case;
 
 use crate::definition::add_all;
 use crate::play::play;
-use crate::scenario::{predict_with, Addition, Scenario, Step};
+use crate::scenario::{predict_with, Addition, Allowance, Scenario, Step};
 use crate::shrink::{describe, failure, shrink};
 use crate::watcher::{PatternReader, Watcher};
 
@@ -159,7 +161,7 @@ fn one_pattern<W: Watcher, R: PatternReader>(
     }
     count.accepted += 1;
     let scenario = |log: &[u8]| {
-        let steps = all_cuts(log.len()).join(&Step::Again);
+        let steps = all_streams(log.len()).join(&Step::Again);
         Scenario { additions: additions.clone(), log: log.to_vec(), steps }
     };
     let mut all = Case { name: String::new(), origin: String::new(), lines: Vec::new() };
@@ -168,7 +170,7 @@ fn one_pattern<W: Watcher, R: PatternReader>(
         let added = if all.lines.is_empty() { 0 } else { additions.len() };
         all.lines.extend(case.lines.into_iter().skip(added));
         count.pairs += 1;
-        count.streams += 1 << log.len().saturating_sub(1);
+        count.streams += 2 << log.len().saturating_sub(1);
     }
     if play(watcher, &all).is_ok() {
         return Ok(());
@@ -180,28 +182,58 @@ fn one_pattern<W: Watcher, R: PatternReader>(
     })
 }
 
-/// For each cut of so many bytes into blocks the steps of the caller, closing included.
-fn all_cuts(length: usize) -> Vec<Vec<Step>> {
+/// For each cut of so many bytes the steps of a caller who cuts by blocks, and of one who cuts by
+/// allowances.
+fn all_streams(length: usize) -> Vec<Vec<Step>> {
     let gaps = length.saturating_sub(1);
-    (0..1usize << gaps)
-        .map(|choice| {
-            let mut steps = Vec::new();
-            let mut block = 0;
-            for byte in 0..length {
-                block += 1;
-                if byte == gaps || choice >> byte & 1 == 1 {
-                    steps.push(Step::Offer { bytes: block, space: 4 });
-                    if choice + 1 == 1 << gaps {
-                        steps.push(Step::Figure);
-                    }
-                    block = 0;
-                }
-            }
-            steps.push(Step::Close { ids: 4, offsets: 4 });
-            if choice + 1 == 1 << gaps {
-                steps.push(Step::Figure);
-            }
-            steps
-        })
-        .collect()
+    let cuts = (0..1usize << gaps).map(|choice| parts(length, choice));
+    cuts.flat_map(|parts| [by_blocks(&parts), by_allowances(&parts)]).collect()
+}
+
+/// The lengths of the parts of so many bytes, cut behind those whose bit is set in `choice`.
+fn parts(length: usize, choice: usize) -> Vec<usize> {
+    let mut parts = Vec::new();
+    let mut part = 0;
+    for byte in 0..length {
+        part += 1;
+        if byte + 1 == length || choice >> byte & 1 == 1 {
+            parts.push(part);
+            part = 0;
+        }
+    }
+    parts
+}
+
+fn are_single(parts: &[usize]) -> bool {
+    parts.iter().all(|&part| part == 1)
+}
+
+/// Blocks as long as the parts, and the closing.
+fn by_blocks(parts: &[usize]) -> Vec<Step> {
+    let figure = are_single(parts).then_some(Step::Figure);
+    let mut steps = Vec::new();
+    for &bytes in parts {
+        steps.push(Step::Offer { bytes, space: 4, allowance: Allowance::NoLimit });
+        steps.extend(figure.clone());
+    }
+    steps.push(Step::Close { ids: 4, offsets: 4 });
+    steps.extend(figure);
+    steps
+}
+
+/// The whole rest with an allowance for each part in turn; what the report space did not let through,
+/// and the closing.
+fn by_allowances(parts: &[usize]) -> Vec<Step> {
+    let rest = usize::MAX;
+    let slice = |allowance| Step::Scan { bytes: rest, ids: 4, offsets: 4, allowance, drop: false };
+    let mut steps = Vec::new();
+    for &part in parts {
+        if are_single(parts) {
+            steps.push(slice(Allowance::OneLess(part)));
+        }
+        steps.push(slice(Allowance::Cost(part)));
+    }
+    steps.push(Step::Offer { bytes: rest, space: 4, allowance: Allowance::NoLimit });
+    steps.push(Step::Close { ids: 4, offsets: 4 });
+    steps
 }

@@ -3,8 +3,9 @@
 //!
 //! `watcher` is the interface to what is under test; `model` puts the reference's calls behind it.
 //! `scenario` turns additions, a log and a caller's doings into a case whose answers the definition
-//! gives; `play` carries a case out, be it from there or from the corpus. `exhaustive` and `random`
-//! make scenarios, `shrink` makes a failing one small. `readings` compares the reader alone.
+//! gives; `play` carries a case out, be it from there or from the corpus. `slices` is what every scan
+//! owes for the work it may do. `exhaustive` and `random` make scenarios, `shrink` makes a failing one
+//! small. `readings` compares the reader alone.
 //! `over_words` is a watcher made of calls over lent words, be they the interpreter's of `words` or
 //! the library's (`library`), and `damaged` compares such calls where the words are of any content.
 //! `card` does so for the blocks of a table on the card. `process` is the built program.
@@ -26,4 +27,5 @@ pub mod readings;
 pub mod rng;
 pub mod scenario;
 pub mod shrink;
+pub mod slices;
 pub mod watcher;

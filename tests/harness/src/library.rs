@@ -27,11 +27,12 @@ impl Calls for Library {
         &self,
         table: &[u64],
         state: &mut [u64],
+        allowance: u64,
         block: &[u8],
         ids: &mut [u32],
         offsets: &mut [u64],
     ) -> Answer {
-        answer(raw::scan(table, state, block, ids, offsets))
+        answer(raw::scan(table, state, allowance, block, ids, offsets))
     }
 
     fn close(
@@ -60,5 +61,5 @@ impl Card for Library {
 }
 
 fn answer(answer: raw::Answer) -> Answer {
-    Answer { number: answer.number, taken: answer.taken, count: answer.reports }
+    Answer { number: answer.number, taken: answer.taken, count: answer.reports, used: answer.used }
 }

@@ -144,8 +144,8 @@ fn many_random<W: Watcher>(watcher: &W, seed: u64, first: u64, cases: u64) -> Re
     let count = random::run(watcher, seed, first, cases)?;
     println!("random: seed {seed}, {} cases, {} (pattern, log) pairs", count.cases, count.pairs);
     println!(
-        "random: {} calls, {} of them refused, {} reports",
-        count.calls, count.refused_calls, count.reports
+        "random: {} calls, {} of them refused, {} with an allowance, {} reports, {} units",
+        count.calls, count.refused_calls, count.limited, count.reports, count.used
     );
     println!("random: additions by number {:?}", count.by_number);
     Ok(())
@@ -154,8 +154,8 @@ fn many_random<W: Watcher>(watcher: &W, seed: u64, first: u64, cases: u64) -> Re
 fn many_damaged<C: Calls>(calls: &C, seed: u64, first: u64, cases: u64) -> Result<(), String> {
     let count = damaged::run(calls, seed, first, cases)?;
     println!(
-        "damaged: seed {seed}, {} cases, {} calls, {} bytes taken, {} reports",
-        count.cases, count.calls, count.taken, count.reports
+        "damaged: seed {seed}, {} cases, {} calls, {} bytes taken, {} reports, {} units",
+        count.cases, count.calls, count.taken, count.reports, count.used
     );
     println!("damaged: calls by number {:?}", count.by_number);
     Ok(())

@@ -38,11 +38,12 @@ impl Watcher for Model {
         &self,
         table: &Table,
         stream: Stream,
+        allowance: u64,
         block: &[u8],
         ids: &mut [u32],
         offsets: &mut [u64],
     ) -> Answer<Stream> {
-        answer(stream.scan(table, block, ids, offsets))
+        answer(stream.scan(table, allowance, block, ids, offsets))
     }
 
     fn close(
@@ -75,6 +76,7 @@ fn answer(answer: reference::calls::Answer) -> Answer<Stream> {
         number: answer.number,
         taken: answer.taken,
         count: answer.count,
+        used: answer.used,
         stream: answer.stream,
     }
 }

@@ -1,6 +1,6 @@
 //! A watcher made of calls over lent words.
 
-use words::calls::Calls;
+use words::calls::{self, Calls};
 use words::layout::{FORMAT, HELD, MARKS, PENDING, POSITIONS, STATE_WORDS, TABLE_WORDS, TAKEN};
 
 use crate::watcher::{Answer, Change, PatternReader, Reading, Watcher};
@@ -40,12 +40,12 @@ impl<C: Calls> Watcher for OverWords<C> {
         &self,
         table: &Vec<u64>,
         mut stream: Self::Stream,
+        allowance: u64,
         block: &[u8],
         ids: &mut [u32],
         offsets: &mut [u64],
     ) -> Answer<Self::Stream> {
-        let answer = self.0.scan(table, &mut stream, block, ids, offsets);
-        Answer { number: answer.number, taken: answer.taken, count: answer.count, stream }
+        answer(self.0.scan(table, &mut stream, allowance, block, ids, offsets), stream)
     }
 
     fn close(
@@ -55,8 +55,7 @@ impl<C: Calls> Watcher for OverWords<C> {
         ids: &mut [u32],
         offsets: &mut [u64],
     ) -> Answer<Self::Stream> {
-        let answer = self.0.close(table, &mut stream, ids, offsets);
-        Answer { number: answer.number, taken: answer.taken, count: answer.count, stream }
+        answer(self.0.close(table, &mut stream, ids, offsets), stream)
     }
 
     fn busy(&self, stream: &Self::Stream) -> usize {
@@ -77,6 +76,11 @@ impl<C: Calls> Watcher for OverWords<C> {
         }
         Some(state)
     }
+}
+
+fn answer<S>(answer: calls::Answer, stream: S) -> Answer<S> {
+    let calls::Answer { number, taken, count, used } = answer;
+    Answer { number, taken, count, used, stream }
 }
 
 impl<C: Calls> PatternReader for OverWords<C> {

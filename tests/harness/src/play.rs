@@ -1,11 +1,15 @@
 //! Carries a case out on a watcher and compares each answer with the one that the case writes.
 //! Besides what the lines say, every refusal is held to its promise: table, state and lists stay
-//! as they were.
+//! as they were; and every scan to what it owes for its work, for which a line's scan with an allowance
+//! is made a second time without limit.
 
-use corpus::{Call, Case, Line, Lists, Report};
+use std::borrow::Cow;
+
+use corpus::{Call, Case, Line, Lists, Report, Work};
 use reference::refusal::{least_space, MAX_RULES};
 
-use crate::watcher::{Answer, Change, Watcher};
+use crate::slices::{carried_further, in_bounds, Scanned, MOST_UNITS};
+use crate::watcher::{Answer, Change, Watcher, NO_LIMIT};
 
 /// What a case came to, if no answer was wrong.
 #[derive(Clone, Copy, Debug, PartialEq, Eq)]
@@ -46,11 +50,13 @@ impl<'w, W: Watcher> Player<'w, W> {
     }
 
     /// The words that the next call is lent.
-    fn lent_table(&self) -> W::Table {
+    fn lent_table(&self) -> Cow<'_, W::Table> {
         match self.lent {
-            Some(words) if words < TABLE_WORDS => self.watcher.resized(&self.table, words),
-            Some(_) => self.table.clone(),
-            None => self.watcher.words(TABLE_WORDS),
+            Some(words) if words < TABLE_WORDS => {
+                Cow::Owned(self.watcher.resized(&self.table, words))
+            }
+            Some(_) => Cow::Borrowed(&self.table),
+            None => Cow::Owned(self.watcher.words(TABLE_WORDS)),
         }
     }
 
@@ -66,7 +72,7 @@ impl<'w, W: Watcher> Player<'w, W> {
     }
 
     fn add(&mut self, id: u32, flags: u32, pattern: &[u8]) -> Result<(u32, usize), String> {
-        let before = self.lent_table();
+        let before = self.lent_table().into_owned();
         let mut words = before.clone();
         let answer = self.watcher.add(&mut words, id, flags, pattern);
         self.take_back(&before, words, answer.0)?;
@@ -77,24 +83,42 @@ impl<'w, W: Watcher> Player<'w, W> {
         self.stream.clone().ok_or("no stream was opened".to_string())
     }
 
-    /// A scan or a closing on the present state; the lists as they are lent and left.
+    /// A scan of a block with an allowance, or a closing, on the present state; the lists as they are
+    /// lent and left.
     fn call(
         &mut self,
-        block: Option<&[u8]>,
+        scan: Option<(&[u8], u64)>,
         lists: &mut Lists,
     ) -> Result<Answer<W::Stream>, String> {
-        let table = self.lent_table();
         let stream = self.present()?;
-        let (ids, offsets) = (&mut lists.ids[..], &mut lists.offsets[..]);
-        let answer = match block {
-            Some(block) => self.watcher.scan(&table, stream.clone(), block, ids, offsets),
-            None => self.watcher.close(&table, stream.clone(), ids, offsets),
+        let answer = match scan {
+            Some((block, allowance)) => {
+                let answer = self.scan(&stream, allowance, block, lists);
+                let busy = self.watcher.busy(&stream) as u64;
+                in_bounds(&scanned(&answer, lists), allowance, busy)?;
+                answer
+            }
+            None => {
+                let (ids, offsets) = (&mut lists.ids[..], &mut lists.offsets[..]);
+                self.watcher.close(&self.lent_table(), stream.clone(), ids, offsets)
+            }
         };
         if answer.number != 0 && answer.stream != stream {
             return Err(format!("refusal {} changed the state", answer.number));
         }
         self.stream = Some(answer.stream.clone());
         Ok(answer)
+    }
+
+    fn scan(
+        &self,
+        stream: &W::Stream,
+        allowance: u64,
+        block: &[u8],
+        lists: &mut Lists,
+    ) -> Answer<W::Stream> {
+        let (ids, offsets) = (&mut lists.ids[..], &mut lists.offsets[..]);
+        self.watcher.scan(&self.lent_table(), stream.clone(), allowance, block, ids, offsets)
     }
 
     /// One line of a case with calls. Gives false if the watcher cannot follow.
@@ -112,7 +136,7 @@ impl<'w, W: Watcher> Player<'w, W> {
             Line::Call(call) => self.expect_call(call)?,
             Line::Figure(n) => expect("busy figure", self.watcher.busy(&self.present()?), *n)?,
             Line::Empty(number) => {
-                let before = self.lent_table();
+                let before = self.lent_table().into_owned();
                 let mut words = before.clone();
                 let answer = self.watcher.empty(&mut words);
                 expect("number", answer, *number)?;
@@ -149,12 +173,29 @@ impl<'w, W: Watcher> Player<'w, W> {
 
     fn expect_call(&mut self, call: &Call) -> Result<(), String> {
         let mut lists = call.before.clone();
-        let answer = self.call(call.block.as_deref(), &mut lists)?;
+        let allowance = call.work.and_then(|work| work.allowance).unwrap_or(NO_LIMIT);
+        let stream = self.present()?;
+        let scan = call.block.as_deref().map(|block| (block, allowance));
+        let answer = self.call(scan, &mut lists)?;
+        if let Some((block, _)) = scan.filter(|_| allowance < NO_LIMIT) {
+            let mut others = call.before.clone();
+            let unlimited = self.scan(&stream, NO_LIMIT, block, &mut others);
+            carried_further(&scanned(&answer, &lists), &scanned(&unlimited, &others))?;
+        }
         expect("number", answer.number, call.number)?;
         expect("bytes taken", answer.taken, call.taken)?;
         expect("count", answer.count, call.count)?;
-        expect("lists", &lists, &call.after)
+        expect("lists", &lists, &call.after)?;
+        match call.work {
+            Some(Work { used, .. }) => expect("units used", answer.used, used),
+            None => Ok(()),
+        }
     }
+}
+
+fn scanned<'l, S>(answer: &Answer<S>, lists: &'l Lists) -> Scanned<'l> {
+    let &Answer { number, taken, count, used, .. } = answer;
+    Scanned { number, taken, count, used, ids: &lists.ids, offsets: &lists.offsets }
 }
 
 fn expect<T: PartialEq + std::fmt::Debug>(what: &str, got: T, wanted: T) -> Result<(), String> {
@@ -174,8 +215,9 @@ fn play_calls<W: Watcher>(watcher: &W, case: &Case) -> Result<Outcome, String> {
     Ok(Outcome::Passed)
 }
 
-/// A case without calls: its additions, and then its stream three times: block by block with the
-/// least report space, at once with much, and byte by byte with the moments and busy figures.
+/// A case without calls: its additions, and then its stream four times: block by block with the least
+/// report space, at once with much, in the smallest slices of work that always take a byte, and byte
+/// by byte with the moments and busy figures.
 fn play_whole<W: Watcher>(watcher: &W, case: &Case) -> Result<(), String> {
     let mut player = Player::new(watcher)?;
     let mut rules = 0;
@@ -190,12 +232,15 @@ fn play_whole<W: Watcher>(watcher: &W, case: &Case) -> Result<(), String> {
     let pairs: Vec<(u32, u64)> = wanted.iter().map(|r| (r.id, r.offset)).collect();
     let least = least_space(rules);
     let much = least_space(MAX_RULES) * (joined.len() + 1);
-    for (blocks, space) in [(&blocks, least), (&vec![joined.clone()], much)] {
-        let got = whole_stream(&mut player, blocks, space)?;
+    let at_once = vec![joined];
+    for (blocks, space, allowance) in
+        [(&blocks, least, NO_LIMIT), (&at_once, much, NO_LIMIT), (&at_once, least, MOST_UNITS)]
+    {
+        let got = whole_stream(&mut player, blocks, space, allowance)?;
         let got: Vec<(u32, u64)> = got.reports.iter().map(|r| (r.id, r.offset)).collect();
         expect("reports (id, offset)", &got, &pairs)?;
     }
-    let got = whole_stream(&mut player, &bytes, least)?;
+    let got = whole_stream(&mut player, &bytes, least, NO_LIMIT)?;
     expect("reports with moments", &got.reports, &wanted)?;
     match case.busy() {
         Some(figures) => expect("busy figures", got.busy, figures),
@@ -214,6 +259,7 @@ fn whole_stream<W: Watcher>(
     player: &mut Player<W>,
     blocks: &[Vec<u8>],
     space: usize,
+    allowance: u64,
 ) -> Result<Whole, String> {
     player.line(&Line::Open(0))?;
     let mut whole = Whole { reports: Vec::new(), busy: Vec::new() };
@@ -223,7 +269,7 @@ fn whole_stream<W: Watcher>(
         let mut offered = 0;
         loop {
             let rest = &block[offered..];
-            let (taken, reports) = accepted_call(player, Some(rest), space)?;
+            let (taken, reports) = accepted_call(player, Some((rest, allowance)), space)?;
             if taken == 0 && !rest.is_empty() || taken > rest.len() {
                 return Err(format!("a scan took {taken} of {} bytes", rest.len()));
             }
@@ -247,12 +293,12 @@ fn whole_stream<W: Watcher>(
 /// keep what they held.
 fn accepted_call<W: Watcher>(
     player: &mut Player<W>,
-    block: Option<&[u8]>,
+    scan: Option<(&[u8], u64)>,
     space: usize,
 ) -> Result<(usize, Vec<(u32, u64)>), String> {
     let before = Lists { ids: vec![0xdead_beef; space], offsets: vec![u64::MAX - 5; space + 1] };
     let mut lists = before.clone();
-    let answer = player.call(block, &mut lists)?;
+    let answer = player.call(scan, &mut lists)?;
     expect("number", answer.number, 0)?;
     if answer.count > space {
         return Err(format!("{} reports in a space of {space}", answer.count));

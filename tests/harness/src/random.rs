@@ -1,6 +1,7 @@
 //! The random mode: tables of a few rules over the whole subset, malformed ones among them, a log
-//! in which they have something to find, and a caller with blocks and report spaces of any size who
-//! now and then makes a call that is refused. Case i of a run depends on the seed and on i alone.
+//! in which they have something to find, and a caller with blocks, report spaces and work allowances
+//! of any size who now and then makes a call that is refused. Case i of a run depends on the seed and
+//! on i alone.
 
 use corpus::{Case, Line};
 use reference::refusal::{least_space, MAX_RULES};
@@ -11,7 +12,7 @@ use crate::definition::add_all;
 use crate::patterns::{pattern, ODD_BYTES};
 use crate::play::play;
 use crate::rng::Rng;
-use crate::scenario::{predict, Addition, Scenario, Step};
+use crate::scenario::{predict, Addition, Allowance, Scenario, Step};
 use crate::shrink::{describe, shrink};
 use crate::watcher::Watcher;
 
@@ -22,7 +23,11 @@ pub struct Count {
     pub pairs: u64,
     pub calls: u64,
     pub refused_calls: u64,
+    /// Scans with an allowance.
+    pub limited: u64,
     pub reports: u64,
+    /// Units of work.
+    pub used: u64,
     /// Additions by their number, 0 to 17 and 23.
     pub by_number: [u64; 24],
 }
@@ -69,7 +74,9 @@ fn tally(case: &Case, count: &mut Count) {
             Line::Call(call) => {
                 count.calls += 1;
                 count.refused_calls += u64::from(call.number != 0);
+                count.limited += u64::from(call.work.is_some_and(|work| work.allowance.is_some()));
                 count.reports += call.count as u64;
+                count.used += call.work.map_or(0, |work| work.used);
             }
             _ => {}
         }
@@ -106,7 +113,8 @@ pub fn scenario(rng: &mut Rng) -> Scenario {
     }
     if rng.once_in(2) {
         let least = least_space(rules.len());
-        steps.push(Step::Offer { bytes: usize::MAX, space: least });
+        let allowance = allowance(rng);
+        steps.push(Step::Offer { bytes: usize::MAX, space: least, allowance });
         steps.push(Step::Figure);
         steps.push(Step::Close { ids: least.saturating_sub(1), offsets: 2 * MAX_RULES + 8 });
     }
@@ -140,8 +148,25 @@ fn step(rng: &mut Rng, rules: usize, log: usize) -> Step {
         5 => Step::GrownTable,
         6 | 7 => Step::Add(addition(rng)),
         8..=12 => Step::Figure,
-        13 => Step::Offer { bytes: rng.below(log + 2), space: ids },
-        _ => Step::Scan { bytes: rng.below(log + 2), ids, offsets, drop: rng.once_in(6) },
+        13 => Step::Offer { bytes: rng.below(log + 2), space: ids, allowance: allowance(rng) },
+        _ => {
+            let (bytes, drop) = (rng.below(log + 2), rng.once_in(6));
+            Step::Scan { bytes, ids, offsets, allowance: allowance(rng), drop }
+        }
+    }
+}
+
+/// Often no limit; none at all, a few, just enough for some bytes or one too few; what always takes a
+/// byte; and far more than any scan uses, past 32 bits.
+fn allowance(rng: &mut Rng) -> Allowance {
+    match rng.below(12) {
+        0..=3 => Allowance::NoLimit,
+        4 => Allowance::Units(0),
+        5 | 6 => Allowance::Units(1 + rng.word() % 12),
+        7 | 8 => Allowance::Cost(1 + rng.below(8)),
+        9 => Allowance::OneLess(1 + rng.below(8)),
+        10 => Allowance::Units(256 + rng.word() % 400),
+        _ => Allowance::Units(*rng.pick(&[1 << 32, (1 << 32) + 3, 1 << 63, u64::MAX - 1])),
     }
 }
 

@@ -1,8 +1,9 @@
 //! A scenario: additions, a log, and what a caller does with them. `predict` turns it into a case
-//! whose answers come from the definition alone: the ordered list of the rules and the bytes, and
-//! the order of the checks. So a scenario can be played on any watcher, made smaller, or printed.
+//! whose answers come from the definition alone: the ordered list of the rules and the bytes, the
+//! busy figure before each byte, and the order of the checks. So a scenario can be played on any
+//! watcher, made smaller, or printed.
 
-use corpus::{Call, Case, Line, Lists};
+use corpus::{Call, Case, Line, Lists, Work};
 use reference::ordered::{ordered, Moment, Pair};
 use reference::refusal::least_space;
 use reference::rule::{check, Rule};
@@ -18,6 +19,30 @@ pub struct Addition {
     pub pattern: Vec<u8>,
 }
 
+/// The units that a scan may use.
+#[derive(Clone, Copy, Debug, PartialEq, Eq)]
+pub enum Allowance {
+    NoLimit,
+    Units(u64),
+    /// What so many of the bytes offered cost, or all of them if they are fewer.
+    Cost(usize),
+    /// One unit less than that.
+    OneLess(usize),
+}
+
+impl Allowance {
+    /// The units, for an offer of bytes that cost so many; none for no limit.
+    fn units(self, costs: &[u64]) -> Option<u64> {
+        let cost = |bytes: usize| costs.iter().take(bytes).sum::<u64>();
+        match self {
+            Allowance::NoLimit => None,
+            Allowance::Units(units) => Some(units),
+            Allowance::Cost(bytes) => Some(cost(bytes)),
+            Allowance::OneLess(bytes) => Some(cost(bytes).saturating_sub(1)),
+        }
+    }
+}
+
 /// One thing that the caller does. Sizes are those of the two lent lists.
 #[derive(Clone, Debug, PartialEq, Eq)]
 pub enum Step {
@@ -26,12 +51,14 @@ pub enum Step {
         bytes: usize,
         ids: usize,
         offsets: usize,
+        allowance: Allowance,
         drop: bool,
     },
-    /// Offers so many of the log's next bytes until they are taken.
+    /// Offers so many of the log's next bytes until they are taken, or a call takes none of them.
     Offer {
         bytes: usize,
         space: usize,
+        allowance: Allowance,
     },
     Close {
         ids: usize,
@@ -69,11 +96,11 @@ pub fn predict(scenario: &Scenario) -> Case {
 
 /// The same for additions whose rules and answers are known already.
 pub fn predict_with(scenario: &Scenario, rules: &[Rule], answers: &[(u32, usize)]) -> Case {
-    let list = ordered(rules, &scenario.log);
     let mut caller = Caller {
         rules,
         log: &scenario.log,
-        log_list: list,
+        log_list: ordered(rules, &scenario.log),
+        log_costs: costs(rules, &scenario.log, 0),
         next: 0,
         stream: Vec::new(),
         joined: Vec::new(),
@@ -89,7 +116,8 @@ pub fn predict_with(scenario: &Scenario, rules: &[Rule], answers: &[(u32, usize)
     }
     if !caller.closed {
         let least = least_space(rules.len());
-        caller.step(&Step::Offer { bytes: usize::MAX, space: least + 3 });
+        let allowance = Allowance::NoLimit;
+        caller.step(&Step::Offer { bytes: usize::MAX, space: least + 3, allowance });
         caller.step(&Step::Close { ids: least, offsets: least });
         caller.step(&Step::Figure);
     }
@@ -99,6 +127,12 @@ pub fn predict_with(scenario: &Scenario, rules: &[Rule], answers: &[(u32, usize)
 fn rule_line(addition: &Addition, number: u32, place: usize) -> Line {
     let Addition { id, flags, pattern } = addition.clone();
     Line::Rule { id, flags, pattern, number, place }
+}
+
+/// What each byte of the stream costs by definition, from this one on: a unit, and the busy figure
+/// before it.
+fn costs(rules: &[Rule], stream: &[u8], from: usize) -> Vec<u64> {
+    (from..stream.len()).map(|n| 1 + busy(rules, &stream[..n]) as u64).collect()
 }
 
 /// Lists with old contents that no report has.
@@ -114,6 +148,8 @@ struct Caller<'s> {
     log: &'s [u8],
     /// The ordered list of the whole log.
     log_list: Vec<Pair>,
+    /// What each byte of the log costs.
+    log_costs: Vec<u64>,
     /// The log's next byte to offer.
     next: usize,
     /// The bytes taken.
@@ -127,11 +163,16 @@ struct Caller<'s> {
 impl Caller<'_> {
     fn step(&mut self, step: &Step) {
         match step {
-            Step::Scan { bytes, ids, offsets, drop } => self.scan(*bytes, *ids, *offsets, *drop),
-            Step::Offer { bytes, space } => {
+            Step::Scan { bytes, ids, offsets, allowance, drop } => {
+                self.scan(*bytes, *ids, *offsets, *allowance, *drop)
+            }
+            Step::Offer { bytes, space, allowance } => {
                 let until = self.next.saturating_add(*bytes).min(self.log.len());
-                while self.next < until && self.number(*space) == 0 {
-                    self.scan(until - self.next, *space, *space, false);
+                let mut taken = true;
+                while taken && self.next < until && self.number(*space) == 0 {
+                    let before = self.next;
+                    self.scan(until - self.next, *space, *space, *allowance, false);
+                    taken = self.next > before;
                 }
             }
             Step::Close { ids, offsets } => self.close(*ids, *offsets),
@@ -152,7 +193,7 @@ impl Caller<'_> {
                 let addition = Addition { id: 0, flags: 4, pattern: b")".to_vec() };
                 self.lines.extend([Line::Lend(None), rule_line(&addition, 1, 0)]);
                 let space = least_space(self.rules.len());
-                self.answer(None, old_lists(space, space), 1, &[], 0);
+                self.answer(None, old_lists(space, space), 1, &[], 0, None);
                 self.lines.push(Line::Lend(Some(TABLE_WORDS)));
             }
             Step::RefusedState => {
@@ -183,7 +224,8 @@ impl Caller<'_> {
 
     fn refused_scan(&mut self, number: u32) {
         let space = least_space(self.rules.len()) + 1;
-        self.answer(Some(b"a".to_vec()), old_lists(space, space), number, &[], 0);
+        let work = Work { allowance: Some(1), used: 0 };
+        self.answer(Some(b"a".to_vec()), old_lists(space, space), number, &[], 0, Some(work));
     }
 
     /// The number of an accepted or refused call on the present state with this space.
@@ -195,46 +237,51 @@ impl Caller<'_> {
         }
     }
 
-    fn scan(&mut self, bytes: usize, ids: usize, offsets: usize, drop: bool) {
+    fn scan(&mut self, bytes: usize, ids: usize, offsets: usize, allowance: Allowance, drop: bool) {
         let until = self.next.saturating_add(bytes).min(self.log.len());
         let block = self.log[self.next..until].to_vec();
         let space = ids.min(offsets);
         let number = self.number(space);
+        let (coming, costs) = self.coming(&block);
+        let allowance = allowance.units(&costs);
         let mut reports: Vec<Pair> = Vec::new();
-        let mut taken = 0;
+        let (mut taken, mut used) = (0, 0);
         if number == 0 {
-            let coming = self.reports_by_byte(&block);
-            for of_byte in coming {
-                if reports.len() + of_byte.len() > space {
+            for (of_byte, cost) in coming.into_iter().zip(costs) {
+                let paid = allowance.map_or(true, |units| used + cost <= units);
+                if !paid || reports.len() + of_byte.len() > space {
                     break;
                 }
                 reports.extend(of_byte);
                 taken += 1;
+                used += cost;
             }
         }
         self.stream.extend(&block[..taken]);
         self.next = if drop && number == 0 { until } else { self.next + taken };
-        self.answer(Some(block), old_lists(ids, offsets), number, &reports, taken);
+        let work = Some(Work { allowance, used });
+        self.answer(Some(block), old_lists(ids, offsets), number, &reports, taken, work);
     }
 
-    /// What the definition lists at each byte of the block, were all of it taken next. A byte's
-    /// moment has to do with the bytes up to it only.
-    fn reports_by_byte(&self, block: &[u8]) -> Vec<Vec<Pair>> {
+    /// What the definition lists at each byte of the block, were all of it taken next, and what each
+    /// costs. A byte's moment and cost have to do with the bytes up to it only.
+    fn coming(&self, block: &[u8]) -> (Vec<Vec<Pair>>, Vec<u64>) {
         let before = self.stream.len();
         let longer: Vec<u8> = [&self.stream[..], block].concat();
         let other;
-        let list = if self.log.starts_with(&longer) {
-            &self.log_list
+        let (list, costs) = if self.log.starts_with(&longer) {
+            (&self.log_list, self.log_costs[before..longer.len()].to_vec())
         } else {
             other = ordered(self.rules, &longer);
-            &other
+            (&other, costs(self.rules, &longer, before))
         };
-        (1..=block.len())
+        let reports = (1..=block.len())
             .map(|n| {
                 let moment = Moment::After((before + n) as u64);
                 list.iter().filter(|pair| pair.moment == moment).copied().collect()
             })
-            .collect()
+            .collect();
+        (reports, costs)
     }
 
     fn close(&mut self, ids: usize, offsets: usize) {
@@ -253,7 +300,7 @@ impl Caller<'_> {
             assert_eq!(&joined, list, "the calls' reports, joined, are the ordered list");
             self.closed = true;
         }
-        self.answer(None, old_lists(ids, offsets), number, &reports, 0);
+        self.answer(None, old_lists(ids, offsets), number, &reports, 0, None);
     }
 
     fn answer(
@@ -263,6 +310,7 @@ impl Caller<'_> {
         number: u32,
         reports: &[Pair],
         taken: usize,
+        work: Option<Work>,
     ) {
         let mut after = before.clone();
         for (slot, pair) in reports.iter().enumerate() {
@@ -271,6 +319,6 @@ impl Caller<'_> {
         }
         self.joined.extend(reports);
         let count = reports.len();
-        self.lines.push(Line::Call(Call { block, before, number, taken, count, after }));
+        self.lines.push(Line::Call(Call { block, before, number, taken, count, after, work }));
     }
 }

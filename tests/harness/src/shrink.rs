@@ -1,9 +1,9 @@
-//! Makes a disagreement smaller: takes away rules, steps, bytes of the log and of the patterns, and
-//! simplifies numbers, as long as the scenario still fails. Each accepted change makes the scenario
+//! Makes a disagreement smaller: takes away rules, steps, bytes of the log and of the patterns and
+//! report slots, and simplifies numbers, as long as the scenario still fails. Each accepted change makes the scenario
 //! smaller in size or in its numbers, so this ends.
 
 use crate::play::play;
-use crate::scenario::{predict, Scenario, Step};
+use crate::scenario::{predict, Allowance, Scenario, Step};
 use crate::watcher::Watcher;
 
 /// Why the scenario fails on the watcher, if it does.
@@ -64,7 +64,11 @@ fn smaller_ones(scenario: &Scenario) -> Vec<Scenario> {
         }
     }
     for index in 0..scenario.steps.len() {
+        with(&|s| s.steps[index] = unlimited(&s.steps[index]));
         with(&|s| s.steps[index] = plainer(&s.steps[index]));
+        with(&|s| s.steps[index] = tighter(&s.steps[index], |slots| slots / 2));
+        with(&|s| s.steps[index] = tighter(&s.steps[index], |slots| slots - slots / 4));
+        with(&|s| s.steps[index] = tighter(&s.steps[index], |slots| slots.saturating_sub(1)));
     }
     all
 }
@@ -80,20 +84,38 @@ fn cuts(length: usize) -> Vec<(usize, usize)> {
     cuts
 }
 
+/// The step without a limit to its work.
+fn unlimited(step: &Step) -> Step {
+    let mut step = step.clone();
+    if let Step::Scan { allowance, .. } | Step::Offer { allowance, .. } = &mut step {
+        *allowance = Allowance::NoLimit;
+    }
+    step
+}
+
 /// A step of the same kind with less to it.
 fn plainer(step: &Step) -> Step {
-    match step {
-        Step::Scan { bytes, ids, offsets, drop: true } => {
-            Step::Scan { bytes: *bytes, ids: *ids, offsets: *offsets, drop: false }
+    let mut step = step.clone();
+    match &mut step {
+        Step::Scan { drop: drop @ true, .. } => *drop = false,
+        Step::Scan { ids, offsets, .. } | Step::Close { ids, offsets } => {
+            let space = (*ids).min(*offsets);
+            (*ids, *offsets) = (space, space);
         }
-        Step::Scan { bytes, ids, offsets, .. } if ids != offsets => {
-            let space = *ids.min(offsets);
-            Step::Scan { bytes: *bytes, ids: space, offsets: space, drop: false }
-        }
-        Step::Close { ids, offsets } => {
-            let space = *ids.min(offsets);
-            Step::Close { ids: space, offsets: space }
-        }
-        other => other.clone(),
+        _ => {}
     }
+    step
+}
+
+/// The step with fewer report slots.
+fn tighter(step: &Step, fewer: fn(usize) -> usize) -> Step {
+    let mut step = step.clone();
+    match &mut step {
+        Step::Scan { ids, offsets, .. } | Step::Close { ids, offsets } => {
+            (*ids, *offsets) = (fewer(*ids), fewer(*offsets));
+        }
+        Step::Offer { space, .. } => *space = fewer(*space),
+        _ => {}
+    }
+    step
 }

@@ -2,11 +2,15 @@
 //! runner only lends them, keeps what comes back, copies them and compares them for equality.
 //! Every answer is a number, with the values that the product's rules give besides.
 
-/// The answer of a scan or a closing; a closing takes no bytes.
+pub use reference::calls::NO_LIMIT;
+
+/// The answer of a scan or a closing; a closing takes no bytes and no allowance.
 pub struct Answer<S> {
     pub number: u32,
     pub taken: usize,
     pub count: usize,
+    /// Units of work.
+    pub used: u64,
     pub stream: S,
 }
 
@@ -48,6 +52,7 @@ pub trait Watcher {
         &self,
         table: &Self::Table,
         stream: Self::Stream,
+        allowance: u64,
         block: &[u8],
         ids: &mut [u32],
         offsets: &mut [u64],

@@ -37,9 +37,19 @@ fn cases_are_written_as_they_are_read() {
 
 #[test]
 fn a_line_that_is_none_is_an_error() {
-    for text in
-        ["rule 1 0 61", "rule 1 0 6 0 0", "open", "scan 61 - - 0", "report 1 1", "x", "lend -1"]
-    {
+    for text in [
+        "rule 1 0 61",
+        "rule 1 0 6 0 0",
+        "open",
+        "scan 61 - - 0",
+        "scan 61 - - 0 1 0 - - 1",
+        "scan 61 - - 0 1 0 - - used",
+        "scan 61 - - 0 1 0 - - used 1 of",
+        "scan 61 - - 0 1 0 - - used 1 of none",
+        "report 1 1",
+        "x",
+        "lend -1",
+    ] {
         assert!(corpus::files::cases_in("t", &format!("case x\n{text}\n")).is_err(), "{text}");
     }
 }

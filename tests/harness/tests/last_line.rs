@@ -5,7 +5,7 @@
 mod finding;
 
 use harness::over_words::OverWords;
-use words::calls::{Answer, Calls};
+use words::calls::{Answer, Calls, NO_LIMIT};
 use words::interpreter::Interpreter;
 use words::layout::*;
 
@@ -150,7 +150,7 @@ impl Slip {
 /// The state after these bytes, whatever they report.
 fn scanned(table: &[u64], state: &mut [u64], bytes: &[u8]) {
     let space = 2 * MAX_RULES * (bytes.len() + 1);
-    Interpreter.scan(table, state, bytes, &mut vec![0; space], &mut vec![0; space]);
+    Interpreter.scan(table, state, NO_LIMIT, bytes, &mut vec![0; space], &mut vec![0; space]);
 }
 
 impl Calls for Slip {
@@ -174,17 +174,18 @@ impl Calls for Slip {
         &self,
         table: &[u64],
         state: &mut [u64],
+        allowance: u64,
         block: &[u8],
         ids: &mut [u32],
         offsets: &mut [u64],
     ) -> Answer {
         if *self == OnceForScans {
             if let Some((mut ids, mut offsets)) = lengthened(table, ids, offsets) {
-                return Interpreter.scan(table, state, block, &mut ids, &mut offsets);
+                return Interpreter.scan(table, state, allowance, block, &mut ids, &mut offsets);
             }
         }
         let before = state.to_vec();
-        let answer = Interpreter.scan(table, state, block, ids, offsets);
+        let answer = Interpreter.scan(table, state, allowance, block, ids, offsets);
         if answer.number == 0 {
             self.after_scan(table, &before, state, &block[..answer.taken]);
         }

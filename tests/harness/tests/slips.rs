@@ -69,6 +69,7 @@ impl Slip {
         self,
         table: &Table,
         stream: Stream,
+        allowance: u64,
         block: &[u8],
         ids: &mut [u32],
         offsets: &mut [u64],
@@ -76,7 +77,8 @@ impl Slip {
         let space = ids.len().min(offsets.len());
         let most = MAX_RULES * block.len() + space;
         let mut all = (vec![0; most], vec![0; most]);
-        let mut answer = Model.scan(table, stream.clone(), block, &mut all.0, &mut all.1);
+        let mut answer =
+            Model.scan(table, stream.clone(), allowance, block, &mut all.0, &mut all.1);
         if answer.number != 0 {
             return answer;
         }
@@ -84,7 +86,7 @@ impl Slip {
             let before = all.1[0] - 1;
             let last = all.1[space - 1] - before;
             let block = &block[..(last as usize).min(block.len())];
-            answer = Model.scan(table, stream, block, &mut all.0, &mut all.1);
+            answer = Model.scan(table, stream, allowance, block, &mut all.0, &mut all.1);
         }
         answer.count = answer.count.min(space);
         ids[..answer.count].copy_from_slice(&all.0[..answer.count]);
@@ -202,23 +204,27 @@ impl Watcher for Slip {
         &self,
         table: &Table,
         stream: Stream,
+        allowance: u64,
         block: &[u8],
         ids: &mut [u32],
         offsets: &mut [u64],
     ) -> Answer<Stream> {
         let space = ids.len().min(offsets.len());
         match self {
-            HalfOfAByte => return self.half_of_a_byte(table, stream, block, ids, offsets),
+            HalfOfAByte => {
+                return self.half_of_a_byte(table, stream, allowance, block, ids, offsets)
+            }
             StopsEarly if block.len() > 1 => {
-                return Model.scan(table, stream, &block[..block.len() - 1], ids, offsets)
+                let block = &block[..block.len() - 1];
+                return Model.scan(table, stream, allowance, block, ids, offsets);
             }
             IgnoresTheShorterList if ids.len() > space => {
                 let mut longer = vec![0; ids.len()];
-                return Model.scan(table, stream, block, ids, &mut longer);
+                return Model.scan(table, stream, allowance, block, ids, &mut longer);
             }
             _ => {}
         }
-        let whole = Model.scan(table, stream.clone(), block, ids, offsets);
+        let whole = Model.scan(table, stream.clone(), allowance, block, ids, offsets);
         if whole.number != 0 {
             return whole;
         }
@@ -227,11 +233,11 @@ impl Watcher for Slip {
             FallingIds => ids[..whole.count].sort_by_key(|id| std::cmp::Reverse(*id)),
             TakesNoMoreWhenFull if whole.count == space && space > 0 => {
                 let until = (1..=block.len()).find(|&n| {
-                    let answer = Model.scan(table, stream.clone(), &block[..n], ids, offsets);
-                    answer.count == space
+                    let stream = stream.clone();
+                    Model.scan(table, stream, allowance, &block[..n], ids, offsets).count == space
                 });
                 let until = until.unwrap_or(block.len());
-                return Model.scan(table, stream, &block[..until], ids, offsets);
+                return Model.scan(table, stream, allowance, &block[..until], ids, offsets);
             }
             _ => {}
         }

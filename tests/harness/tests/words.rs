@@ -6,7 +6,7 @@ use harness::corpus_run::run_folder;
 use harness::damaged::run;
 use harness::over_words::OverWords;
 use harness::random;
-use words::calls::{Answer, Calls};
+use words::calls::{Answer, Calls, NO_LIMIT};
 use words::interpreter::Interpreter;
 use words::layout::*;
 
@@ -135,7 +135,7 @@ impl Slip {
 /// The state after these bytes, whatever they report.
 fn scanned(table: &[u64], state: &mut [u64], bytes: &[u8]) {
     let space = 2 * MAX_RULES * (bytes.len() + 1);
-    Interpreter.scan(table, state, bytes, &mut vec![0; space], &mut vec![0; space]);
+    Interpreter.scan(table, state, NO_LIMIT, bytes, &mut vec![0; space], &mut vec![0; space]);
 }
 
 impl Calls for Slip {
@@ -172,13 +172,14 @@ impl Calls for Slip {
         &self,
         table: &[u64],
         state: &mut [u64],
+        allowance: u64,
         block: &[u8],
         ids: &mut [u32],
         offsets: &mut [u64],
     ) -> Answer {
         let kept = state.to_vec();
         self.before(table, state);
-        let mut answer = Interpreter.scan(table, state, block, ids, offsets);
+        let mut answer = Interpreter.scan(table, state, allowance, block, ids, offsets);
         if answer.number == 0 {
             self.after_scan(table, &kept, state, &block[..answer.taken]);
         }

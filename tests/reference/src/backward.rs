@@ -5,7 +5,7 @@
 
 use crate::known::Known;
 use crate::offsets::{union, without, Offsets};
-use crate::written::Form;
+use crate::written::{part_with, Form};
 
 /// Does the form match from some earlier offset up to this gap?
 pub fn matches_up_to(form: &Form, gap: usize, known: &Known) -> bool {
@@ -14,7 +14,29 @@ pub fn matches_up_to(form: &Form, gap: usize, known: &Known) -> bool {
 
 /// Is the position live: is there a way that has just taken the last known byte there?
 pub fn is_live(form: &Form, position: usize, known: &Known) -> bool {
-    matches_up_to(&form.up_to_position(position), known.bytes.len(), known)
+    !starts_up_to(form, position, known).is_empty()
+}
+
+/// Where a way through the form can start that has just taken the last known byte at the position:
+/// the form, cut off behind that position, is read from there.
+fn starts_up_to(form: &Form, position: usize, known: &Known) -> Offsets {
+    match form {
+        Form::Position(..) => starts(form, &[known.bytes.len()], known),
+        Form::Assert(_) => Offsets::new(),
+        Form::Sequence(parts) => {
+            let index = part_with(parts, position);
+            let at = starts_up_to(&parts[index], position, known);
+            parts[..index].iter().rev().fold(at, |at, part| starts(part, &at, known))
+        }
+        Form::Choice(branches) => {
+            starts_up_to(&branches[part_with(branches, position)], position, known)
+        }
+        Form::Optional(of) => starts_up_to(of, position, known),
+        Form::Plus(of) => {
+            let last = starts_up_to(of, position, known);
+            union(&last, &starts(form, &last, known))
+        }
+    }
 }
 
 /// Where a match of the form can start that ends at one of `ends`.

@@ -7,6 +7,9 @@
 //! waits for the end is not carried either: a closing looks back from the last byte and from the one
 //! before it, once as the end is known and once as it was not.
 //!
+//! What a byte costs is found in the same way: the busy figure of the state before it, looked back
+//! for anew, and one unit.
+//!
 //! A state may be handed to a table it was not opened on. If the counts agree it is valid, and its
 //! bytes count as bytes of that table's stream; for a state that has taken bytes under other rules
 //! this is not what a scanner that keeps live positions would say, so no comparison asks for it.
@@ -17,6 +20,9 @@ use crate::backward::{is_live, matches_up_to};
 use crate::known::Known;
 use crate::refusal::{least_space, Refusal, MAX_STREAM, TABLE_WORDS};
 use crate::rule::{check, positions_of, Rule};
+
+/// The allowance of a caller who sets no limit to a scan's work.
+pub const NO_LIMIT: u64 = u64::MAX;
 
 /// Lent words: how many, and the rules they hold if they are a table.
 #[derive(Clone, Debug, PartialEq)]
@@ -47,12 +53,14 @@ pub struct Stream {
     closed: bool,
 }
 
-/// The answer of a scan or a closing. A closing takes no bytes.
+/// The answer of a scan or a closing. A closing takes no bytes and no allowance.
 #[derive(Clone, Debug, PartialEq)]
 pub struct Answer {
     pub number: u32,
     pub taken: usize,
     pub count: usize,
+    /// Units of work.
+    pub used: u64,
     pub stream: Stream,
 }
 
@@ -195,13 +203,15 @@ impl Stream {
     }
 
     fn refused(self, number: u32) -> Answer {
-        Answer { number, taken: 0, count: 0, stream: self }
+        Answer { number, taken: 0, count: 0, used: 0, stream: self }
     }
 
-    /// Takes bytes one at a time and stops before the first whose reports would not all fit.
+    /// Takes bytes one at a time and stops before the first that the allowance does not pay for, or
+    /// whose reports would not all fit.
     pub fn scan(
         mut self,
         table: &Table,
+        allowance: u64,
         block: &[u8],
         ids: &mut [u32],
         offsets: &mut [u64],
@@ -213,7 +223,12 @@ impl Stream {
         };
         let mut taken = 0;
         let mut count = 0;
+        let mut used = 0;
         for &byte in block {
+            let cost = 1 + self.busy() as u64;
+            if cost > allowance - used {
+                break;
+            }
             self.bytes.push(byte);
             let reporting = self.reporting(rules);
             if reporting.len() > space - count {
@@ -230,8 +245,9 @@ impl Stream {
             }
             self.held_pairs.clear();
             taken += 1;
+            used += cost;
         }
-        Answer { number: 0, taken, count, stream: self }
+        Answer { number: 0, taken, count, used, stream: self }
     }
 
     /// Reports the pairs that need the end, those before the last byte first, and sets the closed
@@ -259,7 +275,7 @@ impl Stream {
             }
         }
         self.closed = true;
-        Answer { number: 0, taken: 0, count, stream: self }
+        Answer { number: 0, taken: 0, count, used: 0, stream: self }
     }
 
     /// What is known when so many of the bytes were just taken, or at closing.

@@ -45,7 +45,8 @@
 //! from the bytes taken so far, by looking back: `backward` reads the written-out form from right
 //! to left and asks for a start. A closing does so at the last two offsets, and keeps what was not
 //! known to match before. Its busy figure cuts the form off behind each position in turn and
-//! asks whether the cut form matches up to now. So the list by definition (whole stream, forward,
+//! asks whether the cut form matches up to now; a byte's cost is one more than that figure before it.
+//! So the list by definition (whole stream, forward,
 //! tree with counts, first moment) and the reports of the calls (bytes so far, backward,
 //! written-out form, one byte after another) are two computations. They share the reader and
 //! `known`, and `ways` and the busy figure of a state share the written-out form besides; the

@@ -1,7 +1,7 @@
 //! A model of the program: rules from a file's bytes, a stream from the input's bytes, the lines it
 //! writes. Lines of rules: a decimal id, a space, decimal flags, a space, the pattern.
 
-use crate::calls::Table;
+use crate::calls::{Table, NO_LIMIT};
 use crate::refusal::{least_space, MAX_RULES, TABLE_WORDS};
 
 /// At most this many bytes of rules are read.
@@ -33,7 +33,7 @@ pub fn run(rules: &[u8], input: &[u8]) -> Vec<u8> {
         let answer = if rest.is_empty() {
             stream.close(&table, &mut ids, &mut offsets)
         } else {
-            stream.scan(&table, rest, &mut ids, &mut offsets)
+            stream.scan(&table, NO_LIMIT, rest, &mut ids, &mut offsets)
         };
         for slot in 0..answer.count {
             out.push_str(&format!("{} {}\n", ids[slot], offsets[slot]));

@@ -78,39 +78,22 @@ impl Writer {
 }
 
 impl Form {
-    /// Does this part hold the position?
-    pub fn holds_position(&self, number: usize) -> bool {
+    /// The number of its first position, if it has one.
+    fn first_position(&self) -> Option<usize> {
         match self {
-            Form::Position(own, _) => *own == number,
-            Form::Assert(_) => false,
+            Form::Position(number, _) => Some(*number),
+            Form::Assert(_) => None,
             Form::Sequence(parts) | Form::Choice(parts) => {
-                parts.iter().any(|part| part.holds_position(number))
+                parts.iter().find_map(Form::first_position)
             }
-            Form::Optional(of) | Form::Plus(of) => of.holds_position(number),
-        }
-    }
-
-    /// The form of the ways through this one that have just taken a byte at the position: what may
-    /// stand before it, then it, then nothing.
-    pub fn up_to_position(&self, number: usize) -> Form {
-        match self {
-            Form::Position(..) | Form::Assert(_) => self.clone(),
-            Form::Sequence(parts) => {
-                let index = index_of(parts, number);
-                let mut kept = parts[..index].to_vec();
-                kept.push(parts[index].up_to_position(number));
-                Form::Sequence(kept)
-            }
-            Form::Choice(branches) => branches[index_of(branches, number)].up_to_position(number),
-            Form::Optional(of) => of.up_to_position(number),
-            Form::Plus(of) => Form::Sequence(vec![
-                Form::Optional(Box::new(Form::Plus(of.clone()))),
-                of.up_to_position(number),
-            ]),
+            Form::Optional(of) | Form::Plus(of) => of.first_position(),
         }
     }
 }
 
-fn index_of(parts: &[Form], number: usize) -> usize {
-    parts.iter().position(|part| part.holds_position(number)).expect("the position is in here")
+/// Which of the parts holds the position: since they are numbered in written order, the last one that
+/// does not begin behind it.
+pub fn part_with(parts: &[Form], number: usize) -> usize {
+    let before = |part: &Form| part.first_position().is_some_and(|first| first <= number);
+    parts.iter().rposition(before).expect("the position is in here")
 }

@@ -1,7 +1,7 @@
 //! Busy figures worked by hand, asked of the definition (ways through the written-out form) and of
 //! the state of the model.
 
-use reference::calls::Table;
+use reference::calls::{Table, NO_LIMIT};
 use reference::rule::check;
 use reference::ways::{busy, live_positions};
 
@@ -18,7 +18,7 @@ fn figures(flags: u32, pattern: &str, log: &str, wanted: &[usize]) {
     let (_, mut stream) = table.open();
     let mut shown = vec![stream.busy()];
     for byte in log {
-        stream = stream.scan(&table, &[*byte], &mut [0; 2], &mut [0; 2]).stream;
+        stream = stream.scan(&table, NO_LIMIT, &[*byte], &mut [0; 2], &mut [0; 2]).stream;
         shown.push(stream.busy());
     }
     assert_eq!(shown, wanted, "{pattern} by the state");

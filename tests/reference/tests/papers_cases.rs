@@ -1,7 +1,7 @@
 //! The cases that the product's rules write out: the marked ones and the others, as short as there.
 //! Each one is asked of the definition and of the model of the calls.
 
-use reference::calls::Table;
+use reference::calls::{Table, NO_LIMIT};
 use reference::ordered::{ordered, Moment, Pair};
 use reference::rule::{check, Rule};
 
@@ -30,7 +30,7 @@ fn by_calls(flags: u32, pattern: &[u8], blocks: &[&[u8]]) -> Found {
     let mut found = Found { scanning: Vec::new(), closing: Vec::new() };
     let (mut ids, mut offsets) = ([0; 20], [0; 20]);
     for block in blocks {
-        let answer = stream.scan(&table, block, &mut ids, &mut offsets);
+        let answer = stream.scan(&table, NO_LIMIT, block, &mut ids, &mut offsets);
         assert_eq!((answer.number, answer.taken), (0, block.len()));
         found.scanning.extend(&offsets[..answer.count]);
         stream = answer.stream;

@@ -1,11 +1,17 @@
 //! The calls over lent words, as the library has them: a state is fourteen words that the caller owns.
 
-/// What a scan or a closing answers besides the words it leaves; a closing takes no bytes.
+/// The allowance of a caller who sets no limit to a scan's work.
+pub const NO_LIMIT: u64 = u64::MAX;
+
+/// What a scan or a closing answers besides the words it leaves; a closing takes no bytes and no
+/// allowance.
 #[derive(Clone, Copy, Debug, PartialEq, Eq)]
 pub struct Answer {
     pub number: u32,
     pub taken: usize,
     pub count: usize,
+    /// Units of work.
+    pub used: u64,
 }
 
 pub trait Calls {
@@ -23,6 +29,7 @@ pub trait Calls {
         &self,
         table: &[u64],
         state: &mut [u64],
+        allowance: u64,
         block: &[u8],
         ids: &mut [u32],
         offsets: &mut [u64],

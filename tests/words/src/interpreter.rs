@@ -161,7 +161,7 @@ fn checked<'w>(
 }
 
 fn refused(number: u32) -> Answer {
-    Answer { number, taken: 0, count: 0 }
+    Answer { number, taken: 0, count: 0, used: 0 }
 }
 
 impl Calls for Interpreter {
@@ -207,6 +207,7 @@ impl Calls for Interpreter {
         &self,
         words: &[u64],
         state: &mut [u64],
+        allowance: u64,
         block: &[u8],
         ids: &mut [u32],
         offsets: &mut [u64],
@@ -217,7 +218,10 @@ impl Calls for Interpreter {
         };
         let mut count = 0;
         let mut taken = 0;
+        let mut used: u64 = 0;
         for &byte in block {
+            let paid = used.checked_add(1 + u64::from(self.busy(state)));
+            let Some(paid) = paid.filter(|&paid| paid <= allowance) else { break };
             let live = table.reached(&state[..4], state[TAKEN], byte, false);
             let ending = table.rules_where(|a| table.ends(&live, a, LAST));
             let end = state[TAKEN] + 1;
@@ -230,8 +234,9 @@ impl Calls for Interpreter {
             state[PENDING] = pairs;
             state[TAKEN] = end;
             taken += 1;
+            used = paid;
         }
-        Answer { number: 0, taken, count }
+        Answer { number: 0, taken, count, used }
     }
 
     fn close(
@@ -256,7 +261,7 @@ impl Calls for Interpreter {
             table.report(found, end, &mut marks, ids, offsets, &mut count);
         }
         state[CLOSED] = 1;
-        Answer { number: 0, taken: 0, count }
+        Answer { number: 0, taken: 0, count, used: 0 }
     }
 
     fn busy(&self, state: &[u64]) -> u32 {

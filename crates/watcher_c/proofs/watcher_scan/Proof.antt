@@ -8,7 +8,7 @@ use Rattle.watcher_c.proofs.watcher_scan.Tie as tie
 returns : tie.Need-returns
 returns c =
     let a = c .before .before .before .before .before .before .args in
-    scan-short (now (a .table)) (now (a .state)) (now (a .block)) (now (a .ids)) (now (a .offsets)) (c .if1 .taken)
+    scan-short (now (a .table)) (now (a .state)) (a .allowance) (now (a .block)) (now (a .ids)) (now (a .offsets)) (c .if1 .taken)
 
 load-requires : tie.Need-load-requires
 load-requires c κs = search needs
@@ -37,7 +37,7 @@ returns-2 c =
     let at-if1 = at-load .before .before in
     let a = at-if1 .before .before .before .before .before .before .args in
     let e = at-scan .scan .ensures in
-    scan-accepted (now (a .table)) (now (a .state)) (now (a .block)) (now (a .ids)) (now (a .offsets)) (at-if1 .if1 .left) (at-load .load .ensures) (e .0) (e .1 .0) (e .1 .1) (at-if2 .if2 .taken) (at-store .store .ensures)
+    scan-accepted (now (a .table)) (now (a .state)) (a .allowance) (now (a .block)) (now (a .ids)) (now (a .offsets)) (at-if1 .if1 .left) (at-load .load .ensures) (e .0) (e .1 .0) (e .1 .1) (at-if2 .if2 .taken) (at-store .store .ensures)
 
 same-length-4 : tie.Need-same-length-4
 same-length-4 c = search needs
@@ -55,7 +55,7 @@ returns-3 c =
     let at-if1 = at-load .before .before in
     let a = at-if1 .before .before .before .before .before .before .args in
     let e = at-scan .scan .ensures in
-    scan-refused (now (a .table)) (now (a .state)) (now (a .block)) (now (a .ids)) (now (a .offsets)) (at-if1 .if1 .left) (at-load .load .ensures) (e .0) (e .1 .0) (e .1 .1) (c .if2 .left)
+    scan-refused (now (a .table)) (now (a .state)) (a .allowance) (now (a .block)) (now (a .ids)) (now (a .offsets)) (at-if1 .if1 .left) (at-load .load .ensures) (e .0) (e .1 .0) (e .1 .1) (c .if2 .left)
 
 pub watcher-scan-spec : {M : Type 1} → statement M
 watcher-scan-spec =

@@ -4,7 +4,7 @@ use mathlib.Core.Path.{_≡_, refl, sym, ap₂, _∙_}
 use mathlib.Core.Bool.{Bool, true, false, not, _||_, _&&_, true≢false}
 use mathlib.Core.List.{List}
 use Prim.Native.Nat.{ℕ, _+_, _-_, _<_, _≤_}
-use native.Mathlib.Nat.{le-refl}
+use native.Mathlib.Nat.{le-refl, le-trans, lt-of-lt-of-le}
 use native.Mathlib.Omega.{arith}
 use denote.Ref.{now}
 use lib.Dec.{eqb}
@@ -24,10 +24,10 @@ use Rattle.stream.proofs.scan.ahead.Statement.{statement}
 use Rattle.stream.proofs.scan.ahead.Tie as tie
 
 abbrev Inv-loop : tie.InvT-loop
-Inv-loop taken words positions block from first at₀ at = (0 < taken + from) × (first ≡ keptBelow (setOf (automaton words .first)) (automaton words .positions)) × Skipped (automaton words) emptySet block taken from at
+Inv-loop taken words positions block from end first at₀ at = (0 < taken + from) × (first ≡ keptBelow (setOf (automaton words .first)) (automaton words .positions)) × Skipped (automaton words) emptySet block taken from end at
 
 abbrev μ-loop : tie.MeasureT-loop
-μ-loop taken words positions block from first at₀ at = length block - at
+μ-loop taken words positions block from end first at₀ at = end - at
 
 neither : (x y z : Bool) → ((x || y) || z) ≡ false → (x ≡ false) × (y ≡ false) × (z ≡ false)
 neither true y z e = absurd (true≢false e)
@@ -46,13 +46,14 @@ is-empty-requires c κs = tt
 add-if1 : tie.Need-add-if1 Inv-loop μ-loop
 add-if1 c =
     let c-start = c .before .before .before in
-    sum-fits (c-start .args .taken) (c-start .args .from) (length (now (c-start .args .block))) (c-start .pre .2) (c-start .pre .1)
+    let n = length (now (c-start .args .block)) in
+    sum-fits (c-start .args .taken) (c-start .args .from) n (c-start .pre .3) (le-trans (c-start .pre .1) (c-start .pre .2))
 
 returns : tie.Need-returns Inv-loop μ-loop
 returns c =
     let c-start = c .before .before .before .before in
     let a = c-start .args in
-    skipped-none (automaton (now (a .words))) (now (a .block)) (a .taken) (a .from) (a .live) (c-start .pre .1)
+    skipped-none (automaton (now (a .words))) (now (a .block)) (a .taken) (a .from) (a .live) (a .end) (c-start .pre .1)
 
 row-requires : tie.Need-row-requires Inv-loop μ-loop
 row-requires c κs = tt
@@ -70,13 +71,14 @@ loop-holds c =
     let a = c-start .args in (
       positive (a .taken + a .from) (neither (not (c-is-empty .result)) (eqb (a .taken + a .from) 0) _ (c-if1 .left) .1),
       c-below .ensures ∙ ap₂ keptBelow (c-row .ensures ∙ first-in (now (a .words)) false) (c-start .pre .0),
-      skipped-none (automaton (now (a .words))) (now (a .block)) (a .taken) (a .from) emptySet (c-start .pre .1),
+      skipped-none (automaton (now (a .words))) (now (a .block)) (a .taken) (a .from) emptySet (a .end) (c-start .pre .1),
     )
 
 shared-slice-read-takers : tie.Need-shared-slice-read-takers Inv-loop μ-loop
 shared-slice-read-takers c =
     let c-loop-test = c .before .loop-test in
-    c-loop-test .taken
+    let c-start = c .before .before .before .before .before .before .before .before .before in
+    lt-of-lt-of-le (c-loop-test .taken) (c-start .pre .2)
 
 takers-requires : tie.Need-takers-requires Inv-loop μ-loop
 takers-requires c κs = tt
@@ -92,21 +94,21 @@ returns-2 c =
     let c-loop = c .before .before .before .before .before .loop in
     let a = c-start .args in
     let none = not-false (c-is-empty .result) (neither (not (c-is-empty .result)) (eqb (a .taken + a .from) 0) _ (c-if1 .left) .0) in
-    skipped-live (automaton (now (a .words))) (now (a .block)) (a .taken) (a .from) (c-loop .at) (a .live) (empty-is (a .live) (words-good (a .live) _ (c-start .good .0)) (sym (c-is-empty .ensures) ∙ none)) (c-loop .inv .2)
+    skipped-live (automaton (now (a .words))) (now (a .block)) (a .taken) (a .from) (a .end) (c-loop .at) (a .live) (empty-is (a .live) (words-good (a .live) _ (c-start .good .0)) (sym (c-is-empty .ensures) ∙ none)) (c-loop .inv .2)
 
 add-at : tie.Need-add-at Inv-loop μ-loop
 add-at c =
     let c-start = c .before .before .before .before .before .before .before .before .before .before .before .before in
     let c-loop = c .before .before .before .before .before .loop in
     let c-loop-test = c .before .before .before .before .loop-test in
-    after-fits (c-start .args .taken) (c-loop .at) (length (now (c-start .args .block))) (c-start .pre .2) (c-loop-test .taken)
+    after-fits (c-start .args .taken) (c-loop .at) (length (now (c-start .args .block))) (c-start .pre .3) (lt-of-lt-of-le (c-loop-test .taken) (c-start .pre .2))
 
 loop-less : tie.Need-loop-less Inv-loop μ-loop
 loop-less c =
     let c-start = c .before .before .before .before .before .before .before .before .before .before .before .before in
     let c-loop = c .before .before .before .before .before .loop in
     let c-loop-test = c .before .before .before .before .loop-test in
-    less-left (length (now (c-start .args .block))) (c-loop .at) (c-loop .at) (le-refl (c-loop .at)) (c-loop-test .taken)
+    less-left (c-start .args .end) (c-loop .at) (c-loop .at) (le-refl (c-loop .at)) (c-loop-test .taken)
 
 loop-again : tie.Need-loop-again Inv-loop μ-loop
 loop-again c =
@@ -127,7 +129,7 @@ loop-again c =
     let apart = sym (c-meets .ensures ∙ ap₂ (λ (x y : List ℕ). any maxPositions (λ q. has x q && has y q)) (l .inv .1) row) ∙ c-if2 .left in (
       l .inv .0,
       l .inv .1,
-      skipped-more (automaton t) (now (a .block)) (a .taken) (a .from) (l .at) (l .inv .2) (c-loop-test .taken)
+      skipped-more (automaton t) (now (a .block)) (a .taken) (a .from) (a .end) (l .at) (l .inv .2) (c-loop-test .taken)
           (next-quiet (automaton t) false (automaton t .positions) (a .taken + l .at) byte (positive-more (a .taken) (a .from) (l .at) (l .inv .0) (l .inv .2 .rises)) apart),
     )
 
@@ -139,7 +141,7 @@ returns-3 c =
     let c-loop = c .before .loop in
     let a = c-start .args in
     let none = not-false (c-is-empty .result) (neither (not (c-is-empty .result)) (eqb (a .taken + a .from) 0) _ (c-if1 .left) .0) in
-    skipped-live (automaton (now (a .words))) (now (a .block)) (a .taken) (a .from) (c-loop .at) (a .live) (empty-is (a .live) (words-good (a .live) _ (c-start .good .0)) (sym (c-is-empty .ensures) ∙ none)) (c-loop .inv .2)
+    skipped-live (automaton (now (a .words))) (now (a .block)) (a .taken) (a .from) (a .end) (c-loop .at) (a .live) (empty-is (a .live) (words-good (a .live) _ (c-start .good .0)) (sym (c-is-empty .ensures) ∙ none)) (c-loop .inv .2)
 
 pub ahead-spec : {M : Type 1} → statement M
 ahead-spec =

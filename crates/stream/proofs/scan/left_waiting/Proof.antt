@@ -32,29 +32,29 @@ step-requires c κs = tt
 
 returns-2 : tie.Need-returns-2
 returns-2 c =
-    let c-start = c .before .before .before .before .before in
-    let c-if1 = c .before .before .before .if1 in
-    let c-step = c .before .step in
+    let c-start = c .before .before .before .before .before .before in
+    let c-if1 = c .before .before .before .before .if1 in
+    let c-step = c .before .before .step in
     let c-if2 = c .if2 in
     let a = c-start .args in
     let t = now (a .words) in
     let s = stateOf (a .live) 0 (a .taken) in
-    (line-held t (c-start .pre) s (a .byte) (c-if1 .left) (c-step .result) (c-step .ensures), start-pending t (c-start .pre) s (a .byte) (c-if1 .left) (c-if2 .taken))
+    (line-held t (c-start .pre) s (a .byte) (c-if1 .left) (c-step .result .live) (c-step .ensures .0), start-pending t (c-start .pre) s (a .byte) (c-if1 .left) (c-if2 .taken))
 
 line-ending-requires : tie.Need-line-ending-requires
 line-ending-requires c κs = tt
 
 returns-3 : tie.Need-returns-3
 returns-3 c =
-    let c-start = c .before .before .before .before .before .before in
-    let c-if1 = c .before .before .before .before .if1 in
-    let c-step = c .before .before .step in
+    let c-start = c .before .before .before .before .before .before .before in
+    let c-if1 = c .before .before .before .before .before .if1 in
+    let c-step = c .before .before .before .step in
     let c-if2 = c .before .if2 in
     let c-line-ending = c .line-ending in
     let a = c-start .args in
     let t = now (a .words) in
     let s = stateOf (a .live) 0 (a .taken) in
-    (line-held t (c-start .pre) s (a .byte) (c-if1 .left) (c-step .result) (c-step .ensures), line-pending t (c-start .pre) s (a .byte) (c-if1 .left) (c-if2 .left) (c-line-ending .result) (c-line-ending .ensures))
+    (line-held t (c-start .pre) s (a .byte) (c-if1 .left) (c-step .result .live) (c-step .ensures .0), line-pending t (c-start .pre) s (a .byte) (c-if1 .left) (c-if2 .left) (c-line-ending .result) (c-line-ending .ensures))
 
 pub left-waiting-spec : {M : Type 1} → statement M
 left-waiting-spec =

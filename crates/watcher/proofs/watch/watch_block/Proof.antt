@@ -53,7 +53,7 @@ takes c =
     scan-takes _ _ _ _ _ (p .0, p .1) (k .inv .half) (c .before .before .before .before .before .before .before .before .before .before .before .before .before .before .before .before .before .loop-test .taken) _ _ (omega arith, omega arith) _ (c .before .before .before .before .before .before .before .before .before .before .before .before .before .scan .ensures .0)
 
 add-from : tie.Need-add-from Inv-loop μ-loop
-add-from c = omega (arith, takes c .1)
+add-from c = omega (arith, takes c .1, c .before .before .before .before .before .before .before .before .before .before .before .before .before .before .before .before .before .before .before .before .before .before .before .before .pre .1)
 
 loop-less : tie.Need-loop-less Inv-loop μ-loop
 loop-less c = omega (arith, takes c)
