@@ -1,10 +1,11 @@
-// The limits as cases, carried out on the library: full tables, positions, pattern bytes, groups, repeats of repeats. Each addition is a line with its number
-// and place, each stream a line with the reports of its scan and of its closing. The file `stdout` has the answers that the rules give.
+// The limits as cases, carried out on the library: full tables, positions, pattern bytes, groups, repeats of repeats, matched bytes. Each addition is a line with its
+// number and place, each stream a line with the reports of its scan and of its closing. The file `stdout` has the answers that the rules give.
 mod show;
 
 use show::add;
 use show::empty;
 use show::log;
+use show::shown;
 
 // Adds a pattern under the ids from 1 on, so many times.
 fn fill(words: &mut [u64], times: u32, pattern: &[u8]) {
@@ -90,6 +91,38 @@ fn repeats(words: &mut [u64]) {
     log(words, b"aa");
 }
 
+// Matched bytes: from the block, from the tail, from neither; an empty range where both could; a tail longer than the stream before the block; the largest offset.
+fn excerpts() {
+    shown(b"fooxyz", b"barbar", 6, 6, 9);
+    shown(b"fooxyz", b"barbar", 6, 0, 3);
+    shown(b"fooxyz", b"barbar", 6, 3, 9);
+    shown(b"fooxyz", b"barbar", 6, 6, 6);
+    shown(b"fooxyz", b"barbar", 6, 9, 6);
+    shown(b"fooxyz", b"barbar", 6, 6, 13);
+    shown(b"fooxyz", b"barbar", 2, 0, 2);
+    shown(
+        b"foo",
+        b"bar",
+        0xffff_ffff_ffff_ffff,
+        0xffff_ffff_ffff_ffff,
+        0xffff_ffff_ffff_ffff,
+    );
+    shown(
+        b"foo",
+        b"bar",
+        0xffff_ffff_ffff_ffff,
+        0xffff_ffff_ffff_fffc,
+        0xffff_ffff_ffff_ffff,
+    );
+    shown(
+        b"foo",
+        b"bar",
+        0xffff_ffff_ffff_ffff,
+        0xffff_ffff_ffff_fffb,
+        0xffff_ffff_ffff_ffff,
+    );
+}
+
 fn main() {
     let mut words = [0u64; 4096];
     let table: &mut [u64] = &mut words;
@@ -101,4 +134,5 @@ fn main() {
     bytes(table);
     groups(table);
     repeats(table);
+    excerpts();
 }

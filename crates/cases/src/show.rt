@@ -76,3 +76,19 @@ pub fn log(words: &[u64], bytes: &[u8]) {
     reports(&ids, &offsets, closed.reports);
     say(b"\n");
 }
+
+// What is shown of a match, with the number: the bytes that lie whole in the tail or in the block, which begins at `offset`.
+pub fn shown<'a>(tail: &'a [u8], block: &'a [u8], offset: u64, start: u64, end: u64) {
+    say(b"bytes ");
+    io::print_decimal(STDOUT_FILENO, start);
+    say(b" to ");
+    io::print_decimal(STDOUT_FILENO, end);
+    say(b" of a block at ");
+    io::print_decimal(STDOUT_FILENO, offset);
+    say(b": ");
+    let number = matched::matched_number(tail, block, offset, start, end);
+    io::print_decimal(STDOUT_FILENO, number as u64);
+    say(b" ");
+    say(matched::matched_bytes(tail, block, offset, start, end));
+    say(b"\n");
+}

@@ -25,7 +25,7 @@ use Rattle.card.proofs.Theorems.{read-kept}
 use Rattle.rules.specs.Add.{addAnswer, withRule, addWords}
 use Rattle.rules.specs.Encoded.{addAll}
 use Rattle.regex.specs.Ordered.{Pair}
-use Rattle.demands.specs.Chain.{this, those, Other, emptying, adding, opening, scanning, closing, writing-block, reading-block, numberOf, tableAfter, Step, addition, another, tableOf, additionsOf, OthersRefusedBefore, Item, scan, close, other, reportsIn, bytesOf, reportsOf, OthersRefused, Closes, Bytes, Blocks}
+use Rattle.demands.specs.Chain.{this, those, Other, emptying, adding, opening, scanning, closing, writing-block, reading-block, showing, numberOf, tableAfter, Step, addition, another, tableOf, additionsOf, OthersRefusedBefore, Item, scan, close, other, reportsIn, bytesOf, reportsOf, OthersRefused, Closes, Bytes, Blocks}
 use Rattle.stream.proofs.Blocks.{fits-le, ends-count, closed-after, two-parts}
 use Rattle.stream.proofs.Accepting.{accepted, close-number}
 use Rattle.stream.proofs.Results.{accepted-scan, refused-scan, close-number-is, accepted-close, refused-close}
@@ -49,6 +49,7 @@ kept t (closing l s ids offsets) h = refl
 kept t (writing-block l i b) h = refl
 kept t (reading-block this i b) h = read-kept t i b (λ e. h (ap (λ (a : Stored). a .number) e))
 kept t (reading-block (those u) i b) h = refl
+kept t (showing tail block offset start end) h = refl
 
 -- before the opening: the table is the one of the additions alone
 pub additions-alone : (l : List Step) (t : List ℕ) → OthersRefusedBefore t l → tableOf t l ≡ addAll t (additionsOf l)

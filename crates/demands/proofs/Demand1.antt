@@ -1,9 +1,9 @@
 -- Demand 1: the theorem of each public function, and what the definitions that they cite give where the number is not 0. Assumes nothing.
 use mathlib.Core.Path.{_≡_, refl, ap}
 use mathlib.Core.Bool.{Bool, true, false, cond}
-use mathlib.Core.List.{List}
-use Prim.Native.Nat.{ℕ}
-use lib.ListN.{length}
+use mathlib.Core.List.{List, []}
+use Prim.Native.Nat.{ℕ, _+_, _-_}
+use lib.ListN.{length, take, drop}
 use borrow.Author.Tests.{ne-eqb}
 use Rattle.table.specs.Layout.{rulesOf, positionsOf}
 use Rattle.table.specs.Table.{isTable}
@@ -14,6 +14,9 @@ use Rattle.rules.proofs.add.Met.{met as add-met}
 use Rattle.card.specs.declared.Stored.{Stored}
 use Rattle.card.proofs.Theorems.{write-kept}
 use Rattle.card.proofs.write_block.Met.{met as card-write-met}
+use Rattle.matched.specs.Matched.{inBlock, inTail, matchedBytes, matchedNumber}
+use Rattle.matched.proofs.matched_bytes.Met.{met as matched-bytes-met}
+use Rattle.matched.proofs.matched_number.Met.{met as matched-number-met}
 use Rattle.card.proofs.read_block.Met.{met as card-read-met}
 use Rattle.stream.specs.declared.Stream.{Stream}
 use Rattle.stream.specs.declared.Opened.{Opened}
@@ -40,6 +43,8 @@ answers = record {
   busy = busy-met;
   writing-block = card-write-met;
   reading-block = card-read-met;
+  showing = matched-bytes-met;
+  showing-number = matched-number-met;
 }
 
 open-refused : (t : List ℕ) → ¬ (opened t .number ≡ 0) → opened t .stream ≡ fresh 0 0 true
@@ -86,6 +91,16 @@ module _ (t : List ℕ) (s : Stream) (ids offsets : List ℕ) (bad : ¬ (closed 
         offsets-kept = rw no;
       }
 
+none-shown : (tail block : List ℕ) (offset start end : ℕ) → ¬ (matchedNumber tail block offset start end ≡ 0) → matchedBytes tail block offset start end ≡ []
+unfolding matchedBytes matchedNumber
+none-shown tail block offset start end bad = go (inBlock block offset start end) (inTail tail offset start end) bad
+  where
+    go : (x y : Bool) → ¬ (_≡_ {A = ℕ} (cond x 0 (cond y 0 25)) 0)
+        → cond x (take (end - start) (drop (start - offset) block)) (cond y (take (end - start) (drop (start + length tail - offset) tail)) []) ≡ []
+    go true y h = absurd (h refl)
+    go false true h = absurd (h refl)
+    go false false h = refl
+
 refusals : Refusals
 unfolding numberOf tableAfter
 refusals = record {
@@ -97,6 +112,7 @@ refusals = record {
   closing = close-refused;
   writing-block = λ t i b bad. write-kept t i b (λ e. bad (ap (λ (a : Stored). a .number) e));
   reading-block = λ t i b bad. kept t (reading-block this i b) bad;
+  showing = none-shown;
 }
 
 pub demand1 : Demand1

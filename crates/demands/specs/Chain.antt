@@ -9,6 +9,7 @@ use Rattle.table.specs.Table.{emptyNumber, emptied}
 use Rattle.stream.specs.declared.Stream.{Stream}
 use Rattle.stream.specs.Calls.{opened, space, scanNumber, closeNumber, scanned, scannedIds, scannedOffsets, closed, closedIds, closedOffsets}
 use Rattle.card.specs.Calls.{writeAnswer, readAnswer, readWords}
+use Rattle.matched.specs.Matched.{matchedNumber}
 use Rattle.rules.specs.Add.{addAnswer, addWords}
 use Rattle.rules.specs.Additions.{Addition}
 use Rattle.regex.specs.Ordered.{Pair}
@@ -31,6 +32,7 @@ pub data Other : Type 0 where
   closing : Lent → Stream → (ids offsets : List ℕ) → Other
   writing-block : Lent → (number : ℕ) (block : List ℕ) → Other
   reading-block : Lent → (number : ℕ) (block : List ℕ) → Other
+  showing : (tail block : List ℕ) (offset start end : ℕ) → Other
 
 -- its number, where t is the table in hand
 unfoldable pub numberOf : List ℕ → Other → ℕ
@@ -41,6 +43,7 @@ numberOf t (scanning l s allowance block ids offsets) = scanNumber (lent t l) s 
 numberOf t (closing l s ids offsets) = closeNumber (lent t l) s (space ids offsets)
 numberOf t (writing-block l i b) = writeAnswer (lent t l) i b .number
 numberOf t (reading-block l i b) = readAnswer (lent t l) i b .number
+numberOf t (showing tail block offset start end) = matchedNumber tail block offset start end
 
 -- the table in hand afterwards: emptying, adding and reading a block write to what they are lent
 unfoldable pub tableAfter : List ℕ → Other → List ℕ
@@ -54,6 +57,7 @@ tableAfter t (closing l s ids offsets) = t
 tableAfter t (writing-block l i b) = t
 tableAfter t (reading-block this i b) = readWords t i b
 tableAfter t (reading-block (those u) i b) = t
+tableAfter t (showing tail block offset start end) = t
 
 -- ---- before the opening
 
@@ -171,7 +175,7 @@ offering t s log (turn ∷ more) ids offsets =
     scan (turn .0) log (turn .1) (turn .2)
     ∷ offering t (scanned t s (turn .0) log (turn .1) (turn .2) .stream) (drop (scanned t s (turn .0) log (turn .1) (turn .2) .taken) log) more ids offsets
 
--- "demand 3's last sentence needs 257 units": in every turn any byte can be paid for, and there is room for n reports
+-- of demand 3 "its last sentence needs 257 units": in every turn any byte can be paid for, and there is room for n reports
 unfoldable pub Roomy : ℕ → List Turn → Type 0
 Roomy n [] = Unit {0}
 Roomy n (turn ∷ more) = (257 ≤ turn .0) × (n ≤ space (turn .1) (turn .2)) × Roomy n more

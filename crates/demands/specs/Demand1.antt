@@ -5,7 +5,7 @@
 -- `demand1` of proofs/Demand1.antt.
 use mathlib.Core.Path.{_≡_}
 use mathlib.Core.Bool.{true}
-use mathlib.Core.List.{List}
+use mathlib.Core.List.{List, []}
 use Prim.Native.Nat.{ℕ}
 use Rattle.table.specs.Table.{emptyNumber, emptied}
 use Rattle.table.proofs.empty.Statement.{statement as empty}
@@ -15,6 +15,9 @@ use Rattle.rules.proofs.add.Statement.{statement as add}
 use Rattle.card.specs.Calls.{writeAnswer, writtenBlock, readAnswer, readWords}
 use Rattle.card.proofs.write_block.Statement.{statement as card-write}
 use Rattle.card.proofs.read_block.Statement.{statement as card-read}
+use Rattle.matched.specs.Matched.{matchedBytes, matchedNumber}
+use Rattle.matched.proofs.matched_bytes.Statement.{statement as matched-bytes}
+use Rattle.matched.proofs.matched_number.Statement.{statement as matched-number}
 use Rattle.stream.specs.declared.Stream.{Stream}
 use Rattle.stream.specs.Calls.{fresh, opened, scanned, scannedIds, scannedOffsets, closed, closedIds, closedOffsets}
 use Rattle.stream.proofs.Stream.«open».Statement.{statement as stream-open}
@@ -43,6 +46,9 @@ pub record Answers : Type 2 where
   pub writing-block : {M : Type 1} → card-write M
   -- reading one: number and place are `readAnswer`, the words are `readWords`
   pub reading-block : {M : Type 1} → card-read M
+  -- showing the matched bytes (crates/matched/src/lib.rt): `matchedBytes`; and the number of the same question: `matchedNumber`
+  pub showing : {M : Type 1} → matched-bytes M
+  pub showing-number : {M : Type 1} → matched-number M
 
 -- "Other refusals return the number, no bytes taken, no reports, the state unchanged"; what was used is "0 when refused", and both lists keep every word
 pub record ScanRefused (t : List ℕ) (s : Stream) (allowance : ℕ) (block ids offsets : List ℕ) : Type 0 where
@@ -72,6 +78,8 @@ pub record Refusals : Type 0 where
   -- "A refused call leaves the lent table as it found it", and the writer's the lent block
   pub writing-block : (t : List ℕ) (i : ℕ) (b : List ℕ) → ¬ (writeAnswer t i b .number ≡ 0) → writtenBlock t i b ≡ b
   pub reading-block : (t : List ℕ) (i : ℕ) (b : List ℕ) → ¬ (readAnswer t i b .number ≡ 0) → readWords t i b ≡ t
+  -- "On a refusal the first none of the block are shown"
+  pub showing : (tail block : List ℕ) (offset start end : ℕ) → ¬ (matchedNumber tail block offset start end ≡ 0) → matchedBytes tail block offset start end ≡ []
 
 pub record Demand1 : Type 2 where
   pub answers : Answers
