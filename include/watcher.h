@@ -32,14 +32,18 @@
 extern "C" {
 #endif
 
-/* The words of a table, and of a stream's state. */
-#define WATCHER_TABLE_WORDS 4096
-#define WATCHER_STATE_WORDS 14
+/*
+ * The words of a table, and of a stream's state. Word 10 of a state is what the
+ * last byte is to the assertions after it: 1 a word byte, 2 a newline, every
+ * other number neither.
+ */
+#define WATCHER_TABLE_WORDS 16384
+#define WATCHER_STATE_WORDS 15
 
 /*
- * A table holds at most so many rules. A closing may report each of them at two
- * offsets, so each report list needs twice as many slots as the table has rules,
- * and WATCHER_REPORT_SLOTS are enough for any table.
+ * A table holds at most so many rules. A byte and a closing may each report all
+ * of them at two offsets, so each report list needs twice as many slots as the
+ * table has rules, and WATCHER_REPORT_SLOTS are enough for any table.
  */
 #define WATCHER_MAX_RULES 64
 #define WATCHER_REPORT_SLOTS (2 * WATCHER_MAX_RULES)
@@ -63,14 +67,15 @@ extern "C" {
 /* Flags of a rule, with Hyperscan's values; combine them with |. */
 #define WATCHER_FLAG_CASELESS 1u
 #define WATCHER_FLAG_DOTALL 2u
+#define WATCHER_FLAG_MULTILINE 4u
 #define WATCHER_FLAG_SINGLEMATCH 8u
 
 /* The number that a call answers: 0, or why it was refused. */
 typedef uint32_t watcher_error_t;
 
 #define WATCHER_SUCCESS 0u          /* accepted */
-#define WATCHER_NO_TABLE 1u         /* fewer than 4096 words, or the words are no table */
-#define WATCHER_BAD_FLAG 2u         /* a flag other than the three above */
+#define WATCHER_NO_TABLE 1u         /* fewer than 16384 words, or the words are no table */
+#define WATCHER_BAD_FLAG 2u         /* a flag other than the four above */
 #define WATCHER_ID_TAKEN 3u         /* a rule of the table has this id */
 #define WATCHER_TABLE_FULL 4u       /* 64 rules are there */
 #define WATCHER_LONG_PATTERN 5u     /* a pattern of more than 1024 bytes */
@@ -93,7 +98,7 @@ typedef uint32_t watcher_error_t;
 #define WATCHER_RAW_BYTE 23u        /* a raw byte below 32, or 127, in the pattern */
 #define WATCHER_NO_BLOCK 27u        /* not the block of a table that was asked for */
 /* Numbers from 100 on are this interface's own. */
-#define WATCHER_SHORT_STATE 100u    /* fewer than 14 words for the state */
+#define WATCHER_SHORT_STATE 100u    /* fewer than 15 words for the state */
 
 /* Makes the words an empty table, whatever they held. Refuses only too few words. */
 watcher_error_t watcher_empty(uint64_t *table, size_t table_words);
@@ -121,9 +126,11 @@ watcher_error_t watcher_open(const uint64_t *table, size_t table_words,
 
 /*
  * Scans a block. Reports are written from the front of both lists, ids[i] with
- * offsets[i], by rising offset and for one offset by rising id; slots past
- * *reports keep what they held. The scan stops before the first byte that the
- * units left of the allowance do not pay for, or whose reports do not all fit, so
+ * offsets[i], offsets never falling; slots past *reports keep what they held. A byte
+ * brings first the matches that end before it and depended on it, as \b and \B
+ * and, with WATCHER_FLAG_MULTILINE, $ may, then those that end with it, each by
+ * rising id. The scan stops before the first byte that the units left of the
+ * allowance do not pay for, or whose reports, of both kinds, do not all fit, so
  * *taken may be less than the length: take the reports out and call again with
  * the rest of the block. *used is what the bytes taken cost, 0 for a refusal. An
  * allowance of 0 takes nothing and is no refusal. Each accepted call with a byte
@@ -142,8 +149,9 @@ watcher_error_t watcher_scan(const uint64_t *table, size_t table_words,
  * Closes the stream, and reports the matches that needed its end: if its last
  * byte is a newline, first those that end before that byte, by rising id, then
  * those that end with the stream, by rising id. `$` and \Z hold at both of these
- * offsets, \z at the end alone. A rule with WATCHER_FLAG_SINGLEMATCH reports once
- * in a stream, what comes first; that need not be its smallest offset.
+ * offsets, \z at the end alone; \b and \B take both ends of a stream for no word.
+ * A rule with WATCHER_FLAG_SINGLEMATCH reports once in a stream, what comes
+ * first; that need not be its smallest offset.
  */
 watcher_error_t watcher_close(const uint64_t *table, size_t table_words,
                               uint64_t *state, size_t state_words,

@@ -3,6 +3,7 @@
 
 use reference::rule::check;
 use words::calls::Calls;
+use words::gaps::*;
 use words::interpreter::Interpreter;
 use words::layout::*;
 
@@ -10,20 +11,16 @@ use crate::rules::Rule;
 
 struct Position {
     takes: [bool; 256],
-    follow: Vec<usize>,
-    line_follow: Vec<usize>,
-    /// The place of its rule, if a match can end here.
-    last: Option<usize>,
-    last_at_end: Option<usize>,
-    line_last: Option<usize>,
+    /// By the gap before the next byte.
+    follow: [Vec<usize>; FOLLOW_GAPS],
+    /// The place of its rule, if a match can end here, by the gap behind it.
+    last: [Option<usize>; LAST_GAPS],
 }
 
 pub struct Matcher {
     positions: Vec<Position>,
-    first: Vec<usize>,
-    first_at_start: Vec<usize>,
-    line_first: Vec<usize>,
-    line_first_at_start: Vec<usize>,
+    /// By the gap before the first byte.
+    first: [Vec<usize>; FIRST_GAPS],
     ids: Vec<u32>,
     single: Vec<bool>,
 }
@@ -35,7 +32,8 @@ pub struct Stream {
     seen: Vec<bool>,
     found: Vec<usize>,
     reported: Vec<bool>,
-    last_byte: u8,
+    /// The side of the last byte, and of the one before it.
+    sides: [Side; 2],
     taken: u64,
 }
 
@@ -55,21 +53,15 @@ impl Matcher {
         let words = table(rules);
         let count = words[RULES] as usize;
         let members = |at: usize| (0..MAX_POSITIONS).filter(|&p| has(&words, at, p)).collect();
-        let rule_at = |set: usize, p: usize| (0..count).find(|&a| has(&words, record(a) + set, p));
+        let rule_at = |gap: usize, p: usize| (0..count).find(|&a| has(&words, last(a, gap), p));
         let position = |p: usize| Position {
             takes: std::array::from_fn(|byte| has(&words, takers(byte as u8), p)),
-            follow: members(follow(p)),
-            line_follow: members(line_follow(p)),
-            last: rule_at(LAST, p),
-            last_at_end: rule_at(LAST_AT_END, p),
-            line_last: rule_at(LINE_LAST, p),
+            follow: std::array::from_fn(|gap| members(follow(gap, p))),
+            last: std::array::from_fn(|gap| rule_at(gap, p)),
         };
         Matcher {
             positions: (0..words[POSITIONS] as usize).map(position).collect(),
-            first: members(FIRST),
-            first_at_start: members(FIRST_AT_START),
-            line_first: members(LINE_FIRST),
-            line_first_at_start: members(LINE_FIRST_AT_START),
+            first: std::array::from_fn(|gap| members(first(gap))),
             ids: (0..count).map(|a| words[record(a) + ID] as u32).collect(),
             single: (0..count).map(|a| words[record(a) + FLAGS] & SINGLE_MATCH != 0).collect(),
         }
@@ -82,66 +74,78 @@ impl Matcher {
             seen: vec![false; self.positions.len()],
             found: Vec::new(),
             reported: vec![false; self.ids.len()],
-            last_byte: 0,
+            sides: [Side::Other; 2],
             taken: 0,
         }
     }
 
     pub fn scan(&self, stream: &mut Stream, block: &[u8], mut report: impl FnMut(u32, u64)) {
         for &byte in block {
-            let first = if stream.taken == 0 { &self.first_at_start } else { &self.first };
+            let side = Side::of(byte);
+            let gap = between(stream.sides[0], side);
+            self.late(stream, gap, &mut report);
+            let start = if stream.taken == 0 { at_start(side) } else { gap };
             let next = &mut stream.before;
             next.clear();
-            for &p in first {
+            for &p in &self.first[start] {
                 enter(&self.positions, &mut stream.seen, next, p, byte);
             }
             for &from in &stream.live {
-                for &p in &self.positions[from].follow {
+                for &p in &self.positions[from].follow[gap] {
                     enter(&self.positions, &mut stream.seen, next, p, byte);
                 }
             }
             std::mem::swap(&mut stream.live, &mut stream.before);
+            stream.sides = [side, stream.sides[0]];
             stream.taken += 1;
             stream.found.clear();
             for &p in &stream.live {
                 stream.seen[p] = false;
-                stream.found.extend(self.positions[p].last);
+                stream.found.extend(self.positions[p].last[UNSETTLED]);
             }
             self.give(stream, stream.taken, &mut report);
         }
-        if let Some(&byte) = block.last() {
-            stream.last_byte = byte;
+    }
+
+    /// The pairs at the last byte that the next one settles.
+    fn late(&self, stream: &mut Stream, gap: usize, report: &mut impl FnMut(u32, u64)) {
+        let waits = |p: &usize| {
+            let last = &self.positions[*p].last;
+            last[gap].is_some() && last[UNSETTLED].is_none()
+        };
+        if stream.live.iter().any(waits) {
+            stream.found = self.newly(&stream.live, gap, &stream.live, UNSETTLED);
+            self.give(stream, stream.taken, report);
         }
     }
 
     /// The pairs before a last newline, then those at the end.
     pub fn close(&self, stream: &mut Stream, mut report: impl FnMut(u32, u64)) {
+        let [side, before] = stream.sides;
         let mut ending = stream.live.clone();
-        if stream.taken > 0 && stream.last_byte == b'\n' {
-            stream.found = self.waiting(&stream.before, &stream.before, |p| p.line_last);
+        if stream.taken > 0 && side == Side::Newline {
+            let given = between(before, Side::Newline);
+            stream.found = self.newly(&stream.before, before_last(before), &stream.before, given);
             self.give(stream, stream.taken - 1, &mut report);
             ending.extend(self.over_the_line(stream));
         }
-        stream.found = self.waiting(&ending, &stream.live, |p| p.last_at_end);
+        stream.found = self.newly(&ending, at_end(side), &stream.live, UNSETTLED);
         self.give(stream, stream.taken, &mut report);
     }
 
-    /// The rules that end with one of these positions, but for those that a live one ended before.
-    fn waiting(
-        &self,
-        ending: &[usize],
-        live: &[usize],
-        last: impl Fn(&Position) -> Option<usize>,
-    ) -> Vec<usize> {
-        let given: Vec<usize> = live.iter().filter_map(|&p| self.positions[p].last).collect();
-        let found = ending.iter().filter_map(|&p| last(&self.positions[p]));
+    /// The rules that end at a gap with one of these positions, but for those that a live one ended
+    /// where less was known.
+    fn newly(&self, ending: &[usize], gap: usize, live: &[usize], less: usize) -> Vec<usize> {
+        let given: Vec<usize> = live.iter().filter_map(|&p| self.positions[p].last[less]).collect();
+        let found = ending.iter().filter_map(|&p| self.positions[p].last[gap]);
         found.filter(|place| !given.contains(place)).collect()
     }
 
     /// The positions that a last newline leads to if the last line ends before it.
     fn over_the_line(&self, stream: &Stream) -> Vec<usize> {
-        let first = if stream.taken == 1 { &self.line_first_at_start } else { &self.line_first };
-        let follow = stream.before.iter().flat_map(|&p| &self.positions[p].line_follow);
+        let gap = before_last(stream.sides[1]);
+        let first = &self.first[if stream.taken == 1 { START_OF_LAST } else { gap }];
+        let follow = stream.before.iter().flat_map(|&p| &self.positions[p].follow[gap]);
         let takes = |p: &&usize| self.positions[**p].takes[b'\n' as usize];
         first.iter().chain(follow).filter(takes).copied().collect()
     }
@@ -163,8 +167,8 @@ impl Matcher {
 
     /// The bytes of its lists, for the table of memory.
     pub fn size(&self) -> usize {
-        let follow = |p: &Position| p.follow.len() + p.line_follow.len();
-        let first = self.first.len() + self.line_first.len();
+        let follow = |p: &Position| p.follow.iter().map(Vec::len).sum::<usize>();
+        let first: usize = self.first.iter().map(Vec::len).sum();
         std::mem::size_of::<Position>() * self.positions.len()
             + std::mem::size_of::<usize>()
                 * (self.positions.iter().map(follow).sum::<usize>() + first)

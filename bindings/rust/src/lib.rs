@@ -11,7 +11,7 @@
 //! # Ok::<(), watcher::Error>(())
 //! ```
 //!
-//! A table is 32 KiB and a stream 112 bytes and a reference; nothing here uses the heap. A stream
+//! A table is 128 KiB and a stream 120 bytes and a reference; nothing here uses the heap. A stream
 //! borrows its table, so that no rule can be added while a stream is open on it.
 //!
 //! `raw` has the library's functions over slices, for words of any content; `sys` declares them.
@@ -23,12 +23,13 @@ pub mod sys;
 pub use error::Error;
 
 /// The words of a table.
-pub const TABLE_WORDS: usize = 4_096;
+pub const TABLE_WORDS: usize = 16_384;
 /// The words of a stream's state.
-pub const STATE_WORDS: usize = 14;
+pub const STATE_WORDS: usize = 15;
 /// A table has at most so many rules.
 pub const MAX_RULES: usize = 64;
-/// So many report slots in each list are enough for any table: a closing may report each rule twice.
+/// So many report slots in each list are enough for any table: a byte may report each rule twice, and so
+/// may a closing.
 pub const REPORT_SLOTS: usize = 2 * MAX_RULES;
 
 /// The allowance of a scan whose work has no limit.
@@ -49,6 +50,7 @@ impl Flags {
     pub const NONE: Flags = Flags(0);
     pub const CASELESS: Flags = Flags(1);
     pub const DOT_ALL: Flags = Flags(2);
+    pub const MULTILINE: Flags = Flags(4);
     pub const SINGLE_MATCH: Flags = Flags(8);
 }
 

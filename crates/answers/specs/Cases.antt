@@ -1,5 +1,5 @@
--- Patterns with the answers they must have, and with bytes that their items must take or leave. The theorems are `none-wrong` and `none-strange` of
--- proofs/Cases.antt. Assumes nothing: these are definitions.
+-- Patterns with the answers they must have, with bytes that their items must take or leave, and with the assertions that they must have. The theorems are
+-- `none-wrong`, `none-strange` and `none-misread` of proofs/Cases.antt. Assumes nothing: these are definitions.
 use mathlib.Core.Bool.{Bool, true, false, cond, not, _&&_}
 use mathlib.Core.List.{List, [], _∷_, _++_}
 use Prim.Native.Nat.{ℕ}
@@ -9,14 +9,14 @@ use lib.ListN.{length, getD, replicate}
 use Rattle.sets.specs.Set.{has}
 use Rattle.classes.specs.Name.{bytes}
 use Rattle.regex.specs.Tree.{empty, item, assertion, then, or, repeat}
-use Rattle.regex.specs.Rule.{ByteSet}
-use Rattle.nodes.specs.Nodes.{Syntax}
+use Rattle.regex.specs.Rule.{Assertion, at-start, at-last-line, at-end, line-start, line-end, word-edge, no-word-edge, ByteSet}
+use Rattle.nodes.specs.Nodes.{Syntax, codeOf}
 use Rattle.pattern.specs.Walk.{Read, tree, refused}
 use Rattle.pattern.specs.Read.{optionsOf, readOf}
 
 -- ---- answers
 
--- a pattern under flags, 1 caseless and 2 dot matches all, with the number and place of its refusal, or 0 and 0 where it is accepted
+-- a pattern under flags, 1 caseless, 2 dot matches all and 4 line mode, with the number and place of its refusal, or 0 and 0 where it is accepted
 pub record Case : Type 0 where
   pub flags : ℕ
   pub pattern : List ℕ
@@ -80,6 +80,43 @@ cases =
     ∷ long "[" 1022 "]" 0 0
     ∷ long "[" 1023 "]" 5 0
     ∷ long "[" 999 "z-a]" 9 1000
+    -- "Add flag 4 and option `m`": settings and groups, and what is none
+    ∷ row 0 "(?m)a" 0 0
+    ∷ row 0 "(?-m)a" 0 0
+    ∷ row 0 "(?mm)a" 0 0
+    ∷ row 0 "(?m-m)a" 0 0
+    ∷ row 0 "(?mi-s)a" 0 0
+    ∷ row 0 "(?m:^a$)" 0 0
+    ∷ row 0 "(?im-s)" 15 7
+    ∷ row 0 "(?m)*a" 10 4
+    ∷ row 0 "(?m" 14 0
+    ∷ row 0 "(?m-" 14 0
+    ∷ row 0 "(?m--s)a" 14 0
+    ∷ row 0 "(?mx)a" 14 0
+    ∷ row 0 "(?M)a" 14 0
+    ∷ row 0 "(?m:" 12 4
+    ∷ row 4 "^a$" 0 0
+    ∷ row 4 "^$" 15 2
+    ∷ row 4 "a$*" 10 2
+    ∷ row 4 "(?-m)^a" 0 0
+    -- "Add `\b` and `\B`": assertions outside a class; "Inside, `\b` is 8", and `\B` stays 14
+    ∷ row 0 "a\\B" 0 0
+    ∷ row 0 "\\ba" 0 0
+    ∷ row 0 "a(?:\\b|\\B)" 0 0
+    ∷ row 0 "ba\\b|a\\B" 0 0
+    ∷ row 0 "(\\b)*a" 0 0
+    ∷ row 0 "\\b{,}" 0 0
+    ∷ row 0 "\\b" 15 2
+    ∷ row 0 "\\B" 15 2
+    ∷ row 0 "a|\\b" 15 4
+    ∷ row 0 "\\b*" 10 2
+    ∷ row 0 "a\\b?" 10 3
+    ∷ row 0 "a\\B{2}" 10 3
+    ∷ row 0 "a\\b(?#x)+" 10 8
+    ∷ row 0 "[\\b-a]" 0 0
+    ∷ row 0 "[a-\\b]" 9 1
+    ∷ row 0 "[\\B]" 14 1
+    ∷ row 0 "[a-\\B]" 14 1
     -- the corners of escapes, classes, quantifiers, groups and options
     ∷ row 0 "\\" 6 0
     ∷ row 0 "a\\" 6 1
@@ -191,7 +228,7 @@ cases =
     ∷ row 0 "(((((((((((((((((*a" 14 16
     ∷ row 0 "(((((((((((((((((" 13 16
     ∷ row 0 "(((((((((((((((((?i)(" 13 20
-    ∷ row 0 "a\\b" 14 1
+    ∷ row 0 "a\\b" 0 0
     ∷ row 0 "\\Z" 15 2
     ∷ row 0 "\\G" 14 0
     ∷ row 0 "\\E" 15 2
@@ -201,8 +238,8 @@ cases =
     ∷ row 0 "[\\1]" 14 1
     ∷ row 0 "(?" 14 0
     ∷ row 0 "(?-)" 14 0
-    ∷ row 0 "(?m)" 14 0
-    ∷ row 0 "(?im)" 14 0
+    ∷ row 0 "(?m)" 15 4
+    ∷ row 0 "(?im)" 15 5
     ∷ row 0 "(?#a)" 15 5
     ∷ row 0 "(?P<n>a)" 14 0
     ∷ row 0 "a(*" 14 1
@@ -913,6 +950,10 @@ takings =
     ∷ takes 0 "." 0 255
     ∷ takes 2 "." 0 10
     ∷ leaves 2 "\\N" 0 10
+    ∷ leaves 4 "." 0 10
+    ∷ leaves 0 "(?m)." 0 10
+    ∷ takes 0 "(?sm)." 0 10
+    ∷ takes 0 "(?s-m)." 0 10
     -- "Capitals are complements."
     ∷ takes 0 "\\d" 0 57
     ∷ leaves 0 "\\d" 0 58
@@ -1088,4 +1129,65 @@ takings =
     ∷ takes 0 "{ , }" 1 32
     ∷ takes 0 "a{2 3}b" 1 123
     ∷ takes 0 "a{2 3}b" 6 98
+    ∷ []
+
+-- ---- assertions
+
+-- the assertions of a tree from left to right, of a repeat those of one copy
+unfoldable pub assertionsOf : Syntax → List Assertion
+assertionsOf empty = []
+assertionsOf (item c) = []
+assertionsOf (assertion a) = a ∷ []
+assertionsOf (then x y) = assertionsOf x ++ assertionsOf y
+assertionsOf (or x y) = assertionsOf x ++ assertionsOf y
+assertionsOf (repeat x n j) = assertionsOf x
+
+-- an accepted pattern under flags, and the assertions that its tree has
+pub record Asserting : Type 0 where
+  pub flags : ℕ
+  pub pattern : List ℕ
+  pub assertions : List Assertion
+
+unfoldable pub same : List Assertion → List Assertion → Bool
+same [] [] = true
+same [] (y ∷ ys) = false
+same (x ∷ xs) [] = false
+same (x ∷ xs) (y ∷ ys) = eqb (codeOf x) (codeOf y) && same xs ys
+
+-- a reading has a tree with these assertions
+unfoldable pub asserts : Read → List Assertion → Bool
+asserts (tree t) l = same (assertionsOf t) l
+asserts (refused n p) l = false
+
+-- those whose pattern does not read so
+unfoldable pub misread : List Asserting → List Asserting
+misread [] = []
+misread (c ∷ l) = cond (asserts (readOf (c .pattern) (optionsOf (c .flags))) (c .assertions)) (misread l) (c ∷ misread l)
+
+abbrev has-all : ℕ → String → List Assertion → Asserting
+has-all flags text l = record { flags = flags; pattern = bytes text; assertions = l }
+
+unfoldable pub assertings : List Asserting
+assertings =
+    has-all 0 "^a$" (at-start ∷ at-last-line ∷ [])
+    ∷ has-all 0 "\\Aa\\Z|a\\z" (at-start ∷ at-last-line ∷ at-end ∷ [])
+    -- `^` and `$` go by "flag 4 and option `m`", by neither of the other two; `\A`, `\Z` and `\z` by none
+    ∷ has-all 4 "^a$" (line-start ∷ line-end ∷ [])
+    ∷ has-all 3 "^a$" (at-start ∷ at-last-line ∷ [])
+    ∷ has-all 0 "(?m)^a$" (line-start ∷ line-end ∷ [])
+    ∷ has-all 0 "(?is)^a$" (at-start ∷ at-last-line ∷ [])
+    ∷ has-all 4 "(?i-s)^a$" (line-start ∷ line-end ∷ [])
+    ∷ has-all 4 "\\Aa\\Z|a\\z" (at-start ∷ at-last-line ∷ at-end ∷ [])
+    -- "applied left to right", to what stands after; "A setting lasts to the end of its group, later branches included."
+    ∷ has-all 0 "(?m-m)^a" (at-start ∷ [])
+    ∷ has-all 4 "^(?-m)^a$" (line-start ∷ at-start ∷ at-last-line ∷ [])
+    ∷ has-all 0 "^(?m)^a" (at-start ∷ line-start ∷ [])
+    ∷ has-all 0 "(?m:^)^a$" (line-start ∷ at-start ∷ at-last-line ∷ [])
+    ∷ has-all 4 "(?-m:^)^a" (at-start ∷ line-start ∷ [])
+    ∷ has-all 0 "(a(?m)^|$)^b" (line-start ∷ line-end ∷ at-start ∷ [])
+    ∷ has-all 0 "(?m)\\Q^$\\E^" (line-start ∷ [])
+    ∷ has-all 4 "(?#^)[$\\b]\\$" []
+    -- "Add `\b` and `\B`"
+    ∷ has-all 0 "\\ba\\B" (word-edge ∷ no-word-edge ∷ [])
+    ∷ has-all 4 "a(?:\\b|\\B)$" (word-edge ∷ no-word-edge ∷ line-end ∷ [])
     ∷ []

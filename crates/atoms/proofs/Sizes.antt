@@ -72,7 +72,9 @@ module _ (n : ℕ) (h : 2 ≤ n) where
   placed-stands : (inside : Bool) (c : ℕ) → Stands n (placedOf inside c)
   unfolding placedOf
   placed-stands true c = letter (eqb c 98) _ (unsound n 13 2 h)
-  placed-stands false c = letter (eqb c 78) _ (letter (eqb c 65) _ (letter (eqb c 90) _ (letter (eqb c 122) _ (unsound n 13 2 h))))
+  placed-stands false c =
+      letter (eqb c 78) _
+      (letter (eqb c 65) _ (letter (eqb c 90) _ (letter (eqb c 122) _ (letter (eqb c 98) _ (letter (eqb c 66) _ (unsound n 13 2 h))))))
 
 -- escapes that take more bytes; v is what is left after two bytes
 module _ (v : List ℕ) where

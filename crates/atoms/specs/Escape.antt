@@ -8,7 +8,7 @@ use Rattle.kinds.specs.Kind.{within, isLower, isAlnum}
 use Rattle.kinds.specs.Case.{otherCase}
 use Rattle.kinds.specs.declared.Kind.the-variants.{Digit, Word, Space, Horizontal, Vertical}
 use Rattle.atoms.specs.declared.Atom.{Atom}
-use Rattle.atoms.specs.declared.Atom.the-variants.{Byte, OfKind, NotOfKind, NotNewline, Start, LastLine, End}
+use Rattle.atoms.specs.declared.Atom.the-variants.{Byte, OfKind, NotOfKind, NotNewline, Start, LastLine, End, WordEdge, NoWordEdge}
 use Rattle.atoms.specs.declared.Part.{Part}
 use Rattle.atoms.specs.declared.Numeral.{Numeral}
 use Rattle.atoms.specs.Number.{digits, valueFrom, numeralOf}
@@ -77,8 +77,9 @@ namedOf c rest =
     rest)))))
 
 -- What differs in a class: "Inside, `\b` is 8", and `\N`, `\A`, `\z` are 14 there. "`\N` is any byte but 10 always." "PCRE also lets `$` hold just
--- before a newline that is the last byte. Mend it, and add `\Z` with the same meaning (14 in a class); `\z` stays." Else 14: "any other letter or digit
--- escape". (`\Q` and `\E` are read as marks of quotes before, and never come here.)
+-- before a newline that is the last byte. Mend it, and add `\Z` with the same meaning (14 in a class); `\z` stays." "Add `\b` and `\B` on `\w`": 14 lets
+-- through "`\b` and, outside a class, `\B`". Else 14: "any other letter or digit escape". (`\Q` and `\E` are read as marks of quotes before, and never come
+-- here.)
 unfoldable pub placedOf : Bool → ℕ → Part
 placedOf true c = cond (eqb c 98) (good 2 (Byte 8)) (bad 14 2)
 placedOf false c =
@@ -86,7 +87,9 @@ placedOf false c =
     (cond (eqb c 65) (good 2 Start)
     (cond (eqb c 90) (good 2 LastLine)
     (cond (eqb c 122) (good 2 End)
-    (bad 14 2))))
+    (cond (eqb c 98) (good 2 WordEdge)
+    (cond (eqb c 66) (good 2 NoWordEdge)
+    (bad 14 2))))))
 
 -- after `\x`: v is the pattern from there on
 unfoldable pub hexOf : List ℕ → Part

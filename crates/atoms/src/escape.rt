@@ -147,6 +147,8 @@ fn placed_escape(inside: bool, c: u8) -> Part
         b'A' => sound(2, Atom::Start),
         b'Z' => sound(2, Atom::LastLine),
         b'z' => sound(2, Atom::End),
+        b'b' => sound(2, Atom::WordEdge),
+        b'B' => sound(2, Atom::NoWordEdge),
         _ => faulty(14, 2),
     }
 }

@@ -40,12 +40,20 @@ pub enum Atom {
     Dot,
     // `\N`
     NotNewline,
-    // `^` and `\A`
+    // `\A`
     Start,
-    // `$` and `\Z`
+    // `\Z`
     LastLine,
     // `\z`
     End,
+    // `^`
+    Caret,
+    // `$`
+    Dollar,
+    // `\b`
+    WordEdge,
+    // `\B`
+    NoWordEdge,
 }
 
 // An escape or a class member: its lowest fault or 0, the bytes it takes, what it stands for. A part with fault 6 has no end, and its size

@@ -21,7 +21,7 @@ use Rattle.regex.proofs.Logic.{false-T}
 use Rattle.regex.proofs.Computed.{follow-T, items-length}
 use Rattle.regex.proofs.Range.{follow-inside}
 use Rattle.nodes.specs.Nodes.{Syntax}
-use Rattle.automaton.specs.Parts.{fourWords, flat, rowsOf, padded, inside, formParts, noParts, partsOf}
+use Rattle.automaton.specs.Parts.{fourWords, flat, rowsOf, padded, worldOf, formParts, noParts, partsOf}
 use Rattle.automaton.specs.declared.Parts.{Parts}
 use Rattle.automaton.specs.declared.fragments.Fragment.{Fragment}
 use Rattle.automaton.specs.Invariants.{Written, fragmentOf, hasAt, Built}
@@ -137,12 +137,12 @@ takes-moved f b t h e =
 
 -- ---- the follow sets
 
-module _ (line : Bool) (f : Written) (b : ℕ) (room : b + positions f ≤ 256) (r out : List ℕ) (long : length r ≡ 1024)
-    (members : (p q : ℕ) → p < 256 → q < 256 → hasAt r p q ≡ follow (inside line) f b p q) (moved : out ≡ padded (drop (b * 4) r))
+module _ (world : ℕ) (f : Written) (b : ℕ) (room : b + positions f ≤ 256) (r out : List ℕ) (long : length r ≡ 1024)
+    (members : (p q : ℕ) → p < 256 → q < 256 → hasAt r p q ≡ follow (worldOf world) f b p q) (moved : out ≡ padded (drop (b * 4) r))
     (fits : (i : ℕ) → Fits w64 (getD out i 0)) where
   -- the follow set of the rule's position number i
   after : ℕ → List ℕ
-  after i = setOf (follow (inside line) f b (b + i))
+  after i = setOf (follow (worldOf world) f b (b + i))
 
   -- the rows from the base on
   own : List ℕ
@@ -162,7 +162,7 @@ module _ (line : Bool) (f : Written) (b : ℕ) (room : b + positions f ≤ 256) 
   row : (i : ℕ) → i < 256 - b → fourWords (drop (i * 4) own) ≡ after i
   unfolding after own hasAt
   row i h =
-      by-members (fourWords (drop (i * 4) own)) bounded (follow (inside line) f b (b + i))
+      by-members (fourWords (drop (i * 4) own)) bounded (follow (worldOf world) f b (b + i))
       (λ q l. ap (λ (x : List ℕ). has (fourWords x) q) there ∙ members (b + i) q (omega arith) l)
     where
       there : drop (i * 4) (drop (b * 4) r) ≡ drop ((b + i) * 4) r
@@ -178,12 +178,12 @@ module _ (line : Bool) (f : Written) (b : ℕ) (room : b + positions f ≤ 256) 
   behind : (i : ℕ) → i < 256 - b - positions f → after (positions f + i) ≡ 0 ∷ 0 ∷ 0 ∷ 0 ∷ []
   unfolding after emptySet
   behind i h =
-      setOf-ext (follow (inside line) f b (b + (positions f + i))) (λ q. false)
-      (λ q l. false-T (follow (inside line) f b (b + (positions f + i)) q)
-      (λ t. omega (arith, follow-inside (inside line) f b (b + (positions f + i)) q (follow-T (inside line) f b (b + (positions f + i)) q .0 t))))
+      setOf-ext (follow (worldOf world) f b (b + (positions f + i))) (λ q. false)
+      (λ q l. false-T (follow (worldOf world) f b (b + (positions f + i)) q)
+      (λ t. omega (arith, follow-inside (worldOf world) f b (b + (positions f + i)) q (follow-T (worldOf world) f b (b + (positions f + i)) q .0 t))))
       ∙ sym empty-words
 
-  follow-moved : out ≡ padded (rowsOf (positions f) (λ i. setOf (follow (inside line) f b (b + i))))
+  follow-moved : out ≡ padded (rowsOf (positions f) (λ i. setOf (follow (worldOf world) f b (b + i))))
   unfolding after own
   follow-moved =
       let n : ℕ = positions f in
@@ -192,55 +192,34 @@ module _ (line : Bool) (f : Written) (b : ℕ) (room : b + positions f ≤ 256) 
       moved
       ∙ ap padded (rows-are (256 - b) own after own-length row ∙ ap (λ (k : ℕ). rowsOf k after) e ∙ rows-split n m after
       ∙ ap (λ (l : List ℕ). rowsOf n after ++ l) (rows-zero m (λ i. after (n + i)) behind))
-      ∙ padded-more (rowsOf n after) (m * 4) (omega (arith, rows-length n after (λ i. words-setOf (follow (inside line) f b (b + i)) .four)))
+      ∙ padded-more (rowsOf n after) (m * 4) (omega (arith, rows-length n after (λ i. words-setOf (follow (worldOf world) f b (b + i)) .four)))
 
 -- ---- the parts
 
-pub handed-out : {f : Written} {b : ℕ} {r t out bytes r' t' out' : List ℕ} {g g' : Fragment}
-    → b + positions f ≤ 256 → Built false f b (zeros 1024) r (zeros 1024) t g → Built true f b (zeros 1024) r' t t' g'
+pub handed-out : {world : ℕ} {f : Written} {b : ℕ} {r t out bytes : List ℕ} {g : Fragment}
+    → b + positions f ≤ 256 → Built world f b (zeros 1024) r (zeros 1024) t g
     → out ≡ padded (drop (b * 4) r) → ((i : ℕ) → Fits w64 (getD out i 0)) → bytes ≡ padded (drop (b * 4) t)
-    → out' ≡ padded (drop (b * 4) r') → ((i : ℕ) → Fits w64 (getD out' i 0))
-    → record {
-      fits = true;
-      positions = g .size;
-      first = g .first;
-      start = g .starts;
-      last = g .last;
-      «end» = g .ends;
-      follow = out;
-      takes = bytes;
-      «line_first» = g' .first;
-      «line_start» = g' .starts;
-      «line_last» = g' .last;
-      «line_follow» = out';
-    } ≡ formParts f b
+    → record { fits = true; positions = g .size; first = g .first; last = g .last; follow = out; takes = bytes } ≡ formParts f b world
 unfolding formParts fragmentOf
-handed-out {f} {b} {r} {t} {out} {bytes} {r'} {t'} {out'} {g} {g'} room h h' i fits j i' fits' =
-    let zero : (line : Bool) (r : List ℕ) → ((p q : ℕ) → p < 256 → q < 256 → hasAt r p q ≡ (hasAt (zeros 1024) p q || follow (inside line) f b p q))
-    → (p q : ℕ) → p < 256 → q < 256 → hasAt r p q ≡ follow (inside line) f b p q =
-    λ line r k p q l m. k p q l m ∙ ap (λ (v : Bool). v || follow (inside line) f b p q) (has-zeros p q l m) in
+handed-out {world} {f} {b} {r} {t} {out} room h i fits j =
+    let members : (p q : ℕ) → p < 256 → q < 256 → hasAt r p q ≡ follow (worldOf world) f b p q =
+    λ p q l m. h .follows (length-zeros 1024) p q l m ∙ ap (λ (v : Bool). v || follow (worldOf world) f b p q) (has-zeros p q l m) in
     cc (
       ap (λ (x : Fragment). x .size) (h .fragment),
       ap (λ (x : Fragment). x .first) (h .fragment),
-      ap (λ (x : Fragment). x .starts) (h .fragment),
       ap (λ (x : Fragment). x .last) (h .fragment),
-      ap (λ (x : Fragment). x .ends) (h .fragment),
-      ap (λ (x : Fragment). x .first) (h' .fragment),
-      ap (λ (x : Fragment). x .starts) (h' .fragment),
-      ap (λ (x : Fragment). x .last) (h' .fragment),
-      follow-moved false f b room r out (h .long ∙ length-zeros 1024) (zero false r (h .follows (length-zeros 1024))) i fits,
-      follow-moved true f b room r' out' (h' .long ∙ length-zeros 1024) (zero true r' (h' .follows (length-zeros 1024))) i' fits',
+      follow-moved world f b room r out (h .long ∙ length-zeros 1024) members i fits,
       j,
       takes-moved f b t room (h .takes),
     )
 
-pub parts-none : (t : Syntax) (b : ℕ) → 256 < b + positions (write t) → noParts ≡ partsOf t b
+pub parts-none : (t : Syntax) (b world : ℕ) → 256 < b + positions (write t) → noParts ≡ partsOf t b world
 unfolding partsOf
-parts-none t b h = rw (lt-leb (b + positions (write t)) 256 h)
+parts-none t b world h = rw (lt-leb (b + positions (write t)) 256 h)
 
-pub parts-whole : (t : Syntax) (b : ℕ) → b + positions (write t) ≤ 256 → formParts (write t) b ≡ partsOf t b
+pub parts-whole : (t : Syntax) (b world : ℕ) → b + positions (write t) ≤ 256 → formParts (write t) b world ≡ partsOf t b world
 unfolding partsOf
-parts-whole t b h = rw (le-leb (b + positions (write t)) 256 h)
+parts-whole t b world h = rw (le-leb (b + positions (write t)) 256 h)
 
 -- ---- the rows of the parts, for callers
 
@@ -266,7 +245,7 @@ flat-row (c ∷ cs) (suc i) z h =
     let e : suc i * 4 ≡ suc (suc (suc (suc (i * 4)))) = omega arith in
     ap (λ (k : ℕ). fourWords (drop k (flat (c ∷ cs) ++ z))) e ∙ flat-row cs i z (omega arith)
 
-module _ (t : Syntax) (b i : ℕ) (fits : b + positions (write t) ≤ 256) (low : i < positions (write t)) where
+module _ (t : Syntax) (b world i : ℕ) (fits : b + positions (write t) ≤ 256) (low : i < positions (write t)) where
   -- a row of sets of the rule's positions, as the parts have it
   set-row : (g : ℕ → List ℕ) → ((k : ℕ) → length (g k) ≡ 4) → fourWords (drop (i * 4) (padded (rowsOf (positions (write t)) g))) ≡ fourWords (g i)
   unfolding padded
@@ -276,20 +255,14 @@ module _ (t : Syntax) (b i : ℕ) (fits : b + positions (write t) ≤ 256) (low 
       ap (λ (n : ℕ). fourWords (drop (i * 4) (padded (rowsOf n g)))) e
       ∙ row-of m i g (zeros (1024 - length (rowsOf (i + (1 + m)) g))) four
 
-  pub follow-row : fourWords (drop (i * 4) (partsOf t b .follow)) ≡ setOf (follow (inside false) (write t) b (b + i))
+  pub follow-row : fourWords (drop (i * 4) (partsOf t b world .follow)) ≡ setOf (follow (worldOf world) (write t) b (b + i))
   unfolding formParts setOf
   follow-row =
-      ap (λ (p : Parts). fourWords (drop (i * 4) (p .follow))) (sym (parts-whole t b fits))
-      ∙ set-row (λ k. setOf (follow (inside false) (write t) b (b + k))) (λ k. refl)
+      ap (λ (p : Parts). fourWords (drop (i * 4) (p .follow))) (sym (parts-whole t b world fits))
+      ∙ set-row (λ k. setOf (follow (worldOf world) (write t) b (b + k))) (λ k. refl)
 
-  pub line-follow-row : fourWords (drop (i * 4) (partsOf t b .«line_follow»)) ≡ setOf (follow (inside true) (write t) b (b + i))
-  unfolding formParts setOf
-  line-follow-row =
-      ap (λ (p : Parts). fourWords (drop (i * 4) (p .«line_follow»))) (sym (parts-whole t b fits))
-      ∙ set-row (λ k. setOf (follow (inside true) (write t) b (b + k))) (λ k. refl)
-
-  pub takes-row : fourWords (drop (i * 4) (partsOf t b .takes)) ≡ fourWords (getD (items (write t)) i [])
+  pub takes-row : fourWords (drop (i * 4) (partsOf t b world .takes)) ≡ fourWords (getD (items (write t)) i [])
   unfolding formParts padded
   takes-row =
-      ap (λ (p : Parts). fourWords (drop (i * 4) (p .takes))) (sym (parts-whole t b fits))
+      ap (λ (p : Parts). fourWords (drop (i * 4) (p .takes))) (sym (parts-whole t b world fits))
       ∙ flat-row (items (write t)) i (zeros (1024 - length (flat (items (write t))))) (omega (arith, items-length (write t)))

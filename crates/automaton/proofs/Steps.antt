@@ -1,6 +1,6 @@
 -- What is built, part by part: the promises of the functions that walk the nodes, put together. A repeat is taken apart by its first copy.
 use mathlib.Core.Path.{_≡_, refl, sym, ap, ap₂, _∙_}
-use mathlib.Core.Bool.{Bool, true, false, true≢false, not, _&&_, _||_, or-false, or-assoc}
+use mathlib.Core.Bool.{Bool, true, false, true≢false, _&&_, _||_, or-false, or-assoc}
 use mathlib.Core.List.{List, [], _∷_, _++_, append-assoc}
 use Prim.Native.Nat.{ℕ, suc, _+_, _*_, _-_, _≤_, _<_}
 use native.Mathlib.Omega.{arith}
@@ -13,11 +13,11 @@ use Rattle.sets.specs.Set.{has}
 use Rattle.sets.proofs.Laws.{has-setOf}
 use Rattle.regex.specs.Tree.{Extra, atMost, unbounded}
 use Rattle.regex.specs.Form.{eps, take, check, seq, alt, plus, opt, write, positions, copies, optionals, repeated}
-use Rattle.regex.specs.Rule.{ByteSet}
+use Rattle.regex.specs.Rule.{Assertion, ByteSet}
 use Rattle.regex.specs.Automaton.{first, last, follow, items}
 use Rattle.regex.proofs.Computed.{items-length}
 use Rattle.nodes.specs.Nodes.{Syntax, opOf, xOf, yOf, zOf, extraOf, assertionOf}
-use Rattle.automaton.specs.Parts.{fourWords, flat, inside}
+use Rattle.automaton.specs.Parts.{fourWords, flat, worldOf}
 use Rattle.automaton.specs.declared.fragments.Fragment.{Fragment}
 use Rattle.automaton.specs.Invariants.{Written, formAt, childForm, extra, bareOf, oneOf, inTurn, choiceOf, optionalOf, fragmentOf, hasAt, Joined, Room, Built}
 use Rattle.nodes.proofs.Trees.{child-in, child-out}
@@ -55,68 +55,68 @@ room-opt b e h = rw e at h
 
 -- ---- a join of two forms adds the pairs of a last and a first position
 
-joined-pairs : (line : Bool) (f g : Written) (b m : ℕ) (x y : Fragment) (r r' : List ℕ) → x ≡ fragmentOf line f b → y ≡ fragmentOf line g m → Joined (x .last) (y .first) 256 r r'
-    → length r ≡ 1024 → (p q : ℕ) → p < 256 → q < 256 → hasAt r' p q ≡ (hasAt r p q || (last (inside line) f b p && first (inside line) g m q))
+joined-pairs : (world : ℕ) (f g : Written) (b m : ℕ) (x y : Fragment) (r r' : List ℕ) → x ≡ fragmentOf world f b → y ≡ fragmentOf world g m → Joined (x .last) (y .first) 256 r r'
+    → length r ≡ 1024 → (p q : ℕ) → p < 256 → q < 256 → hasAt r' p q ≡ (hasAt r p q || (last (worldOf world) f b p && first (worldOf world) g m q))
 unfolding fragmentOf
-joined-pairs line f g b m x y r r' ex ey j full p q h i =
+joined-pairs world f g b m x y r r' ex ey j full p q h i =
     j .member full p q h i ∙ ap (λ (v : Bool). hasAt r p q || (v && (has (x .last) p && has (y .first) q))) (lt-ltb p 256 h)
     ∙ ap₂ (λ (u v : Bool). hasAt r p q || (u && v))
-    (ap (λ (z : Fragment). has (z .last) p) ex ∙ has-setOf (last (inside line) f b) p h)
-    (ap (λ (z : Fragment). has (z .first) q) ey ∙ has-setOf (first (inside line) g m) q i)
+    (ap (λ (z : Fragment). has (z .last) p) ex ∙ has-setOf (last (worldOf world) f b) p h)
+    (ap (λ (z : Fragment). has (z .first) q) ey ∙ has-setOf (first (worldOf world) g m) q i)
 
 -- ---- one part
 
-module _ {line : Bool} {b : ℕ} {r r' t t' : List ℕ} where
-  pub size-of : {f : Written} {x : Fragment} → Built line f b r r' t t' x → x .size ≡ positions f
+module _ {world : ℕ} {b : ℕ} {r r' t t' : List ℕ} where
+  pub size-of : {f : Written} {x : Fragment} → Built world f b r r' t t' x → x .size ≡ positions f
   unfolding fragmentOf
   size-of h = ap (λ (g : Fragment). g .size) (h .fragment)
 
-  pub built-as : {w f : Written} {x : Fragment} → w ≡ f → Built line f b r r' t t' x → Built line w b r r' t t' x
+  pub built-as : {w f : Written} {x : Fragment} → w ≡ f → Built world f b r r' t t' x → Built world w b r r' t t' x
   built-as e h = rw e h
 
-  pub built-opt : {w f : Written} {x z : Fragment} → w ≡ opt f → Built line f b r r' t t' x → z ≡ optionalOf x → Built line w b r r' t t' z
+  pub built-opt : {w f : Written} {x z : Fragment} → w ≡ opt f → Built world f b r r' t t' x → z ≡ optionalOf x → Built world w b r r' t t' z
   unfolding follow items
   built-opt {w} {f} e h i = rw e (record {
-    fragment = i ∙ ap optionalOf (h .fragment) ∙ piece-opt line f b;
+    fragment = i ∙ ap optionalOf (h .fragment) ∙ piece-opt world f b;
     long = h .long;
     follows = h .follows;
     takes = h .takes;
   })
 
-  pub built-plus : {f : Written} {x : Fragment} {r2 : List ℕ} → Built line f b r r' t t' x → Joined (x .last) (x .first) 256 r' r2 → Built line (plus f) b r r2 t t' x
+  pub built-plus : {f : Written} {x : Fragment} {r2 : List ℕ} → Built world f b r r' t t' x → Joined (x .last) (x .first) 256 r' r2 → Built world (plus f) b r r2 t t' x
   unfolding follow items
   built-plus {f} {x} {r2} h j = record {
-    fragment = h .fragment ∙ piece-plus line f b;
+    fragment = h .fragment ∙ piece-plus world f b;
     long = j .long ∙ h .long;
     follows = λ full p q l m.
-        joined-pairs line f f b b x x r' r2 (h .fragment) (h .fragment) j (h .long ∙ full) p q l m
-        ∙ ap (λ (v : Bool). v || (last (inside line) f b p && first (inside line) f b q)) (h .follows full p q l m)
-        ∙ or-assoc (hasAt r p q) (follow (inside line) f b p q) (last (inside line) f b p && first (inside line) f b q);
+        joined-pairs world f f b b x x r' r2 (h .fragment) (h .fragment) j (h .long ∙ full) p q l m
+        ∙ ap (λ (v : Bool). v || (last (worldOf world) f b p && first (worldOf world) f b q)) (h .follows full p q l m)
+        ∙ or-assoc (hasAt r p q) (follow (worldOf world) f b p q) (last (worldOf world) f b p && first (worldOf world) f b q);
     takes = h .takes;
   }
 
-module _ {line : Bool} {b : ℕ} {r t : List ℕ} {w : Written} {z : Fragment} where
-  built-none : (f : Written) → w ≡ f → positions f ≡ 0 → z ≡ fragmentOf line f b → Built line w b r r t t z
+module _ {world : ℕ} {b : ℕ} {r t : List ℕ} {w : Written} {z : Fragment} where
+  built-none : (f : Written) → w ≡ f → positions f ≡ 0 → z ≡ fragmentOf world f b → Built world w b r r t t z
   unfolding flat
   built-none f e bare i = rw e (record {
     fragment = i;
     long = refl;
-    follows = λ full p q l m. sym (or-false (hasAt r p q)) ∙ ap (λ (v : Bool). hasAt r p q || v) (sym (no-follow f bare (inside line) b p q));
+    follows = λ full p q l m. sym (or-false (hasAt r p q)) ∙ ap (λ (v : Bool). hasAt r p q || v) (sym (no-follow f bare (worldOf world) b p q));
     takes = ap (λ (l : List ByteSet). sets t (b * 4) (flat l)) (sym (no-items f bare));
   })
 
-  pub built-eps : w ≡ eps → z ≡ bareOf true true true → Built line w b r r t t z
+  pub built-eps : w ≡ eps → z ≡ bareOf true → Built world w b r r t t z
   unfolding positions
-  built-eps e i = built-none eps e refl (i ∙ piece-eps line b)
+  built-eps e i = built-none eps e refl (i ∙ piece-eps world b)
 
-  pub built-check : (x : ℕ) → w ≡ check (assertionOf x) → z ≡ bareOf ((not (eqb x 0) && not (eqb x 1)) && line) (eqb x 0 || ((not (eqb x 0) && not (eqb x 1)) && line)) (not (eqb x 0)) → Built line w b r r t t z
+  pub built-check : {a : Assertion} {n : Bool} → w ≡ check a → n ≡ worldOf world a → z ≡ bareOf n → Built world w b r r t t z
   unfolding positions
-  built-check x e i = built-none (check (assertionOf x)) e refl (i ∙ piece-check line x b)
+  built-check {a} e h i = built-none (check a) e refl (i ∙ ap bareOf h ∙ piece-check world a b)
 
-  pub built-take : {c s : ByteSet} {t' : List ℕ} → w ≡ take c → s ≡ fourWords c → t' ≡ sets t (b * 4) (fourWords s) → z ≡ oneOf b → Built line w b r r t t' z
+  pub built-take : {c s : ByteSet} {t' : List ℕ} → w ≡ take c → s ≡ fourWords c → t' ≡ sets t (b * 4) (fourWords s) → z ≡ oneOf b → Built world w b r r t t' z
   unfolding follow items flat
   built-take {c} e i j l = rw e (record {
-    fragment = l ∙ piece-take line c b;
+    fragment = l ∙ piece-take world c b;
     long = refl;
     follows = λ full p q h m. sym (or-false (hasAt r p q));
     takes = j ∙ ap (λ (v : List ℕ). sets t (b * 4) (fourWords v)) i;
@@ -125,26 +125,26 @@ module _ {line : Bool} {b : ℕ} {r t : List ℕ} {w : Written} {z : Fragment} w
 -- ---- two parts
 
 -- their sizes fit where their positions do, wherever each is numbered from
-pub two-fit : {line : Bool} {f g : Written} {b c : ℕ} {r r1 r2 t t1 t2 : List ℕ} {x y : Fragment} → Built line f b r r1 t t1 x → Built line g c r1 r2 t1 t2 y
+pub two-fit : {world : ℕ} {f g : Written} {b c : ℕ} {r r1 r2 t t1 t2 : List ℕ} {x y : Fragment} → Built world f b r r1 t t1 x → Built world g c r1 r2 t1 t2 y
     → b + (positions f + positions g) ≤ 256 → x .size + y .size ≤ 256
 two-fit h i m = omega (arith, size-of h, size-of i)
 
-module _ {line : Bool} {f g : Written} {b : ℕ} {r r1 r2 t t1 t2 : List ℕ} {x y : Fragment} (h : Built line f b r r1 t t1 x) (i : Built line g (b + x .size) r1 r2 t1 t2 y) where
-  after : Built line g (b + positions f) r1 r2 t1 t2 y
+module _ {world : ℕ} {f g : Written} {b : ℕ} {r r1 r2 t t1 t2 : List ℕ} {x y : Fragment} (h : Built world f b r r1 t t1 x) (i : Built world g (b + x .size) r1 r2 t1 t2 y) where
+  after : Built world g (b + positions f) r1 r2 t1 t2 y
   after = rw (size-of h) at i
 
-  pub built-seq : {w : Written} {z : Fragment} {r3 : List ℕ} → w ≡ seq f g → z ≡ inTurn x y → Joined (x .last) (y .first) 256 r2 r3 → Built line w b r r3 t t2 z
+  pub built-seq : {w : Written} {z : Fragment} {r3 : List ℕ} → w ≡ seq f g → z ≡ inTurn x y → Joined (x .last) (y .first) 256 r2 r3 → Built world w b r r3 t t2 z
   unfolding follow items
   built-seq {w} {z} {r3} e j l =
       let n = b + positions f in
       rw e (record {
-        fragment = j ∙ ap₂ inTurn (h .fragment) (after .fragment) ∙ piece-seq line f g b;
+        fragment = j ∙ ap₂ inTurn (h .fragment) (after .fragment) ∙ piece-seq world f g b;
         long = l .long ∙ after .long ∙ h .long;
         follows = λ full p q k m.
-            joined-pairs line f g b n x y r2 r3 (h .fragment) (after .fragment) l (after .long ∙ h .long ∙ full) p q k m
-            ∙ ap (λ (v : Bool). v || (last (inside line) f b p && first (inside line) g n q)) (after .follows (h .long ∙ full) p q k m)
-            ∙ ap (λ (v : Bool). v || follow (inside line) g n p q || (last (inside line) f b p && first (inside line) g n q)) (h .follows full p q k m)
-            ∙ joined-or (hasAt r p q) (follow (inside line) f b p q) (follow (inside line) g n p q) (last (inside line) f b p && first (inside line) g n q);
+            joined-pairs world f g b n x y r2 r3 (h .fragment) (after .fragment) l (after .long ∙ h .long ∙ full) p q k m
+            ∙ ap (λ (v : Bool). v || (last (worldOf world) f b p && first (worldOf world) g n q)) (after .follows (h .long ∙ full) p q k m)
+            ∙ ap (λ (v : Bool). v || follow (worldOf world) g n p q || (last (worldOf world) f b p && first (worldOf world) g n q)) (h .follows full p q k m)
+            ∙ joined-or (hasAt r p q) (follow (worldOf world) f b p q) (follow (worldOf world) g n p q) (last (worldOf world) f b p && first (worldOf world) g n q);
         takes = takes-both f g b t t1 t2 (h .takes) (after .takes);
       })
     where
@@ -153,16 +153,16 @@ module _ {line : Bool} {f g : Written} {b : ℕ} {r r1 r2 t t1 t2 : List ℕ} {x
       joined-or false true v s = refl
       joined-or false false v s = refl
 
-  pub built-alt : {w : Written} {z : Fragment} → w ≡ alt f g → z ≡ choiceOf x y → Built line w b r r2 t t2 z
+  pub built-alt : {w : Written} {z : Fragment} → w ≡ alt f g → z ≡ choiceOf x y → Built world w b r r2 t t2 z
   unfolding follow items
   built-alt e j =
       let n = b + positions f in
       rw e (record {
-        fragment = j ∙ ap₂ choiceOf (h .fragment) (after .fragment) ∙ piece-alt line f g b;
+        fragment = j ∙ ap₂ choiceOf (h .fragment) (after .fragment) ∙ piece-alt world f g b;
         long = after .long ∙ h .long;
         follows = λ full p q k m.
-            after .follows (h .long ∙ full) p q k m ∙ ap (λ (v : Bool). v || follow (inside line) g n p q) (h .follows full p q k m)
-            ∙ or-assoc (hasAt r p q) (follow (inside line) f b p q) (follow (inside line) g n p q);
+            after .follows (h .long ∙ full) p q k m ∙ ap (λ (v : Bool). v || follow (worldOf world) g n p q) (h .follows full p q k m)
+            ∙ or-assoc (hasAt r p q) (follow (worldOf world) f b p q) (follow (worldOf world) g n p q);
         takes = takes-both f g b t t1 t2 (h .takes) (after .takes);
       })
 
@@ -215,29 +215,29 @@ module _ (f : Written) where
     repeat-positions z h = ap positions (repeat-step z h)
 
 -- a copy without positions stands for all
-module _ (s : Syntax) {line : Bool} {b : ℕ} {r r' t t' : List ℕ} {x : Fragment} (h : Built line (write s) b r r' t t' x) (z : x .size ≡ 0) where
+module _ (s : Syntax) {world : ℕ} {b : ℕ} {r r' t t' : List ℕ} {x : Fragment} (h : Built world (write s) b r r' t t' x) (z : x .size ≡ 0) where
   bare : positions (write s) ≡ 0
   bare = sym (size-of h) ∙ z
 
-  instead : (w : Written) {y : Fragment} → positions w ≡ 0 → y ≡ fragmentOf line w b → Built line w b r r' t t' y
+  instead : (w : Written) {y : Fragment} → positions w ≡ 0 → y ≡ fragmentOf world w b → Built world w b r r' t t' y
   instead w e i = record {
     fragment = i;
     long = h .long;
     follows = λ full p q l m.
-        h .follows full p q l m ∙ ap (λ (v : Bool). hasAt r p q || v) (no-follow (write s) bare (inside line) b p q ∙ sym (no-follow w e (inside line) b p q));
+        h .follows full p q l m ∙ ap (λ (v : Bool). hasAt r p q || v) (no-follow (write s) bare (worldOf world) b p q ∙ sym (no-follow w e (worldOf world) b p q));
     takes = h .takes ∙ ap (λ (l : List ByteSet). sets t (b * 4) (flat l)) (no-items (write s) bare ∙ sym (no-items w e));
   }
 
-  pub settled-repeat : (n : ℕ) (j : Extra) → (n ≡ 0 → ⊥) → Built line (repeated (write s) n j) b r r' t t' x
+  pub settled-repeat : (n : ℕ) (j : Extra) → (n ≡ 0 → ⊥) → Built world (repeated (write s) n j) b r r' t t' x
   settled-repeat n j i =
       let e : suc (n - 1) ≡ n = omega arith in
       instead (repeated (write s) n j) (repeated-bare s bare n j)
-      (h .fragment ∙ piece-repeated s bare line (n - 1) j b ∙ ap (λ (m : ℕ). fragmentOf line (repeated (write s) m j) b) e)
+      (h .fragment ∙ piece-repeated s bare world (n - 1) j b ∙ ap (λ (m : ℕ). fragmentOf world (repeated (write s) m j) b) e)
 
-  pub settled-nested : (j : ℕ) {y : Fragment} → y ≡ optionalOf x → Built line (optionals j (write s)) b r r' t t' y
+  pub settled-nested : (j : ℕ) {y : Fragment} → y ≡ optionalOf x → Built world (optionals j (write s)) b r r' t t' y
   unfolding repeated copies
   settled-nested j i =
-      instead (optionals j (write s)) (repeated-bare s bare 0 (atMost j)) (i ∙ ap optionalOf (h .fragment) ∙ piece-nested s bare line j b)
+      instead (optionals j (write s)) (repeated-bare s bare 0 (atMost j)) (i ∙ ap optionalOf (h .fragment) ∙ piece-nested s bare world j b)
 
 -- ---- nodes
 

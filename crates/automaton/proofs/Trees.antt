@@ -1,8 +1,9 @@
--- A node's tree by its word: what kind of node the word names, and its children's trees. And the four words before an item's node, read one by one.
+-- A node's tree by its word: what kind of node the word names, and its children's trees. The numbers of the assertions. And the four words before an item's
+-- node, read one by one.
 use mathlib.Core.Path.{_≡_, refl, sym, ap, _∙_}
 use mathlib.Core.Bool.{Bool, true, false, true≢false, _||_}
 use mathlib.Core.List.{List, [], _∷_}
-use Prim.Native.Nat.{ℕ, _+_, _-_, _≤_, _<_}
+use Prim.Native.Nat.{ℕ, zero, suc, _+_, _-_, _≤_, _<_}
 use native.Mathlib.Omega.{arith}
 use borrow.Author.Tests.{eqb-true, ne-eqb}
 use lib.Dec.{eqb}
@@ -10,7 +11,7 @@ use lib.ListN.{getD, take, drop}
 use lib.Seq.{getD-take}
 use Rattle.regex.specs.Tree.{empty, item, assertion, then, or, repeat}
 use Rattle.regex.specs.Rule.{ByteSet}
-use Rattle.nodes.specs.Nodes.{opOf, xOf, yOf, zOf, extraOf, assertionOf, nodeOf, treeAt}
+use Rattle.nodes.specs.Nodes.{opOf, xOf, yOf, zOf, extraOf, assertionOf, codeOf, nodeOf, treeAt}
 use Rattle.automaton.specs.Parts.{fourWords}
 use Rattle.nodes.specs.Invariants.{childAt}
 use Rattle.nodes.proofs.Trees.{tree-node}
@@ -30,6 +31,21 @@ set-high a k h =
     let e2 : k - 4 + 2 ≡ k - 2 = omega arith in
     let e3 : k - 4 + 3 ≡ k - 1 = omega arith in
     four-ext (setAt a k) (drop (k - 4) a) (λ i l. getD-take 4 (drop (k - 4) a) i 0 l) ∙ four-from a (k - 4) ∙ cc
+
+-- An assertion's number is the one that names it; those above the last stand for the last.
+pub code-below : (x : ℕ) → x < 6 → x ≡ codeOf (assertionOf x)
+code-below zero h = refl
+code-below (suc zero) h = refl
+code-below (suc (suc zero)) h = refl
+code-below (suc (suc (suc zero))) h = refl
+code-below (suc (suc (suc (suc zero)))) h = refl
+code-below (suc (suc (suc (suc (suc zero))))) h = refl
+code-below (suc (suc (suc (suc (suc (suc x)))))) h = absurd (omega arith)
+
+pub code-above : (x : ℕ) → 6 ≤ x → 6 ≡ codeOf (assertionOf x)
+code-above x h =
+    let off : (k : ℕ) → k < 6 → eqb x k ≡ false = λ k l. ne-eqb x k (λ e. omega arith) in
+    rw (off 0 (omega arith), off 1 (omega arith), off 2 (omega arith), off 3 (omega arith), off 4 (omega arith), off 5 (omega arith))
 
 -- a node that is one of two, and not the first
 pub is-second : (op : ℕ) → (eqb op 3 || eqb op 4) ≡ true → (op ≡ 3 → ⊥) → op ≡ 4

@@ -13,7 +13,7 @@ use Rattle.regex.specs.Rule.{Assertion, ByteSet}
 use Rattle.regex.specs.Automaton.{null, first, last, follow, items}
 use Rattle.nodes.specs.Nodes.{treeAt}
 use Rattle.nodes.specs.Invariants.{childAt}
-use Rattle.automaton.specs.Parts.{fourWords, flat, inside, atStart, atEnd}
+use Rattle.automaton.specs.Parts.{fourWords, flat, worldOf}
 use Rattle.automaton.specs.declared.fragments.Fragment.{Fragment}
 
 -- ---- nodes
@@ -34,15 +34,13 @@ extra endless j = cond endless unbounded (atMost j)
 
 -- ---- fragments
 
--- no positions, and where it matches nothing
-unfoldable pub bareOf : Bool → Bool → Bool → Fragment
-bareOf n o c = record { size = 0; null = n; opens = o; closes = c; first = emptySet; starts = emptySet; last = emptySet; ends = emptySet }
+-- no positions
+unfoldable pub bareOf : Bool → Fragment
+bareOf n = record { size = 0; null = n; first = emptySet; last = emptySet }
 
 -- the one position b
 unfoldable pub oneOf : ℕ → Fragment
-oneOf b =
-    let s = inserted emptySet b in
-    record { size = 1; null = false; opens = false; closes = false; first = s; starts = s; last = s; ends = s }
+oneOf b = record { size = 1; null = false; first = inserted emptySet b; last = inserted emptySet b }
 
 -- s, and t too where b
 abbrev pub also : Bool → List ℕ → List ℕ → List ℕ
@@ -53,12 +51,8 @@ unfoldable pub inTurn : Fragment → Fragment → Fragment
 inTurn f g = record {
   size = f .size + g .size;
   null = f .null && g .null;
-  opens = f .opens && g .opens;
-  closes = f .closes && g .closes;
   first = also (f .null) (f .first) (g .first);
-  starts = also (f .opens) (f .starts) (g .starts);
   last = also (g .null) (g .last) (f .last);
-  ends = also (g .closes) (g .ends) (f .ends);
 }
 
 -- f, or g
@@ -66,38 +60,21 @@ unfoldable pub choiceOf : Fragment → Fragment → Fragment
 choiceOf f g = record {
   size = f .size + g .size;
   null = f .null || g .null;
-  opens = f .opens || g .opens;
-  closes = f .closes || g .closes;
   first = unionOf (f .first) (g .first);
-  starts = unionOf (f .starts) (g .starts);
   last = unionOf (f .last) (g .last);
-  ends = unionOf (f .ends) (g .ends);
 }
 
 -- f, or nothing
 unfoldable pub optionalOf : Fragment → Fragment
-optionalOf f = record {
-  size = f .size;
-  null = true;
-  opens = true;
-  closes = true;
-  first = f .first;
-  starts = f .starts;
-  last = f .last;
-  ends = f .ends;
-}
+optionalOf f = record { size = f .size; null = true; first = f .first; last = f .last }
 
--- the fragment of a form whose positions are numbered from b on
-unfoldable pub fragmentOf : (line : Bool) → Written → ℕ → Fragment
-fragmentOf line f b = record {
+-- the fragment of a form in a world, its positions numbered from b on
+unfoldable pub fragmentOf : (world : ℕ) → Written → ℕ → Fragment
+fragmentOf world f b = record {
   size = positions f;
-  null = null (inside line) f;
-  opens = null (atStart line) f;
-  closes = null atEnd f;
-  first = setOf (first (inside line) f b);
-  starts = setOf (first (atStart line) f b);
-  last = setOf (last (inside line) f b);
-  ends = setOf (last atEnd f b);
+  null = null (worldOf world) f;
+  first = setOf (first (worldOf world) f b);
+  last = setOf (last (worldOf world) f b);
 }
 
 -- ---- rows
@@ -122,8 +99,8 @@ abbrev pub Room : Written → ℕ → Type 0
 Room f b = b + positions f ≤ 256
 
 -- the fragment of f; its follow pairs are added to the rows r, and its byte sets are written into the rows t
-pub record Built (line : Bool) (f : Written) (b : ℕ) (r r' t t' : List ℕ) (g : Fragment) : Type 0 where
-  pub fragment : g ≡ fragmentOf line f b
+pub record Built (world : ℕ) (f : Written) (b : ℕ) (r r' t t' : List ℕ) (g : Fragment) : Type 0 where
+  pub fragment : g ≡ fragmentOf world f b
   pub long : length r' ≡ length r
-  pub follows : length r ≡ 1024 → (p q : ℕ) → p < 256 → q < 256 → hasAt r' p q ≡ (hasAt r p q || follow (inside line) f b p q)
+  pub follows : length r ≡ 1024 → (p q : ℕ) → p < 256 → q < 256 → hasAt r' p q ≡ (hasAt r p q || follow (worldOf world) f b p q)
   pub takes : t' ≡ sets t (b * 4) (flat (items f))

@@ -1,15 +1,30 @@
 // The written-out form, node by node: each function returns the fragment of its form, whose positions are numbered from b on, adds its follow pairs to
-// `follow` and writes its byte sets into `takes`. `line` says whether the last line ends at the gaps inside. The node number falls; within a repeat the number of
-// copies does.
+// `follow` and writes its byte sets into `takes`. A digit of `world` says whether the assertion of that number holds at the gaps. The node number falls; within a repeat
+// the number of copies does.
 use crate::fragments;
 use crate::fragments::Fragment;
 use crate::items;
 use crate::rows;
 use nodes::layout;
+use nodes::layout::LAST_ASSERTION;
 ghost use mathlib.Core.Path.{_≡_};
 ghost use Prim.Native.Nat.{_+_, _≤_, _<_};
 ghost use Rattle.regex.specs.Form.{plus, optionals, repeated};
+ghost use Rattle.nodes.specs.Nodes.{assertionOf};
+ghost use Rattle.automaton.specs.Parts.{worldOf};
 ghost use Rattle.automaton.specs.Invariants.{formAt, childForm, extra, inTurn, Joined, Room, Built};
+
+// Whether the assertion of this number holds in a world. Every number above the last stands for the last.
+fn holds(world: u64, x: u64) -> bool
+    ensures { λ r. ⌜ r ≡ worldOf world (assertionOf x) ⌝ }
+{
+    let digit = if x < LAST_ASSERTION {
+        x
+    } else {
+        LAST_ASSERTION
+    };
+    world >> digit & 1 == 1
+}
 
 // f, then g: what g starts with can come after what f ends with.
 fn then(f: Fragment, g: Fragment, follow: &mut [u64; 1024]) -> Fragment
@@ -30,15 +45,15 @@ fn child(
     b: usize,
     follow: &mut [u64; 1024],
     takes: &mut [u64; 1024],
-    line: bool,
+    world: u64,
 ) -> Fragment
     requires { ⌜ Room (childForm (now a) k x) b ⌝ }
-    ensures { λ r. ⌜ Built line (childForm (now (a .entry)) k x) b (now (follow .entry)) (now (follow .exit)) (now (takes .entry)) (now (takes .exit)) r ⌝ }
+    ensures { λ r. ⌜ Built world (childForm (now (a .entry)) k x) b (now (follow .entry)) (now (follow .exit)) (now (takes .entry)) (now (takes .exit)) r ⌝ }
 {
     if x < k as u64 {
-        return node(a, x as usize, b, follow, takes, line);
+        return node(a, x as usize, b, follow, takes, world);
     }
-    fragments::bare(true, true, true)
+    fragments::bare(true)
 }
 
 // One or more of child x.
@@ -49,12 +64,12 @@ fn many(
     b: usize,
     follow: &mut [u64; 1024],
     takes: &mut [u64; 1024],
-    line: bool,
+    world: u64,
 ) -> Fragment
     requires { ⌜ Room (plus (childForm (now a) k x)) b ⌝ }
-    ensures { λ r. ⌜ Built line (plus (childForm (now (a .entry)) k x)) b (now (follow .entry)) (now (follow .exit)) (now (takes .entry)) (now (takes .exit)) r ⌝ }
+    ensures { λ r. ⌜ Built world (plus (childForm (now (a .entry)) k x)) b (now (follow .entry)) (now (follow .exit)) (now (takes .entry)) (now (takes .exit)) r ⌝ }
 {
-    let f = child(a, k, x, b, follow, takes, line);
+    let f = child(a, k, x, b, follow, takes, world);
     let last = f.last;
     let first = f.first;
     rows::join(follow, last, first);
@@ -70,21 +85,21 @@ fn nested(
     b: usize,
     follow: &mut [u64; 1024],
     takes: &mut [u64; 1024],
-    line: bool,
+    world: u64,
 ) -> Fragment
     requires { ⌜ Room (optionals j (childForm (now a) k x)) b ⌝ }
-    ensures { λ r. ⌜ Built line (optionals j (childForm (now (a .entry)) k x)) b (now (follow .entry)) (now (follow .exit)) (now (takes .entry)) (now (takes .exit)) r ⌝ }
+    ensures { λ r. ⌜ Built world (optionals j (childForm (now (a .entry)) k x)) b (now (follow .entry)) (now (follow .exit)) (now (takes .entry)) (now (takes .exit)) r ⌝ }
 {
     if j == 0 {
-        return fragments::bare(true, true, true);
+        return fragments::bare(true);
     }
-    let f = child(a, k, x, b, follow, takes, line);
+    let f = child(a, k, x, b, follow, takes, world);
     let alone = fragments::optional(f);
     let size = f.size;
     if size == 0 {
         return alone;
     }
-    let g = nested(a, k, x, j - 1, b + size, follow, takes, line);
+    let g = nested(a, k, x, j - 1, b + size, follow, takes, world);
     fragments::optional(then(f, g, follow))
 }
 
@@ -99,26 +114,26 @@ fn repeat(
     b: usize,
     follow: &mut [u64; 1024],
     takes: &mut [u64; 1024],
-    line: bool,
+    world: u64,
 ) -> Fragment
     requires { ⌜ (n < 131072) × (j < 2147483648) × Room (repeated (childForm (now a) k x) n (extra endless j)) b ⌝ }
-    ensures { λ r. ⌜ Built line (repeated (childForm (now (a .entry)) k x) n (extra endless j)) b (now (follow .entry)) (now (follow .exit)) (now (takes .entry)) (now (takes .exit)) r ⌝ }
+    ensures { λ r. ⌜ Built world (repeated (childForm (now (a .entry)) k x) n (extra endless j)) b (now (follow .entry)) (now (follow .exit)) (now (takes .entry)) (now (takes .exit)) r ⌝ }
 {
     if n == 0 {
         if endless {
-            return fragments::optional(many(a, k, x, b, follow, takes, line));
+            return fragments::optional(many(a, k, x, b, follow, takes, world));
         }
-        return nested(a, k, x, j, b, follow, takes, line);
+        return nested(a, k, x, j, b, follow, takes, world);
     }
     if endless & (n == 1) {
-        return many(a, k, x, b, follow, takes, line);
+        return many(a, k, x, b, follow, takes, world);
     }
-    let f = child(a, k, x, b, follow, takes, line);
+    let f = child(a, k, x, b, follow, takes, world);
     let size = f.size;
     if size == 0 {
         return f;
     }
-    let g = repeat(a, k, x, n - 1, endless, j, b + size, follow, takes, line);
+    let g = repeat(a, k, x, n - 1, endless, j, b + size, follow, takes, world);
     then(f, g, follow)
 }
 
@@ -129,10 +144,10 @@ pub(super) fn node(
     b: usize,
     follow: &mut [u64; 1024],
     takes: &mut [u64; 1024],
-    line: bool,
+    world: u64,
 ) -> Fragment
     requires { ⌜ Room (formAt (now a) k) b ⌝ }
-    ensures { λ r. ⌜ Built line (formAt (now (a .entry)) k) b (now (follow .entry)) (now (follow .exit)) (now (takes .entry)) (now (takes .exit)) r ⌝ }
+    ensures { λ r. ⌜ Built world (formAt (now (a .entry)) k) b (now (follow .entry)) (now (follow .exit)) (now (takes .entry)) (now (takes .exit)) r ⌝ }
 {
     let w = layout::word(a, k);
     let op = w % 8;
@@ -144,19 +159,18 @@ pub(super) fn node(
         return fragments::one(b);
     }
     if op == layout::ASSERTION {
-        let null = ((x != 0) & (x != 1)) & line;
-        return fragments::bare(null, (x == 0) | null, x != 0);
+        return fragments::bare(holds(world, x));
     }
     if (op == layout::THEN) | (op == layout::OR) {
-        let f = child(a, k, x, b, follow, takes, line);
-        let g = child(a, k, y, b + f.size, follow, takes, line);
+        let f = child(a, k, x, b, follow, takes, world);
+        let g = child(a, k, y, b + f.size, follow, takes, world);
         if op == layout::THEN {
             return then(f, g, follow);
         }
         return fragments::choice(f, g);
     }
     if op == layout::REPEAT {
-        return repeat(a, k, x, y, z == layout::ENDLESS, z, b, follow, takes, line);
+        return repeat(a, k, x, y, z == layout::ENDLESS, z, b, follow, takes, world);
     }
-    fragments::bare(true, true, true)
+    fragments::bare(true)
 }

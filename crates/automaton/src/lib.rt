@@ -11,21 +11,15 @@ ghost use Rattle.regex.specs.Form.{write, positions};
 ghost use Rattle.nodes.specs.Nodes.{treeAt};
 ghost use Rattle.automaton.specs.Parts.{formParts, noParts, partsOf};
 
-// The parts of a rule's automaton, its positions numbered from a base on. `fits` says that all of them are below 256; else the rest is zero. Row i of
-// `follow` and of `takes`, four words each, is that of the rule's position number i. The parts named `line_` are those at a gap where the last line ends.
+// The parts of a rule's automaton in one world, its positions numbered from a base on. `fits` says that all of them are below 256; else the rest is zero. Row i
+// of `follow` and of `takes`, four words each, is that of the rule's position number i.
 pub struct Parts {
     pub fits: bool,
     pub positions: usize,
     pub first: [u64; 4],
-    pub start: [u64; 4],
     pub last: [u64; 4],
-    pub end: [u64; 4],
     pub follow: [u64; 1024],
     pub takes: [u64; 1024],
-    pub line_first: [u64; 4],
-    pub line_start: [u64; 4],
-    pub line_last: [u64; 4],
-    pub line_follow: [u64; 1024],
 }
 
 // The answer where the positions do not fit.
@@ -37,56 +31,35 @@ fn none() -> Parts
         fits: false,
         positions: 0,
         first: s,
-        start: s,
         last: s,
-        end: s,
         follow: [0; 1024],
         takes: [0; 1024],
-        line_first: s,
-        line_start: s,
-        line_last: s,
-        line_follow: [0; 1024],
     }
 }
 
 // The parts where they do.
-fn whole(nodes: &[u64], root: usize, base: usize) -> Parts
+fn whole(nodes: &[u64], root: usize, base: usize, world: u64) -> Parts
     requires { ⌜ base + positions (write (treeAt (now nodes) root)) ≤ 256 ⌝ }
-    ensures { λ r. ⌜ r ≡ formParts (write (treeAt (now (nodes .entry)) root)) base ⌝ }
+    ensures { λ r. ⌜ r ≡ formParts (write (treeAt (now (nodes .entry)) root)) base world ⌝ }
 {
     let mut follow = [0u64; 1024];
     let mut takes = [0u64; 1024];
-    let mut line_follow = [0u64; 1024];
-    let f = forms::node(nodes, root, base, &mut follow, &mut takes, false);
-    let out = rows::front(follow, base * 4);
-    let bytes = rows::front(takes, base * 4);
-    let g = forms::node(nodes, root, base, &mut line_follow, &mut takes, true);
+    let f = forms::node(nodes, root, base, &mut follow, &mut takes, world);
     let first = f.first;
-    let start = f.starts;
     let last = f.last;
-    let end = f.ends;
-    let line_first = g.first;
-    let line_start = g.starts;
-    let line_last = g.last;
     Parts {
         fits: true,
         positions: f.size,
         first,
-        start,
         last,
-        end,
-        follow: out,
-        takes: bytes,
-        line_first,
-        line_start,
-        line_last,
-        line_follow: rows::front(line_follow, base * 4),
+        follow: rows::front(follow, base * 4),
+        takes: rows::front(takes, base * 4),
     }
 }
 
-// The parts of the tree of node `root`, its positions numbered from `base` on.
-pub fn build(nodes: &[u64], root: usize, base: usize) -> Parts
-    ensures { λ r. ⌜ r ≡ partsOf (treeAt (now (nodes .entry)) root) base ⌝ }
+// The parts of the tree of node `root`, its positions numbered from `base` on, where the assertions that hold are digits of `world`.
+pub fn build(nodes: &[u64], root: usize, base: usize, world: u64) -> Parts
+    ensures { λ r. ⌜ r ≡ partsOf (treeAt (now (nodes .entry)) root) base world ⌝ }
 {
     let n = nodes::count(nodes, root) as usize;
     if n > 256 {
@@ -95,5 +68,5 @@ pub fn build(nodes: &[u64], root: usize, base: usize) -> Parts
     if base > 256 - n {
         return none();
     }
-    whole(nodes, root, base)
+    whole(nodes, root, base, world)
 }

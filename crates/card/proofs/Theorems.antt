@@ -20,13 +20,19 @@ use Rattle.card.specs.Crc.{crc32}
 use Rattle.card.specs.Block.{payloadAt, payloadBytes, payloadWords, crcAt, blocks, firstWord, wordsIn, usedIn, frontOf, imageOf}
 use Rattle.card.specs.Calls.{answer, fits, writeAnswer, writtenBlock, isBlock, readAnswer, readWords}
 use Rattle.card.specs.Invariants.{frontByte}
-use Rattle.card.specs.Theorems.{AreWords, Written, ReadBack, readAll, ReadBackAll, OneImage, OneTable, WrongPart, ChangedByte, WriteKept, ReadKept, WriteLocal, ReadLocal}
+use Rattle.card.specs.Theorems.{AreWords, Counts, Written, ReadBack, readAll, ReadBackAll, OneImage, OneTable, WrongPart, ChangedByte, WriteKept, ReadKept, WriteLocal, ReadLocal}
 use Rattle.card.proofs.Checksum.{AreBytes, crc-told, bytes-take}
 use Rattle.card.proofs.Numbers.{listOf-is, listOf-ext, number-same, byte-number}
 use Rattle.card.proofs.Images.{words-within, over-between, front-is, read-words}
 use Rattle.card.proofs.Blocks.{blank, passes, accepted, refused}
 use Rattle.card.proofs.Answers.{fits-both, write-no-table, write-no-block, write-done, read-no-words, read-no-block, read-done}
 use Rattle.card.proofs.Accepted.{length-image, image-bytes, image-sum, image-passes, image-word, image-read, accepted-image}
+
+-- ---- how many blocks there are, and what they hold
+
+pub counts : Counts
+unfolding wordsIn
+counts = (refl, refl, λ i h. omega arith)
 
 -- ---- the ways through a call
 

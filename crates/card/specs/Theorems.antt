@@ -18,6 +18,10 @@ AreBytes s = (j : ℕ) → getD s j 0 < 2 ^ 8
 abbrev pub AreWords : List ℕ → Type 0
 AreWords t = (w : ℕ) → getD t w 0 < 2 ^ 64
 
+-- "16,384 words take 261 blocks, the last with 32 bytes used, all others with 504."
+abbrev pub Counts : Type 0
+Counts = (blocks ≡ 261) × (usedIn 260 ≡ 32) × ((i : ℕ) → i < 260 → usedIn i ≡ 504)
+
 -- Each block of a table is written into any block of 512 bytes, whatever that held.
 abbrev pub Written : Type 0
 Written = (t : List ℕ) → isTable t ≡ true → (i : ℕ) → i < blocks → (b : List ℕ) → length b ≡ blockBytes

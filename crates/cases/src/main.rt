@@ -124,7 +124,7 @@ fn excerpts() {
 }
 
 fn main() {
-    let mut words = [0u64; 4096];
+    let mut words = [0u64; 16384];
     let table: &mut [u64] = &mut words;
     rules(table);
     closing(table);

@@ -8,7 +8,7 @@ use Rattle.sets.specs.Set.{setOf, emptySet, insertedRange, unionOf, complementO
 use Rattle.kinds.specs.Kind.{isKind, isNotKind}
 use Rattle.kinds.specs.Case.{caseClosed}
 use Rattle.atoms.specs.declared.Atom.{Atom}
-use Rattle.atoms.specs.declared.Atom.the-variants.{Byte, OfKind, NotOfKind, Dot, NotNewline, Start, LastLine, End}
+use Rattle.atoms.specs.declared.Atom.the-variants.{Byte, OfKind, NotOfKind, Dot, NotNewline, Start, LastLine, End, Caret, Dollar, WordEdge, NoWordEdge}
 use Rattle.atoms.specs.declared.Part.{Part}
 use Rattle.classes.specs.declared.Member.{Member}
 use Rattle.atoms.specs.declared.Gap.{Gap}
@@ -47,6 +47,10 @@ isType NotNewline = false
 isType Start = false
 isType LastLine = false
 isType End = false
+isType Caret = false
+isType Dollar = false
+isType WordEdge = false
+isType NoWordEdge = false
 
 -- the byte that an atom stands for, else 0
 abbrev pub byteOf : Atom → ℕ
@@ -58,6 +62,10 @@ byteOf NotNewline = 0
 byteOf Start = 0
 byteOf LastLine = 0
 byteOf End = 0
+byteOf Caret = 0
+byteOf Dollar = 0
+byteOf WordEdge = 0
+byteOf NoWordEdge = 0
 
 -- 9, "range falling, or with a type such as `\d` at either end": the fault of the two ends as a range. A faulty end is no type, and its byte is
 -- not compared.
@@ -120,6 +128,10 @@ joined set NotNewline high = set
 joined set Start high = set
 joined set LastLine high = set
 joined set End high = set
+joined set Caret high = set
+joined set Dollar high = set
+joined set WordEdge high = set
+joined set NoWordEdge high = set
 
 -- a refusal's number and place
 abbrev pub refusedClass : ℕ → ℕ → Class

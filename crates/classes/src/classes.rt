@@ -21,11 +21,7 @@ fn join(set: [u64; 4], low: Atom, high: Atom) -> [u64; 4]
         Atom::Byte(b) => sets::insert_range(set, b, byte_of(high)),
         Atom::OfKind(k) => sets::union(set, kinds::of_kind(k)),
         Atom::NotOfKind(k) => sets::union(set, kinds::not_of_kind(k)),
-        Atom::Dot => set,
-        Atom::NotNewline => set,
-        Atom::Start => set,
-        Atom::LastLine => set,
-        Atom::End => set,
+        _ => set,
     }
 }
 

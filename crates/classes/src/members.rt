@@ -52,14 +52,8 @@ fn is_type(atom: Atom) -> bool
     ensures { λ r. ⌜ r ≡ isType atom ⌝ }
 {
     match atom {
-        Atom::Byte(_) => false,
-        Atom::OfKind(_) => true,
-        Atom::NotOfKind(_) => true,
-        Atom::Dot => false,
-        Atom::NotNewline => false,
-        Atom::Start => false,
-        Atom::LastLine => false,
-        Atom::End => false,
+        Atom::OfKind(_) | Atom::NotOfKind(_) => true,
+        _ => false,
     }
 }
 
@@ -69,13 +63,7 @@ pub(super) fn byte_of(atom: Atom) -> u8
 {
     match atom {
         Atom::Byte(b) => b,
-        Atom::OfKind(_) => 0,
-        Atom::NotOfKind(_) => 0,
-        Atom::Dot => 0,
-        Atom::NotNewline => 0,
-        Atom::Start => 0,
-        Atom::LastLine => 0,
-        Atom::End => 0,
+        _ => 0,
     }
 }
 

@@ -4,19 +4,25 @@ use mathlib.Core.Path.{_≡_, refl, sym, ap, ap₂, _∙_}
 use mathlib.Core.Bool.{Bool, true, false, cond, not, _&&_, _||_}
 use mathlib.Core.List.{List, [], _∷_, _++_}
 use Prim.Native.Nat.{ℕ, zero, suc, _+_, _-_, _/_, _%_, _≤_, _<_}
+use native.Mathlib.Nat.{lt-trans}
 use native.Mathlib.Omega.{arith}
 use native.Mathlib.Decide.{decLt}
-use lib.Dec.{eqb, leb, ltb}
+use lib.Dec.{eqb, leb, ltb, lit<}
 use lib.ListN.{length, getD, replicate}
 use borrow.Author.Tests.{le-ltb}
 use Rattle.sets.specs.Set.{on, has, any, emptySet, unionOf, sizeOf}
 use Rattle.sets.proofs.Laws.{has-setOf, has-empty, has-union, setOf-ext, any-ext}
 use Rattle.sets.proofs.Digits.{wordOf-ext}
+use Rattle.kinds.specs.declared.Side.{Side}
+use Rattle.kinds.specs.declared.Side.the-variants.{Newline}
+use Rattle.kinds.specs.Side.{sideOf}
 use Rattle.table.specs.Layout.{maxPositions}
-use Rattle.table.specs.Automaton.{Automaton, firstIn, startIn, followIn, lastIn}
-use Rattle.steps.specs.Step.{starts, stepped, ends, endsLine, endsAtEnd}
+use Rattle.table.specs.Gaps.{between, beforeLast, unsettled, atEnd, gapOf, firstGap, firstGaps, followGaps, lastGaps}
+use Rattle.table.specs.Automaton.{Automaton}
+use Rattle.table.proofs.GapBounds.{between-inner, beforeLast-follow, atEnd-last, gapOf-follow, firstGap-first}
+use Rattle.steps.specs.Step.{stepped, ends, endsNewly}
 use Rattle.stream.specs.declared.Stream.{Stream}
-use Rattle.stream.specs.Byte.{nextLive, nextHeld, nextPending, runIds, runMarks, byteIds, byteState, stateAfter, idsOf, endsOf, costOf, fits, lineIds, endIds, closeIds, closeEnds}
+use Rattle.stream.specs.Byte.{nextLive, nextHeld, nextPending, runIds, runMarks, twoIds, twoEnds, twoMarks, lateTest, ownTest, heldTest, endTest, byteIds, byteEnds, byteState, stateAfter, idsOf, endsOf, costOf, fits, closeIds, closeEnds}
 
 -- what the two say of the rules and positions that they have
 pub record Agree (w v : Automaton) : Type 0 where
@@ -24,12 +30,10 @@ pub record Agree (w v : Automaton) : Type 0 where
   pub positions : w .positions ≡ v .positions
   pub id : (a : ℕ) → a < w .rules → w .id a ≡ v .id a
   pub flags : (a : ℕ) → a < w .rules → w .flags a ≡ v .flags a
-  pub first : (line : Bool) (q : ℕ) → q < w .positions → firstIn w line q ≡ firstIn v line q
-  pub start : (line : Bool) (q : ℕ) → q < w .positions → startIn w line q ≡ startIn v line q
-  pub follow : (line : Bool) (p q : ℕ) → q < w .positions → followIn w line p q ≡ followIn v line p q
+  pub first : (g q : ℕ) → g < firstGaps → q < w .positions → w .first g q ≡ v .first g q
+  pub follow : (g p q : ℕ) → g < followGaps → q < w .positions → w .follow g p q ≡ v .follow g p q
   pub takes : (x q : ℕ) → x < 256 → q < w .positions → w .takes x q ≡ v .takes x q
-  pub last : (line : Bool) (a p : ℕ) → a < w .rules → p < w .positions → lastIn w line a p ≡ lastIn v line a p
-  pub last-at-end : (a p : ℕ) → a < w .rules → p < w .positions → w .lastAtEnd a p ≡ v .lastAtEnd a p
+  pub last : (g a p : ℕ) → g < lastGaps → a < w .rules → p < w .positions → w .last g a p ≡ v .last g a p
 
 -- below n two tests agree, and past it nothing is asked
 below : (n m q : ℕ) (b c : Bool) → n ≡ m → (q < n → b ≡ c) → (ltb q n && b) ≡ (ltb q m && c)
@@ -55,43 +59,44 @@ module _ (w v : Automaton) (same : Agree w v) where
   abbrev pub Inside : Stream → Type 0
   Inside s = Within (s .live) × Within (s .held)
 
-  step-agrees : (line : Bool) (live : List ℕ) (taken x : ℕ) → x < 256 → stepped w line (w .positions) live taken x ≡ stepped v line (v .positions) live taken x
-  unfolding stepped starts
-  step-agrees line live taken x small =
-      setOf-ext _ _ (λ q lt. below (w .positions) (v .positions) q _ _ (same .positions) (λ l.
-      ap₂ _&&_ (same .takes x q small l)
-      (ap₂ _||_ (ap₂ (cond (eqb taken 0)) (same .start line q l) (same .first line q l))
-      (any-ext maxPositions _ _ (λ p m. ap (λ (b : Bool). has live p && b) (same .follow line p q l))))))
+  module _ (line : Bool) (before after : Side) (live : List ℕ) (taken x : ℕ) where
+    step-agrees : x < 256 → stepped w line before after (w .positions) live taken x ≡ stepped v line before after (v .positions) live taken x
+    unfolding stepped
+    step-agrees small =
+        setOf-ext _ _ (λ q lt. below (w .positions) (v .positions) q _ _ (same .positions) (λ l.
+        ap₂ _&&_ (same .takes x q small l)
+        (ap₂ _||_ (same .first (firstGap line taken before after) q (firstGap-first line taken before after) l)
+        (any-ext maxPositions _ _ (λ p m. ap (λ (b : Bool). has live p && b) (same .follow (gapOf line before after) p q (gapOf-follow line before after) l))))))
 
-  step-inside : (line : Bool) (live : List ℕ) (taken x : ℕ) → Within (stepped w line (w .positions) live taken x)
-  unfolding stepped
-  step-inside line live taken x q lt h = go (decLt q (w .positions))
-    where
-      f : ℕ → Bool
-      f q = ltb q (w .positions) && (w .takes x q && (starts w line taken q || any maxPositions (λ p. has live p && followIn w line p q)))
+    step-inside : Within (stepped w line before after (w .positions) live taken x)
+    unfolding stepped
+    step-inside q lt h = go (decLt q (w .positions))
+      where
+        rest : ℕ → Bool
+        rest q = w .takes x q && (w .first (firstGap line taken before after) q || any maxPositions (λ p. has live p && w .follow (gapOf line before after) p q))
 
-      go : Dec (q < w .positions) → q < w .positions
-      go (yes l) = l
-      go (no ge) =
-          absurd (mathlib.Core.Bool.true≢false (sym h ∙ has-setOf f q lt
-          ∙ ap (λ (b : Bool). b && (w .takes x q && (starts w line taken q || any maxPositions (λ p. has live p && followIn w line p q)))) (le-ltb q (w .positions) (omega arith))))
+        go : Dec (q < w .positions) → q < w .positions
+        go (yes l) = l
+        go (no ge) =
+            absurd (mathlib.Core.Bool.true≢false (sym h ∙ has-setOf (λ q. ltb q (w .positions) && rest q) q lt
+            ∙ ap (λ (b : Bool). b && rest q) (le-ltb q (w .positions) (omega arith))))
 
   next-agrees : (s : Stream) (x : ℕ) → x < 256 → nextLive w s x ≡ nextLive v s x
-  next-agrees s x small = step-agrees false (s .live) (s .taken) x small
+  next-agrees s x small = step-agrees false (s .last) (sideOf x) (s .live) (s .taken) x small
 
   next-inside : (s : Stream) (x : ℕ) → Within (nextLive w s x)
-  next-inside s x = step-inside false (s .live) (s .taken) x
+  next-inside s x = step-inside false (s .last) (sideOf x) (s .live) (s .taken) x
 
   held-agrees : (s : Stream) (x : ℕ) → x < 256 → nextHeld w s x ≡ nextHeld v s x
   unfolding nextHeld
-  held-agrees s x small = ap (λ (l : List ℕ). cond (eqb x 10) l emptySet) (step-agrees true (s .live) (s .taken) x small)
+  held-agrees s x small = ap (λ (l : List ℕ). cond (eqb x 10) l emptySet) (step-agrees true (s .last) (sideOf x) (s .live) (s .taken) x small)
 
   held-inside : (s : Stream) (x : ℕ) → Within (nextHeld w s x)
   unfolding nextHeld
   held-inside s x = go (eqb x 10)
     where
-      go : (b : Bool) → Within (cond b (stepped w true (w .positions) (s .live) (s .taken) x) emptySet)
-      go true = step-inside true (s .live) (s .taken) x
+      go : (b : Bool) → Within (cond b (stepped w true (s .last) (sideOf x) (w .positions) (s .live) (s .taken) x) emptySet)
+      go true = step-inside true (s .last) (sideOf x) (s .live) (s .taken) x
       go false = λ q lt h. absurd (mathlib.Core.Bool.true≢false (sym h ∙ has-empty q lt))
 
   union-inside : (l m : List ℕ) → Within l → Within m → Within (unionOf l m)
@@ -101,18 +106,15 @@ module _ (w v : Automaton) (same : Agree w v) where
       go true e = f q lt e
       go false e = g q lt (sym (ap (λ (b : Bool). b || has m q) e) ∙ sym (has-union l m q lt) ∙ h)
 
-  module _ (live : List ℕ) (inside : Within live) (a : ℕ) (lt : a < w .rules) where
-    ends-agrees : ends w live a ≡ ends v live a
-    unfolding ends
-    ends-agrees = any-ext maxPositions _ _ (λ p m. both (has live p) _ _ (λ e. same .last false a p lt (inside p m e)))
+  ends-agrees : (g : ℕ) → g < lastGaps → (live : List ℕ) → Within live → (a : ℕ) → a < w .rules → ends w g live a ≡ ends v g live a
+  unfolding ends
+  ends-agrees g there live inside a lt = any-ext maxPositions _ _ (λ p m. both (has live p) _ _ (λ e. same .last g a p there lt (inside p m e)))
 
-    line-agrees : endsLine w live a ≡ endsLine v live a
-    unfolding endsLine
-    line-agrees = any-ext maxPositions _ _ (λ p m. both (has live p) _ _ (λ e. same .last true a p lt (inside p m e)))
-
-    end-agrees : endsAtEnd w live a ≡ endsAtEnd v live a
-    unfolding endsAtEnd
-    end-agrees = any-ext maxPositions _ _ (λ p m. both (has live p) _ _ (λ e. same .last-at-end a p lt (inside p m e)))
+  newly-agrees : (g : ℕ) → g < lastGaps → (set : List ℕ) → Within set → (less : ℕ) → less < lastGaps → (live : List ℕ) → Within live
+      → (a : ℕ) → a < w .rules → endsNewly w g set less live a ≡ endsNewly v g set less live a
+  unfolding endsNewly
+  newly-agrees g there set in-set less known live in-live a lt =
+      ap₂ (λ (b c : Bool). b && not c) (ends-agrees g there set in-set a lt) (ends-agrees less known live in-live a lt)
 
   runs-agree : (f g : ℕ → Bool) (marks n : ℕ) → n ≤ w .rules → ((a : ℕ) → a < n → f a ≡ g a) → runIds w f marks n ≡ runIds v g marks n
   unfolding runIds
@@ -127,9 +129,25 @@ module _ (w v : Automaton) (same : Agree w v) where
       wordOf-ext 64 _ _ (λ a h. ap (λ (b : Bool). on marks a || b) (below (w .rules) (v .rules) a _ _ (same .rules)
       (λ l. ap₂ (λ (i : ℕ) (b : Bool). eqb (i / 8 % 2) 1 && b) (same .flags a l) (e a l))))
 
-  -- the run of one byte and of the closing
   run-agrees : (f g : ℕ → Bool) (marks : ℕ) → ((a : ℕ) → a < w .rules → f a ≡ g a) → runIds w f marks (w .rules) ≡ runIds v g marks (v .rules)
   run-agrees f g marks e = runs-agree f g marks (w .rules) (omega arith) e ∙ ap (runIds v g marks) (same .rules)
+
+  -- the two runs of a byte and of the closing
+  module _ (f f′ g g′ : ℕ → Bool) (marks : ℕ) (one : (a : ℕ) → a < w .rules → f a ≡ f′ a) (two : (a : ℕ) → a < w .rules → g a ≡ g′ a) where
+    second-agrees : runIds w g (runMarks w f marks) (w .rules) ≡ runIds v g′ (runMarks v f′ marks) (v .rules)
+    second-agrees = run-agrees g g′ (runMarks w f marks) two ∙ ap (λ (m : ℕ). runIds v g′ m (v .rules)) (marks-agree f f′ marks one)
+
+    two-ids-agree : twoIds w f g marks ≡ twoIds v f′ g′ marks
+    unfolding twoIds
+    two-ids-agree = ap₂ _++_ (run-agrees f f′ marks one) second-agrees
+
+    two-ends-agree : (d e : ℕ) → twoEnds w f g marks d e ≡ twoEnds v f′ g′ marks d e
+    unfolding twoEnds
+    two-ends-agree d e = ap₂ (λ (l m : List ℕ). replicate (length l) d ++ replicate (length m) e) (run-agrees f f′ marks one) second-agrees
+
+    two-marks-agree : twoMarks w f g marks ≡ twoMarks v f′ g′ marks
+    unfolding twoMarks
+    two-marks-agree = marks-agree g g′ (runMarks w f marks) two ∙ ap (runMarks v g′) (marks-agree f f′ marks one)
 
   -- the rules with a held pair
   pending-agrees : (s : Stream) → Within (s .live) → (x : ℕ) → nextPending w s x ≡ nextPending v s x
@@ -137,15 +155,25 @@ module _ (w v : Automaton) (same : Agree w v) where
   pending-agrees s inside x =
       ap (λ (n : ℕ). cond (eqb x 10 && ltb 0 (s .taken)) n 0)
       (wordOf-ext 64 _ _ (λ a h. below (w .rules) (v .rules) a _ _ (same .rules)
-      (λ l. ap₂ (λ (b c : Bool). b && not c) (line-agrees (s .live) inside a l) (ends-agrees (s .live) inside a l))))
+      (λ l. newly-agrees (beforeLast (s .last)) (lt-trans (beforeLast-follow (s .last)) (lit< tt)) (s .live) inside
+      (between (s .last) Newline) (lt-trans (between-inner (s .last) Newline) (lit< tt)) (s .live) inside a l)))
 
   module _ (s : Stream) (inside : Within (s .live)) (x : ℕ) (small : x < 256) where
-    ending : (a : ℕ) → a < w .rules → ends w (nextLive w s x) a ≡ ends v (nextLive v s x) a
-    ending a lt = ends-agrees (nextLive w s x) (next-inside s x) a lt ∙ ap (λ (l : List ℕ). ends v l a) (next-agrees s x small)
+    late-agrees : (a : ℕ) → a < w .rules → lateTest w s x a ≡ lateTest v s x a
+    late-agrees a lt =
+        newly-agrees (between (s .last) (sideOf x)) (lt-trans (between-inner (s .last) (sideOf x)) (lit< tt)) (s .live) inside unsettled (lit< tt) (s .live) inside a lt
+
+    own-agrees : (a : ℕ) → a < w .rules → ownTest w s x a ≡ ownTest v s x a
+    own-agrees a lt =
+        ends-agrees unsettled (lit< tt) (nextLive w s x) (next-inside s x) a lt ∙ ap (λ (l : List ℕ). ends v unsettled l a) (next-agrees s x small)
 
     ids-agree : byteIds w s x ≡ byteIds v s x
     unfolding byteIds
-    ids-agree = run-agrees _ _ (s .reported) ending
+    ids-agree = two-ids-agree (lateTest w s x) (lateTest v s x) (ownTest w s x) (ownTest v s x) (s .reported) late-agrees own-agrees
+
+    ends-agree : byteEnds w s x ≡ byteEnds v s x
+    unfolding byteEnds
+    ends-agree = two-ends-agree (lateTest w s x) (lateTest v s x) (ownTest w s x) (ownTest v s x) (s .reported) late-agrees own-agrees (s .taken) (suc (s .taken))
 
     state-agrees : byteState w s x ≡ byteState v s x
     unfolding byteState
@@ -153,8 +181,9 @@ module _ (w v : Automaton) (same : Agree w v) where
         λ i. record {
           live = next-agrees s x small i;
           held = held-agrees s x small i;
-          reported = marks-agree _ _ (s .reported) ending i;
+          reported = two-marks-agree (lateTest w s x) (lateTest v s x) (ownTest w s x) (ownTest v s x) (s .reported) late-agrees own-agrees i;
           pending = pending-agrees s inside x i;
+          last = sideOf x;
           taken = suc (s .taken);
           rules = s .rules;
           positions = s .positions;
@@ -175,20 +204,21 @@ module _ (w v : Automaton) (same : Agree w v) where
     states-agree (suc k) le =
         state-agrees (stateAfter w s block k) (inside-after s block inside k .0) (getD block k 0) (small k le) ∙ ap (λ (x : Stream). byteState v x (getD block k 0)) (states-agree k (omega arith))
 
-    bytes-agree : (k : ℕ) → k < length block → byteIds w (stateAfter w s block k) (getD block k 0) ≡ byteIds v (stateAfter v s block k) (getD block k 0)
-    bytes-agree k lt =
-        ids-agree (stateAfter w s block k) (inside-after s block inside k .0) (getD block k 0) (small k lt) ∙ ap (λ (x : Stream). byteIds v x (getD block k 0)) (states-agree k (omega arith))
-
     pub all-ids-agree : (k : ℕ) → k ≤ length block → idsOf w s block k ≡ idsOf v s block k
     unfolding idsOf
     all-ids-agree zero le = refl
-    all-ids-agree (suc k) le = ap₂ _++_ (all-ids-agree k (omega arith)) (bytes-agree k le)
+    all-ids-agree (suc k) le =
+        ap₂ _++_ (all-ids-agree k (omega arith))
+        (ids-agree (stateAfter w s block k) (inside-after s block inside k .0) (getD block k 0) (small k le)
+        ∙ ap (λ (x : Stream). byteIds v x (getD block k 0)) (states-agree k (omega arith)))
 
     pub all-ends-agree : (k : ℕ) → k ≤ length block → endsOf w s block k ≡ endsOf v s block k
     unfolding endsOf
     all-ends-agree zero le = refl
     all-ends-agree (suc k) le =
-        ap₂ (λ (l i : List ℕ). l ++ replicate (length i) (s .taken + suc k)) (all-ends-agree k (omega arith)) (bytes-agree k le)
+        ap₂ _++_ (all-ends-agree k (omega arith))
+        (ends-agree (stateAfter w s block k) (inside-after s block inside k .0) (getD block k 0) (small k le)
+        ∙ ap (λ (x : Stream). byteEnds v x (getD block k 0)) (states-agree k (omega arith)))
 
     costs-agree : (k : ℕ) → k ≤ length block → costOf w s block k ≡ costOf v s block k
     unfolding costOf
@@ -203,21 +233,15 @@ module _ (w v : Automaton) (same : Agree w v) where
         (ap₂ (λ (l : List ℕ) (n : ℕ). leb (length l) room && leb n allowance) (all-ids-agree (suc k) le) (costs-agree (suc k) le)) (fits-agree allowance room k (omega arith))
 
   module _ (s : Stream) (inside : Inside s) where
-    line-ids-agree : lineIds w s ≡ lineIds v s
-    unfolding lineIds
-    line-ids-agree = run-agrees _ _ (s .reported) (λ a lt. refl)
-
-    end-ids-agree : endIds w s ≡ endIds v s
-    unfolding endIds
-    end-ids-agree =
-        run-agrees _ _ (runMarks w (on (s .pending)) (s .reported))
-        (λ a lt. ap₂ (λ (b c : Bool). b && not c) (end-agrees (unionOf (s .live) (s .held)) (union-inside (s .live) (s .held) (inside .0) (inside .1)) a lt) (ends-agrees (s .live) (inside .0) a lt))
-        ∙ ap (λ (m : ℕ). runIds v (λ a. endsAtEnd v (unionOf (s .live) (s .held)) a && not (ends v (s .live) a)) m (v .rules)) (marks-agree _ _ (s .reported) (λ a lt. refl))
+    end-agrees : (a : ℕ) → a < w .rules → endTest w s a ≡ endTest v s a
+    end-agrees a lt =
+        newly-agrees (atEnd (s .last)) (atEnd-last (s .last)) (unionOf (s .live) (s .held)) (union-inside (s .live) (s .held) (inside .0) (inside .1))
+        unsettled (lit< tt) (s .live) (inside .0) a lt
 
     pub closing-agrees : closeIds w s ≡ closeIds v s
     unfolding closeIds
-    closing-agrees = ap₂ _++_ line-ids-agree end-ids-agree
+    closing-agrees = two-ids-agree (heldTest w s) (heldTest v s) (endTest w s) (endTest v s) (s .reported) (λ a lt. refl) end-agrees
 
     pub closing-ends-agree : closeEnds w s ≡ closeEnds v s
     unfolding closeEnds
-    closing-ends-agree = ap₂ (λ (l m : List ℕ). replicate (length l) (s .taken - 1) ++ replicate (length m) (s .taken)) line-ids-agree end-ids-agree
+    closing-ends-agree = two-ends-agree (heldTest w s) (heldTest v s) (endTest w s) (endTest v s) (s .reported) (λ a lt. refl) end-agrees (s .taken - 1) (s .taken)

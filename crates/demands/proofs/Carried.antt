@@ -2,7 +2,7 @@
 -- its own first one on. What rules proves of the built words (`Built`) gives it, each set through the relation that it computes. Assumes nothing.
 use mathlib.Core.Path.{_≡_, refl, sym, subst, ap, _∙_}
 use mathlib.Core.Logic.{_↔_}
-use mathlib.Core.Bool.{Bool, true, false}
+use mathlib.Core.Bool.{Bool}
 use mathlib.Core.List.{List, [], _∷_, map, List·Memᴰ, List·Memᴰ·head, List·Memᴰ·tail, Memᴰ·of-map, Memᴰ·map, Memᴰ·cast}
 use Prim.Native.Nat.{ℕ, _+_, _/_, _%_, _≤_, _<_}
 use native.Mathlib.Decide.{decLt}
@@ -11,15 +11,16 @@ use lib.Dec.{T, eqb}
 use lib.ListN.{length}
 use Rattle.sets.specs.Set.{has}
 use Rattle.table.specs.Layout.{maxRules, maxPositions, rulesOf, positionsOf}
-use Rattle.table.specs.Automaton.{Automaton, automaton, single, firstIn, startIn, followIn, lastIn}
+use Rattle.table.specs.Gaps.{firstGaps, followGaps, lastGaps}
+use Rattle.table.specs.Automaton.{Automaton, automaton, single}
 use Rattle.regex.specs.Form.{Form, write, positions}
-use Rattle.regex.specs.Rule.{Rule, ByteSet, Assertion, world}
+use Rattle.regex.specs.Rule.{Rule, ByteSet, Assertion}
 use Rattle.regex.specs.Automaton.{first, last, follow}
 use Rattle.regex.proofs.Relations.{First, Last, Follow, Takes}
 use Rattle.regex.proofs.Computed.{first-T, last-T, follow-T}
 use Rattle.rules.specs.Additions.{Accepted, ruleOf, size, used}
 use Rattle.rules.proofs.Sorted.{Placed, at, laid, byId, byId-rule, byId-mem, mem-at, laid-mem}
-use Rattle.rules.proofs.Encodes.{Encodes, Of, itemOf, takes-same, items-taken}
+use Rattle.rules.proofs.Encodes.{Encodes, Of, itemOf, worldAt, takes-same, items-taken}
 use Rattle.rules.proofs.Additions.{Built}
 
 -- the written-out form of a rule
@@ -42,12 +43,10 @@ pub record Carries (w : Automaton) (rule : ℕ → Rule) (from : ℕ → ℕ) (t
   pub apart : (a b q : ℕ) → a < w .rules → b < w .rules → Within (from a) (rule a) q → Within (from b) (rule b) q → a ≡ b
   pub takes : (a : ℕ) → a < w .rules → Takes tab (formOf (rule a)) (from a)
   pub takes-is : (q x : ℕ) → q < w .positions → x < 256 → T (w .takes x q) ↔ T (has (tab q) x)
-  pub first-is : (line : Bool) (a q : ℕ) → a < w .rules → Within (from a) (rule a) q → T (firstIn w line q) ↔ First (world false line false) (formOf (rule a)) (from a) q
-  pub start-is : (line : Bool) (a q : ℕ) → a < w .rules → Within (from a) (rule a) q → T (startIn w line q) ↔ First (world true line false) (formOf (rule a)) (from a) q
-  pub follow-is : (line : Bool) (a p q : ℕ) → a < w .rules → p < w .positions → Within (from a) (rule a) q
-      → T (followIn w line p q) ↔ Follow (world false line false) (formOf (rule a)) (from a) p q
-  pub last-is : (line : Bool) (a p : ℕ) → a < w .rules → p < w .positions → T (lastIn w line a p) ↔ Last (world false line false) (formOf (rule a)) (from a) p
-  pub last-at-end-is : (a p : ℕ) → a < w .rules → p < w .positions → T (w .lastAtEnd a p) ↔ Last (world false true true) (formOf (rule a)) (from a) p
+  -- at each gap, by its number
+  pub first-is : (g a q : ℕ) → g < firstGaps → a < w .rules → Within (from a) (rule a) q → T (w .first g q) ↔ First (worldAt g) (formOf (rule a)) (from a) q
+  pub follow-is : (g a p q : ℕ) → g < followGaps → a < w .rules → Within (from a) (rule a) q → T (w .follow g p q) ↔ Follow (worldAt g) (formOf (rule a)) (from a) p q
+  pub last-is : (g a p : ℕ) → g < lastGaps → a < w .rules → p < w .positions → T (w .last g a p) ↔ Last (worldAt g) (formOf (rule a)) (from a) p
 
 -- ---- what additions built
 
@@ -139,11 +138,9 @@ module _ (t : List ℕ) (rs : List Accepted) (b : Built t rs) where
     takes-is = λ q x l small. let c = e .covered q l in
         by-set (w .takes x q) (has (tab q) x)
         (e .rule (c .0) (c .1) .takes-is x q small (c .2) ∙ ap (λ (s : ByteSet). has s x) (sym (tab-is (c .0) q (c .1) (c .2)))) (λ h. h, λ h. h);
-    first-is = λ z a q lt i. by-set (firstIn w z q) (first (world false z false) (formOf (rule a)) (from a) q) (e .rule a (in-list a lt) .first-is z q i) (first-T (world false z false) (formOf (rule a)) (from a) q);
-    start-is = λ z a q lt i. by-set (startIn w z q) (first (world true z false) (formOf (rule a)) (from a) q) (e .rule a (in-list a lt) .start-is z q i) (first-T (world true z false) (formOf (rule a)) (from a) q);
-    follow-is = λ z a p q lt l i. by-set (followIn w z p q) (follow (world false z false) (formOf (rule a)) (from a) p q) (e .rule a (in-list a lt) .follow-is z p q i) (follow-T (world false z false) (formOf (rule a)) (from a) p q);
-    last-is = λ z a p lt l. by-set (lastIn w z a p) (last (world false z false) (formOf (rule a)) (from a) p) (e .rule a (in-list a lt) .last-is z p l) (last-T (world false z false) (formOf (rule a)) (from a) p);
-    last-at-end-is = λ a p lt l. by-set (w .lastAtEnd a p) (last (world false true true) (formOf (rule a)) (from a) p) (e .rule a (in-list a lt) .end-is p l) (last-T (world false true true) (formOf (rule a)) (from a) p);
+    first-is = λ g a q lg lt i. by-set (w .first g q) (first (worldAt g) (formOf (rule a)) (from a) q) (e .rule a (in-list a lt) .first-is g q lg i) (first-T (worldAt g) (formOf (rule a)) (from a) q);
+    follow-is = λ g a p q lg lt i. by-set (w .follow g p q) (follow (worldAt g) (formOf (rule a)) (from a) p q) (e .rule a (in-list a lt) .follow-is g p q lg i) (follow-T (worldAt g) (formOf (rule a)) (from a) p q);
+    last-is = λ g a p lg lt l. by-set (w .last g a p) (last (worldAt g) (formOf (rule a)) (from a) p) (e .rule a (in-list a lt) .last-is g p lg l) (last-T (worldAt g) (formOf (rule a)) (from a) p);
   }
 
   listed : (r : Rule) → List·Memᴰ r (map ruleOf rs) ↔ ((a : ℕ) × (a < w .rules) × (r ≡ rule a))

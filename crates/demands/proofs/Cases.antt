@@ -1,12 +1,13 @@
 -- The worked cases come out as they must: the checker reads every pattern, adds every rule and follows every log by the definitions, with the automaton of
--- the accepted rules in place of 4,096 words, and what is proved of it (Logs) carries the answer to the calls. Assumes nothing.
+-- the accepted rules in place of 16,384 words, and what is proved of it (Logs) carries the answer to the calls. Assumes nothing.
 use mathlib.Core.Path.{_≡_, refl, sym, subst, ap₂, _∙_}
 use mathlib.Core.Bool.{Bool, true, false, cond, _&&_}
 use mathlib.Core.List.{List, [], _∷_, map, zip, List·Memᴰ, List·Memᴰ·head, List·Memᴰ·tail, List·Memᴰ·not-nil, cons-ne-nil}
 use Prim.Native.Nat.{ℕ}
 use lib.Dec.{T, eqb, eqb→eq}
 use Rattle.sets.specs.Set.{on, has, setOf, wordOf, any, emptySet, insertedRange, unionOf, complementOf, inserted, fullSet}
-use Rattle.kinds.specs.Kind.{isDigit, isLower, isUpper, isBlank, isAlpha, isAlnum, isCntrl}
+use Rattle.kinds.specs.Kind.{isDigit, isLower, isUpper, isBlank, isAlpha, isAlnum, isCntrl, isWord}
+use Rattle.kinds.specs.Side.{sideOf}
 use Rattle.kinds.specs.Case.{otherCase, caseClosed}
 use Rattle.atoms.specs.Number.{digitOf, digits, valueFrom, blanks, numeralOf}
 use Rattle.atoms.specs.Escape.{bracedOf, shortOf, flipped64, raised, controlOf, typeOf, namedOf, placedOf, hexOf, octalOf, escapeOf}
@@ -18,6 +19,7 @@ use Rattle.classes.specs.Class.{bracketOf, memberOf, rangeFault, jointOf, spell
 use Rattle.tokens.specs.Option.{lettersOf, beforeClose, commentOf, openingOf}
 use Rattle.tokens.specs.Quantifier.{bounded, open-ended, bracesOf, formOf, marked, quantifierOf}
 use Rattle.tokens.specs.Token.{escaped, unquotedOf, spelledOf, lexemeOf, itemSet}
+use Rattle.table.specs.Gaps.{between, beforeLast, atEnd, atStart, gapOf as gapBefore, firstGap}
 use Rattle.table.specs.Table.{all, emptied}
 use Rattle.regex.specs.Count.{copied, capped, saturating, nullable}
 use Rattle.regex.specs.Form.{write, positions, repeated, copies, optionals}
@@ -25,8 +27,8 @@ use Rattle.regex.specs.Automaton.{null, first, last, follow, items}
 use Rattle.regex.proofs.Logic.{and-T}
 use Rattle.pattern.specs.Walk.{chained, chosen, one, repeating, closing, opening, act, next, finish, walk}
 use Rattle.pattern.specs.Read.{judged, readOf, optionsOf}
-use Rattle.steps.specs.Step.{starts, stepped, ends, endsLine, endsAtEnd}
-use Rattle.stream.specs.Byte.{nextHeld, nextPending, runIds, runMarks, byteIds, byteState, lineIds, endIds, closeIds, closeEnds}
+use Rattle.steps.specs.Step.{stepped, ends, endsNewly}
+use Rattle.stream.specs.Byte.{nextHeld, nextPending, runIds, runMarks, twoIds, twoEnds, twoMarks, byteIds, byteEnds, byteState, closeIds, closeEnds}
 use Rattle.rules.specs.declared.Added.{Added}
 use Rattle.rules.specs.Add.{answer, unknownFlag, placed, addWords}
 use Rattle.rules.specs.Additions.{Addition, Accepted, used, taken, nextAnswer, withNew, afterNext, acceptedAfter}
@@ -68,7 +70,7 @@ nextAnswers rs (a ∷ l) = nextAnswer rs a ∷ nextAnswers (afterNext rs a) l
 computed-right : (failing right cases ≡ [])
     × (nextAnswers [] (additionsIn cases) ≡ map (λ (k : Case). answerIn (k .verdict)) cases)
     × (failing (runs (acceptedAfter [] (additionsIn cases))) logs ≡ [])
-unfolding allRun right failing nextAnswers on has setOf wordOf any emptySet insertedRange unionOf complementOf inserted fullSet isDigit isLower isUpper isBlank otherCase caseClosed digitOf digits valueFrom blanks numeralOf bracedOf shortOf flipped64 raised controlOf typeOf namedOf placedOf hexOf octalOf isAlpha isAlnum escapeOf lower isMark gapOf names begins named nameAmong nameOf bracketOf memberOf rangeFault jointOf memberAt membersOf classOf joined settled lettersOf beforeClose commentOf openingOf bounded open-ended bracesOf formOf marked quantifierOf escaped unquotedOf lexemeOf itemSet copied capped saturating nullable write positions repeated copies optionals null first last follow items chained chosen one repeating closing opening act next finish walk judged readOf optionsOf unknownFlag placed used taken nextAnswer withNew afterNext acceptedAfter laid insert into owner computed starts stepped ends endsLine endsAtEnd nextHeld nextPending runIds runMarks byteIds byteState lineIds endIds closeIds closeEnds all bytes cases logs pass passed final follows same zip mathlib.Core.List.zipWith isCntrl anyRaw withRaw spelledAt spelledOf
+unfolding allRun right failing nextAnswers on has setOf wordOf any emptySet insertedRange unionOf complementOf inserted fullSet isDigit isLower isUpper isBlank otherCase caseClosed digitOf digits valueFrom blanks numeralOf bracedOf shortOf flipped64 raised controlOf typeOf namedOf placedOf hexOf octalOf isAlpha isAlnum escapeOf lower isMark gapOf names begins named nameAmong nameOf bracketOf memberOf rangeFault jointOf memberAt membersOf classOf joined settled lettersOf beforeClose commentOf openingOf bounded open-ended bracesOf formOf marked quantifierOf escaped unquotedOf lexemeOf itemSet copied capped saturating nullable write positions repeated copies optionals null first last follow items chained chosen one repeating closing opening act next finish walk judged readOf optionsOf unknownFlag placed used taken nextAnswer withNew afterNext acceptedAfter laid insert into owner computed between beforeLast atEnd atStart gapBefore firstGap sideOf isWord stepped ends endsNewly nextHeld nextPending runIds runMarks twoIds twoEnds twoMarks byteIds byteEnds byteState closeIds closeEnds all bytes cases logs pass passed final follows same zip mathlib.Core.List.zipWith isCntrl anyRaw withRaw spelledAt spelledOf
 computed-right = (refl, refl, refl)
 
 -- ---- carried to the calls

@@ -1,7 +1,7 @@
 -- The automaton of some rules without a word of a table: its sets are those of the rules' written-out forms, worked out when they are asked for. A table that
 -- additions built agrees with it, so a checker can follow a stream by it. Assumes nothing.
-use mathlib.Core.Path.{_≡_, refl, sym, ap, ap₂, _∙_}
-use mathlib.Core.Bool.{Bool, true, false, cond, _&&_}
+use mathlib.Core.Path.{_≡_, sym, ap, ap₂, _∙_}
+use mathlib.Core.Bool.{Bool, false, cond, _&&_}
 use mathlib.Core.List.{List, [], _∷_}
 use Prim.Native.Nat.{ℕ, zero, suc, _+_, _≤_, _<_}
 use native.Mathlib.Omega.{arith}
@@ -10,13 +10,12 @@ use lib.Dec.{leb, ltb}
 use lib.ListN.{length}
 use borrow.Author.Tests.{le-leb, lt-leb, lt-ltb, le-ltb}
 use Rattle.sets.specs.Set.{has}
-use Rattle.table.specs.Automaton.{Automaton, automaton, firstIn, startIn, followIn, lastIn}
+use Rattle.table.specs.Automaton.{Automaton, automaton}
 use Rattle.regex.specs.Tree.{empty}
 use Rattle.regex.specs.Automaton.{first, last, follow}
-use Rattle.automaton.specs.Parts.{inside, atStart, atEnd}
 use Rattle.rules.specs.Additions.{Accepted, size, used}
 use Rattle.rules.proofs.Sorted.{Placed, at, byId}
-use Rattle.rules.proofs.Encodes.{Encodes, Of, formOf, itemOf}
+use Rattle.rules.proofs.Encodes.{Encodes, Of, formOf, itemOf, worldAt}
 use Rattle.rules.proofs.Additions.{Built}
 use Rattle.demands.proofs.Carried.{positions-at}
 use Rattle.demands.proofs.Agreeing.{Agree}
@@ -33,16 +32,10 @@ computed ps n = record {
   positions = n;
   id = λ a. at ps a .rule .id;
   flags = λ a. at ps a .rule .flags;
-  first = λ q. first (inside false) (formOf (owner ps q)) (owner ps q .from) q;
-  firstAtStart = λ q. first (atStart false) (formOf (owner ps q)) (owner ps q .from) q;
-  follow = λ p q. follow (inside false) (formOf (owner ps q)) (owner ps q .from) p q;
   takes = λ x q. has (itemOf (owner ps q) q) x;
-  last = λ a p. last (inside false) (formOf (at ps a)) (at ps a .from) p;
-  lastAtEnd = λ a p. last atEnd (formOf (at ps a)) (at ps a .from) p;
-  lineFirst = λ q. first (inside true) (formOf (owner ps q)) (owner ps q .from) q;
-  lineFirstAtStart = λ q. first (atStart true) (formOf (owner ps q)) (owner ps q .from) q;
-  lineFollow = λ p q. follow (inside true) (formOf (owner ps q)) (owner ps q .from) p q;
-  lineLast = λ a p. last (inside true) (formOf (at ps a)) (at ps a .from) p;
+  first = λ g q. first (worldAt g) (formOf (owner ps q)) (owner ps q .from) q;
+  follow = λ g p q. follow (worldAt g) (formOf (owner ps q)) (owner ps q .from) p q;
+  last = λ g a p. last (worldAt g) (formOf (at ps a)) (at ps a .from) p;
 }
 
 -- the owner is a rule that has the position, if there is one
@@ -93,32 +86,11 @@ module _ (w : Automaton) (ps : List Placed) (e : Encodes w ps) where
     positions = k;
     id = λ a lt. e .rule a (in-list a lt) .id-is;
     flags = λ a lt. e .rule a (in-list a lt) .flags-are;
-    first = λ z q lt. by-owner q lt (firstIn w z q) (λ p. first (inside z) (formOf p) (p .from) q) (λ a l o. e .rule a l .first-is z q o) ∙ first-of z q;
-    start = λ z q lt. by-owner q lt (startIn w z q) (λ p. first (atStart z) (formOf p) (p .from) q) (λ a l o. e .rule a l .start-is z q o) ∙ start-of z q;
-    follow = λ z o q lt. by-owner q lt (followIn w z o q) (λ p. follow (inside z) (formOf p) (p .from) o q) (λ a l i. e .rule a l .follow-is z o q i) ∙ follow-of z o q;
+    first = λ g q lg lt. by-owner q lt (w .first g q) (λ p. first (worldAt g) (formOf p) (p .from) q) (λ a l o. e .rule a l .first-is g q lg o);
+    follow = λ g o q lg lt. by-owner q lt (w .follow g o q) (λ p. follow (worldAt g) (formOf p) (p .from) o q) (λ a l i. e .rule a l .follow-is g o q lg i);
     takes = λ x q small lt. by-owner q lt (w .takes x q) (λ p. has (itemOf p q) x) (λ a l o. e .rule a l .takes-is x q small o);
-    last = λ z a p lt l. e .rule a (in-list a lt) .last-is z p l ∙ last-of z a p;
-    last-at-end = λ a p lt l. e .rule a (in-list a lt) .end-is p l;
+    last = λ g a p lg lt l. e .rule a (in-list a lt) .last-is g p lg l;
   }
-    where
-      c : Automaton
-      c = computed ps n
-
-      first-of : (z : Bool) (q : ℕ) → first (inside z) (formOf (owner ps q)) (owner ps q .from) q ≡ firstIn c z q
-      first-of true q = refl
-      first-of false q = refl
-
-      start-of : (z : Bool) (q : ℕ) → first (atStart z) (formOf (owner ps q)) (owner ps q .from) q ≡ startIn c z q
-      start-of true q = refl
-      start-of false q = refl
-
-      follow-of : (z : Bool) (o q : ℕ) → follow (inside z) (formOf (owner ps q)) (owner ps q .from) o q ≡ followIn c z o q
-      follow-of true o q = refl
-      follow-of false o q = refl
-
-      last-of : (z : Bool) (a p : ℕ) → last (inside z) (formOf (at ps a)) (at ps a .from) p ≡ lastIn c z a p
-      last-of true a p = refl
-      last-of false a p = refl
 
 -- the automaton of the rules that were accepted
 abbrev pub computedOf : List Accepted → Automaton

@@ -7,7 +7,7 @@ use Prim.Native.Nat.{ℕ, suc, _+_, _-_, _*_, _≤_}
 use Prim.Native.String.{String}
 use native.Mathlib.Omega.{arith}
 use lib.Dec.{T, eqb, leb, ltb, eqb→eq, leb→le, ltb→lt}
-use lib.ListN.{length, getD, replicate}
+use lib.ListN.{length, getD}
 use borrow.Author.Tests.{le-ltb}
 use Rattle.sets.proofs.Laws.{has-empty}
 use Rattle.table.specs.Layout.{maxRules}
@@ -15,7 +15,7 @@ use Rattle.table.specs.Table.{all, isTable}
 use Rattle.table.specs.Automaton.{Automaton, automaton}
 use Rattle.table.proofs.Test.{all-at, accepted as passing}
 use Rattle.stream.specs.declared.Stream.{Stream}
-use Rattle.stream.specs.Byte.{byteIds, byteState, stateAfter, idsOf, endsOf, fits, closeIds, closeEnds}
+use Rattle.stream.specs.Byte.{byteIds, byteEnds, byteState, stateAfter, idsOf, endsOf, fits, closeIds, closeEnds}
 use Rattle.stream.specs.Valid.{streamLimit}
 use Rattle.stream.specs.Calls.{fresh, opened, space}
 use Rattle.stream.proofs.Results.{opened-stream, opened-valid}
@@ -71,7 +71,7 @@ module _ (w : Automaton) where
 
   unfoldable pub passed : Stream → List ℕ → List Pair
   passed s [] = []
-  passed s (x ∷ l) = zip (byteIds w s x) (replicate (length (byteIds w s x)) (suc (s .taken))) ++ passed (byteState w s x) l
+  passed s (x ∷ l) = zip (byteIds w s x) (byteEnds w s x) ++ passed (byteState w s x) l
 
   -- the pairs that the closing reports
   unfoldable pub final : Stream → List Pair
@@ -86,9 +86,7 @@ module _ (w : Automaton) where
   unfolding passed stateAfter idsOf endsOf zip mathlib.Core.List.zipWith
   passed-is [] s = refl
   passed-is (x ∷ l) s =
-      let next : s .taken + 1 ≡ suc (s .taken) = omega arith in
-      pairs-append w s (x ∷ []) l
-      ∙ ap₂ (λ (n : ℕ) (r : List Pair). zip (byteIds w s x) (replicate (length (byteIds w s x)) n) ++ r) next (passed-is l (byteState w s x))
+      pairs-append w s (x ∷ []) l ∙ ap (λ (r : List Pair). zip (byteIds w s x) (byteEnds w s x) ++ r) (passed-is l (byteState w s x))
 
   -- ---- every block taken whole
 

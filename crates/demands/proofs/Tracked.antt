@@ -1,92 +1,81 @@
 -- The state after some bytes says what the rules' meaning says: a position is live exactly if some way has just taken it, live or held exactly if some way has,
--- were the stream to end here; a single-match rule is marked exactly if a match of it has ended, and a rule has a held pair exactly if a match of it ends before
--- the last byte, were the last line to end there, and not otherwise. By one byte more, with the automaton's step. Assumes nothing.
-use mathlib.Core.Path.{_≡_, refl, sym, subst, subst₂, ap, ap₂, _∙_}
+-- were the stream to end here; a single-match rule is marked exactly if a pair of it has fallen, and a rule has a held pair exactly if a match of it ends before
+-- the last byte, were the last line to end there, and not otherwise. By one byte more, with the automaton's step. So the tests of the two runs of a byte and of the
+-- closing say which pairs fall. Assumes nothing.
+use mathlib.Core.Path.{_≡_, refl, sym, subst, subst₂, ap, ap₂, _∙_, fun-ext}
 use mathlib.Core.Logic.{_⊎_, inl, inr, _↔_}
-use mathlib.Core.Bool.{Bool, true, false, cond, not, _&&_, _||_, and-false}
+use mathlib.Core.Bool.{Bool, true, false, cond, not, _&&_, _||_}
 use mathlib.Core.List.{List, [], _∷_, _++_}
-use Prim.Native.Nat.{ℕ, zero, suc, _≤_, _<_}
+use Prim.Native.Nat.{ℕ, zero, suc, _-_, _≤_, _<_}
+use native.Mathlib.Nat.{lt-trans}
 use native.Mathlib.Omega.{arith}
-use native.Mathlib.Decide.{decLe}
-use lib.Dec.{T, T-not, not-T, eqb, ltb, lt→ltb, ltb→lt}
+use native.Mathlib.Decide.{decLt}
+use lib.Dec.{T, T-not, not-T, eqb, ltb, lit<, lt→ltb, ltb→lt}
 use lib.ListN.{length, getD, take}
 use lib.Seq.{take-suc, take-all, length-take-le}
-use borrow.Author.Tests.{eq-eqb, eqb-true}
-use Rattle.sets.specs.Set.{on, has, wordOf, any, emptySet, unionOf}
+use borrow.Author.Tests.{eq-eqb, ne-eqb, eqb-true}
+use Rattle.sets.specs.Set.{on, has, any, emptySet, unionOf}
 use Rattle.sets.proofs.Laws.{has-setOf, has-empty, has-union, any-at, any-some, on-zero}
 use Rattle.sets.proofs.Digits.{on-wordOf}
+use Rattle.kinds.specs.declared.Side.the-variants.{Newline}
+use Rattle.kinds.specs.Side.{sideOf}
 use Rattle.table.specs.Layout.{maxPositions}
-use Rattle.table.specs.Automaton.{Automaton, single, firstIn, startIn, followIn, lastIn}
-use Rattle.steps.specs.Step.{starts, stepped, ends, endsLine, endsAtEnd, rulesWhere}
+use Rattle.table.specs.Gaps.{between, beforeLast, unsettled, atEnd, atStart, startOfLast, gapOf, firstGap, lastGaps}
+use Rattle.table.specs.Automaton.{Automaton}
+use Rattle.table.proofs.GapBounds.{between-inner, beforeLast-follow, atEnd-last, gapOf-follow, firstGap-first}
+use Rattle.steps.specs.Step.{stepped, ends, endsNewly, rulesWhere}
 use Rattle.stream.specs.declared.Stream.{Stream}
-use Rattle.stream.specs.Byte.{nextLive, nextHeld, nextPending, runMarks, byteState, stateAfter}
+use Rattle.stream.specs.Byte.{nextLive, nextHeld, nextPending, lateTest, ownTest, heldTest, endTest, byteState, stateAfter}
 use Rattle.regex.specs.Tree.{Text}
-use Rattle.regex.specs.Form.{Form, Match, Reach, positions}
+use Rattle.regex.specs.Form.{Form, Reach, positions}
 use Rattle.regex.specs.Live.{Reached}
-use Rattle.regex.specs.Gap.{no-bytes}
-use Rattle.regex.specs.Rule.{Rule, ByteSet, Assertion, world, stream}
+use Rattle.regex.specs.Gap.{last-line, Known, byte, edge, unknown, known-before, known-after}
+use Rattle.regex.specs.Rule.{Rule, ByteSet, Assertion, world, holds, stream}
+use Rattle.regex.specs.Ordered.{closing-moment, Falls}
 use Rattle.regex.proofs.Relations.{First, Last, Follow}
 use Rattle.regex.proofs.Logic.{and-T, or-T, true-T}
 use Rattle.regex.proofs.Range.{last-inside, follow-inside}
 use Rattle.regex.proofs.Local.{reach-up}
-use Rattle.regex.proofs.Base.{same, base-next, base-over, base-end, reach-ended}
-use Rattle.regex.proofs.Moments.{EndsAt, EndsLast}
+use Rattle.regex.proofs.Stream.{Same}
+use Rattle.regex.proofs.Base.{open-same, same, base-next, reach-ended}
+use Rattle.regex.proofs.Moments.{EndsAt, EndsLast, falls-own, falls-late, falls-end}
+use Rattle.rules.proofs.Encodes.{worldAt}
+use Rattle.rules.proofs.Worlds.{world-between, world-before-last, world-unsettled, world-at-end, world-at-start, world-start-of-last}
 use Rattle.demands.proofs.Carried.{Carries, Within, formOf}
+use Rattle.demands.proofs.TwoRuns.{Marked, Turn, marks-next}
+use Rattle.demands.proofs.Endings.{newline-side, Ending, ends-from, last-from, Late, late-falls, only-byte, only-closing, none-at-zero}
 
-pub any-T : (n : ℕ) (f : ℕ → Bool) → T (any n f) ↔ ((k : ℕ) × (k < n) × T (f k))
+any-T : (n : ℕ) (f : ℕ → Bool) → T (any n f) ↔ ((k : ℕ) × (k < n) × T (f k))
 any-T n f = (
   λ h. let r = any-some n f (true-T (any n f) h) in (r .0, r .1, subst T (sym (r .2)) tt),
   λ h. subst T (sym (any-at n f (h .0) (h .1) (true-T (f (h .0)) (h .2)))) tt,
 )
 
--- a match that ends with byte k, or with the stream, by positions numbered from any base
-module _ (bytes : List ℕ) (r : Rule) where
-  abbrev Ending : (Assertion → Bool) → Text ByteSet Assertion → (b k : ℕ) → Type 0
-  Ending v t b k = (s : ℕ) × (p : ℕ) × Reach t (formOf r) b s p k × Last v (formOf r) b p
+both : {A B C : Type 0} → A ↔ B → B ↔ C → A ↔ C
+both f g = (λ a. g .0 (f .0 a), λ c. f .1 (g .1 c))
 
-  ends-from : (k : ℕ) (z : Bool) → k ≤ length bytes → (b : ℕ) → EndsAt bytes r k z ↔ Ending (world false z false) (stream (take k bytes) false) b k
-  ends-from k z le b = (
-    λ h. let lt : h .0 < k = reach-up (stream (take k bytes) false) (formOf r) 0 (h .0) (h .1) k (h .2) in
-        let g = over z b (h .0) lt .0 (over z 0 (h .0) lt .1 (h .1, h .2, h .3)) in
-        (h .0, g .0, g .1, g .2),
-    λ h. let lt : h .0 < k = reach-up (stream (take k bytes) false) (formOf r) b (h .0) (h .1) k (h .2) in
-        let g = over z 0 (h .0) lt .0 (over z b (h .0) lt .1 (h .1, h .2, h .3)) in
-        (h .0, g .0, g .1, g .2),
-  )
-    where
-      len : length (take k bytes) ≡ k
-      len = length-take-le k bytes le
+back : {A B : Type 0} → A ↔ B → B ↔ A
+back f = (f .1, f .0)
 
-      -- a newline follows, and z says whether it is known to be the last byte
-      over : (z : Bool) (b s : ℕ) → s < k → Match (stream (take k bytes ++ 10 ∷ []) z) (formOf r) s k
-          ↔ ((p : ℕ) × Reach (stream (take k bytes) false) (formOf r) b s p k × Last (world false z false) (formOf r) b p)
-      over true b s lt =
-          subst (λ (n : ℕ). Match (stream (take k bytes ++ 10 ∷ []) true) (formOf r) s n
-          ↔ ((p : ℕ) × Reach (stream (take k bytes) false) (formOf r) b s p n × Last (world false true false) (formOf r) b p)) len
-          (base-over (formOf r) b (take k bytes) (10 ∷ []) true (same (take k bytes) 10 [] true) s (omega (arith, len)))
-      over false b s lt =
-          subst (λ (n : ℕ). Match (stream (take k bytes ++ 10 ∷ []) false) (formOf r) s n
-          ↔ ((p : ℕ) × Reach (stream (take k bytes) false) (formOf r) b s p n × Last (world false false false) (formOf r) b p)) len
-          (base-over (formOf r) b (take k bytes) (10 ∷ []) false (same (take k bytes) 10 [] false) s (omega (arith, len)))
+-- one test and not the other
+newly : {A B : Type 0} (b c : Bool) → T b ↔ A → T c ↔ B → T (b && not c) ↔ (A × (¬ B))
+newly b c f g = (
+  λ h. let x = and-T b (not c) .0 h in (f .0 (x .0), λ y. T-not c (x .1) (g .1 y)),
+  λ h. and-T b (not c) .1 (f .1 (h .0), not-T c (λ t. h .1 (g .0 t))),
+)
 
-  last-from : (b : ℕ) → EndsLast bytes r ↔ Ending (world false true true) (stream bytes true) b (length bytes)
-  last-from b = (
-    λ h. let lt : h .0 < length bytes = reach-up (stream bytes true) (formOf r) 0 (h .0) (h .1) (length bytes) (h .2) in
-        let g = base-end (formOf r) b bytes (h .0) lt .0 (base-end (formOf r) 0 bytes (h .0) lt .1 (h .1, h .2, h .3)) in
-        (h .0, g .0, g .1, g .2),
-    λ h. let lt : h .0 < length bytes = reach-up (stream bytes true) (formOf r) b (h .0) (h .1) (length bytes) (h .2) in
-        let g = base-end (formOf r) 0 bytes (h .0) lt .0 (base-end (formOf r) b bytes (h .0) lt .1 (h .1, h .2, h .3)) in
-        (h .0, g .0, g .1, g .2),
-  )
-
-  -- after k bytes, the last of them a newline: a match ends before it if the last line ends there, and not otherwise
-  abbrev pub Late : ℕ → Type 0
-  Late k = (e : ℕ) × (k ≡ suc e) × (getD bytes e 0 ≡ 10) × EndsAt bytes r e true × (¬ EndsAt bytes r e false)
+-- the last of some bytes is what stands before the next gap
+before-next : (l : List ℕ) (x : ℕ) → known-before (l ++ x ∷ []) ≡ byte (sideOf x)
+unfolding known-before
+before-next [] x = refl
+before-next (y ∷ []) x = refl
+before-next (y ∷ z ∷ l) x = before-next (z ∷ l) x
 
 module _ (w : Automaton) (rule : ℕ → Rule) (from : ℕ → ℕ) (tab : ℕ → ByteSet) (enc : Carries w rule from tab) (bytes : List ℕ) where
   -- what the state after the first k bytes says of positions ..
   pub record Alive (k : ℕ) (s : Stream) : Type 0 where
     pub taken : s .taken ≡ k
+    pub last : 0 < k → known-before (take k bytes) ≡ byte (s .last)
     pub inside : (q : ℕ) → q < maxPositions → T (has (s .live) q) → q < w .positions
     pub live : (a : ℕ) → a < w .rules → (q : ℕ) → Within (from a) (rule a) q
         → T (has (s .live) q) ↔ Reached (stream (take k bytes) false) (formOf (rule a)) (from a) q k
@@ -98,158 +87,208 @@ module _ (w : Automaton) (rule : ℕ → Rule) (from : ℕ → ℕ) (tab : ℕ �
         → T (has (unionOf (s .live) (s .held)) q) ↔ Reached (stream (take k bytes) true) (formOf (rule a)) (from a) q k
     pub pending : (a : ℕ) → a < w .rules → T (on (s .pending) a) ↔ Late bytes (rule a) k
 
-  -- .. and of marks
+  -- .. and of marks: those of the next moment
   pub record Tracked (k : ℕ) (s : Stream) : Type 0 where
     pub alive : Alive k s
     pub waits : Waits k s
-    pub marks : (a : ℕ) → a < w .rules
-        → T (on (s .reported) a) ↔ (T (rule a .single) × ((d : ℕ) × (d ≤ k) × EndsAt bytes (rule a) d false))
+    pub marks : (a : ℕ) → a < w .rules → T (on (s .reported) a) ↔ Marked bytes (rule a) (suc k)
+
+  -- ---- some live position is last
 
   -- a test on positions that are just reached is a match that ends here
   module _ (a : ℕ) (lt : a < w .rules) (set : List ℕ) (t : Text ByteSet Assertion) (k : ℕ) (inside : (q : ℕ) → q < maxPositions → T (has set q) → q < w .positions)
       (reached : (q : ℕ) → Within (from a) (rule a) q → T (has set q) ↔ Reached t (formOf (rule a)) (from a) q k)
-      (last : ℕ → Bool) (v : Assertion → Bool) (last-is : (p : ℕ) → p < w .positions → T (last p) ↔ Last v (formOf (rule a)) (from a) p) where
-    by-last : T (any maxPositions (λ p. has set p && last p)) ↔ Ending bytes (rule a) v t (from a) k
-    by-last = (
+      (g : ℕ) (there : g < lastGaps) (v : Assertion → Bool) (at-g : 0 < k → worldAt g ≡ v) where
+    raw : T (ends w g set a) ↔ Ending bytes (rule a) (worldAt g) t (from a) k
+    unfolding ends
+    raw = (
       λ h.
-          let g = any-T maxPositions (λ p. has set p && last p) .0 h in
-          let c = and-T (has set (g .0)) (last (g .0)) .0 (g .2) in
-          let e = last-is (g .0) (inside (g .0) (g .1) (c .0)) .0 (c .1) in
-          let l = reached (g .0) (last-inside v (formOf (rule a)) (from a) (g .0) e) .0 (c .0) in
-          (l .0, g .0, l .1, e),
+          let c = any-T maxPositions (λ p. has set p && w .last g a p) .0 h in
+          let d = and-T (has set (c .0)) (w .last g a (c .0)) .0 (c .2) in
+          let e = enc .last-is g a (c .0) there lt (inside (c .0) (c .1) (d .0)) .0 (d .1) in
+          let l = reached (c .0) (last-inside (worldAt g) (formOf (rule a)) (from a) (c .0) e) .0 (d .0) in
+          (l .0, c .0, l .1, e),
       λ h.
-          let i = last-inside v (formOf (rule a)) (from a) (h .1) (h .3) in
-          any-T maxPositions (λ p. has set p && last p) .1 (
+          let i = last-inside (worldAt g) (formOf (rule a)) (from a) (h .1) (h .3) in
+          any-T maxPositions (λ p. has set p && w .last g a p) .1 (
             h .1,
             omega (arith, i .1, enc .inside a lt, enc .few-positions),
-            and-T (has set (h .1)) (last (h .1)) .1 (reached (h .1) i .1 (h .0, h .2), last-is (h .1) (omega (arith, i .1, enc .inside a lt)) .1 (h .3)),
+            and-T (has set (h .1)) (w .last g a (h .1)) .1 (reached (h .1) i .1 (h .0, h .2), enc .last-is g a (h .1) there lt (omega (arith, i .1, enc .inside a lt)) .1 (h .3)),
           ),
     )
 
-  both : {A B C : Type 0} → A ↔ B → B ↔ C → A ↔ C
-  both f g = (λ a. g .0 (f .0 a), λ c. f .1 (g .1 c))
-
-  back : {A B : Type 0} → A ↔ B → B ↔ A
-  back f = (f .1, f .0)
+    -- a way has taken a byte, so there is one before the gap
+    by-last : T (ends w g set a) ↔ Ending bytes (rule a) v t (from a) k
+    by-last = both raw (
+      λ h. (h .0, h .1, h .2, subst (λ (u : Assertion → Bool). Last u (formOf (rule a)) (from a) (h .1)) (at-g (some (h .0) (h .1) (h .2))) (h .3)),
+      λ h. (h .0, h .1, h .2, subst (λ (u : Assertion → Bool). Last u (formOf (rule a)) (from a) (h .1)) (sym (at-g (some (h .0) (h .1) (h .2)))) (h .3)),
+    )
+      where
+        some : (s p : ℕ) → Reach t (formOf (rule a)) (from a) s p k → 0 < k
+        some s p r = omega (arith, reach-up t (formOf (rule a)) (from a) s p k r)
 
   module _ (k : ℕ) (le : k ≤ length bytes) (s : Stream) (track : Alive k s) (a : ℕ) (lt : a < w .rules) where
-    live-ends : (z : Bool) → T (any maxPositions (λ p. has (s .live) p && lastIn w z a p)) ↔ EndsAt bytes (rule a) k z
-    live-ends z =
-        both (by-last a lt (s .live) (stream (take k bytes) false) k (track .inside) (track .live a lt) (lastIn w z a) (world false z false) (λ p lp. enc .last-is z a p lt lp))
-        (back (ends-from bytes (rule a) k z le (from a)))
+    live-ends : (g : ℕ) → g < lastGaps → (rest : List ℕ) (e : Bool) → Same has holds (take k bytes) rest false e
+        → ((x : Assertion) → worldAt g x ≡ world (byte (s .last)) (known-after rest e) (e && last-line rest) x)
+        → T (ends w g (s .live) a) ↔ EndsAt bytes (rule a) k (known-after rest e) (e && last-line rest)
+    live-ends g there rest e stays at-g =
+        both (by-last a lt (s .live) (stream (take k bytes) false) k (track .inside) (track .live a lt) g there
+        (world (known-before (take k bytes)) (known-after rest e) (e && last-line rest))
+        (λ some. fun-ext at-g ∙ ap (λ (u : Known). world u (known-after rest e) (e && last-line rest)) (sym (track .last some))))
+        (back (ends-from bytes (rule a) k le rest e stays (from a)))
 
-    pub ends-is : T (ends w (s .live) a) ↔ EndsAt bytes (rule a) k false
-    unfolding ends
-    ends-is = live-ends false
+    -- whatever follows, where byte x follows, and where the last line ends
+    pub ends-is : T (ends w unsettled (s .live) a) ↔ EndsAt bytes (rule a) k unknown false
+    ends-is = live-ends unsettled (lit< tt) [] false (open-same (take k bytes) []) (world-unsettled (s .last))
 
-    ends-line-is : T (endsLine w (s .live) a) ↔ EndsAt bytes (rule a) k true
-    unfolding endsLine
-    ends-line-is = live-ends true
+    ends-next-is : (x : ℕ) → T (ends w (between (s .last) (sideOf x)) (s .live) a) ↔ EndsAt bytes (rule a) k (byte (sideOf x)) false
+    ends-next-is x =
+        live-ends (between (s .last) (sideOf x)) (lt-trans (between-inner (s .last) (sideOf x)) (lit< tt)) (x ∷ []) false (open-same (take k bytes) (x ∷ []))
+        (world-between (s .last) (sideOf x))
 
-  pub ends-at-end-is : (s : Stream) → Waits (length bytes) s → (a : ℕ) → a < w .rules → T (endsAtEnd w (unionOf (s .live) (s .held)) a) ↔ EndsLast bytes (rule a)
-  unfolding endsAtEnd
-  ends-at-end-is s waits a lt =
+    ends-line-is : T (ends w (beforeLast (s .last)) (s .live) a) ↔ EndsAt bytes (rule a) k (byte Newline) true
+    unfolding sideOf
+    ends-line-is =
+        live-ends (beforeLast (s .last)) (lt-trans (beforeLast-follow (s .last)) (lit< tt)) (10 ∷ []) true (same (take k bytes) 10 [] true) (world-before-last (s .last))
+
+  ends-at-end-is : (s : Stream) → Alive (length bytes) s → Waits (length bytes) s → (a : ℕ) → a < w .rules
+      → T (ends w (atEnd (s .last)) (unionOf (s .live) (s .held)) a) ↔ EndsLast bytes (rule a)
+  ends-at-end-is s track waits a lt =
       let n : ℕ = length bytes in
       let whole : take n bytes ≡ bytes = take-all n bytes (omega arith) in
       both (by-last a lt (unionOf (s .live) (s .held)) (stream bytes true) n (waits .inside)
       (λ q i. subst (λ (l : List ℕ). T (has (unionOf (s .live) (s .held)) q) ↔ Reached (stream l true) (formOf (rule a)) (from a) q n) whole (waits .held a lt q i))
-      (w .lastAtEnd a) (world false true true) (λ p lp. enc .last-at-end-is a p lt lp)) (back (last-from bytes (rule a) (from a)))
+      (atEnd (s .last)) (atEnd-last (s .last)) (world (known-before bytes) edge true)
+      (λ some. fun-ext (world-at-end (s .last)) ∙ ap (λ (u : Known). world u edge true) (sym (track .last some) ∙ ap known-before whole))) (back (last-from bytes (rule a) (from a)))
 
-  -- one byte more
+  -- ---- one byte more
+
   module _ (k : ℕ) (lk : k < length bytes) (small : getD bytes k 0 < 256) (s : Stream) (track : Alive k s) where
     abbrev x : ℕ
     x = getD bytes k 0
 
+    -- the gap before the byte, by number, inside the stream and anywhere; and its world
+    abbrev inner : Bool → ℕ
+    inner line = gapOf line (s .last) (sideOf x)
+
+    abbrev outer : Bool → ℕ
+    outer line = firstGap line (s .taken) (s .last) (sideOf x)
+
+    abbrev here : Bool → Assertion → Bool
+    here line = world (known-before (take k bytes)) (byte (sideOf x)) line
+
+    inner-is : (line : Bool) → (T line → x ≡ 10) → 0 < k → worldAt (inner line) ≡ here line
+    unfolding gapOf
+    inner-is true newline some =
+        fun-ext (world-before-last (s .last)) ∙ ap₂ (λ (b t : Known). world b t true) (sym (track .last some)) (ap byte (sym (newline-side x (newline tt))))
+    inner-is false newline some = fun-ext (world-between (s .last) (sideOf x)) ∙ ap (λ (b : Known). world b (byte (sideOf x)) false) (sym (track .last some))
+
+    outer-is : (line : Bool) → (T line → x ≡ 10) → worldAt (outer line) ≡ here line
+    unfolding firstGap known-before
+    outer-is line newline = go (decLt 0 k)
+      where
+        at-start : (line : Bool) → (T line → x ≡ 10) → worldAt (cond line startOfLast (atStart (sideOf x))) ≡ world edge (byte (sideOf x)) line
+        at-start true newline = fun-ext world-start-of-last ∙ ap (λ (t : Known). world edge t true) (ap byte (sym (newline-side x (newline tt))))
+        at-start false newline = fun-ext (world-at-start (sideOf x))
+
+        go : Dec (0 < k) → worldAt (outer line) ≡ here line
+        go (yes some) =
+            ap (λ (b : Bool). worldAt (cond b (cond line startOfLast (atStart (sideOf x))) (inner line))) (ne-eqb (s .taken) 0 (λ e. omega (arith, track .taken, e)))
+            ∙ inner-is line newline some
+        go (no none) =
+            let zero-bytes : k ≡ 0 = omega arith in
+            ap (λ (b : Bool). worldAt (cond b (cond line startOfLast (atStart (sideOf x))) (inner line))) (eq-eqb (s .taken) 0 (track .taken ∙ zero-bytes))
+            ∙ at-start line newline ∙ ap (λ (i : ℕ). world (known-before (take i bytes)) (byte (sideOf x)) line) (sym zero-bytes)
+
     -- the positions that the byte steps to, where the last line may end before it
     abbrev reachedIn : Bool → List ℕ
-    reachedIn line = stepped w line (w .positions) (s .live) (s .taken) x
+    reachedIn line = stepped w line (s .last) (sideOf x) (w .positions) (s .live) (s .taken) x
 
-    starts-is : (line : Bool) (a q : ℕ) → a < w .rules → Within (from a) (rule a) q
-        → T (starts w line (s .taken) q) ↔ First (world (no-bytes (take k bytes)) line false) (formOf (rule a)) (from a) q
-    unfolding starts
-    starts-is line a q lt i =
-        subst (λ (n : ℕ). T (cond (eqb n 0) (startIn w line q) (firstIn w line q)) ↔ First (world (no-bytes (take k bytes)) line false) (formOf (rule a)) (from a) q)
-        (sym (track .taken)) (go k bytes lk)
-      where
-        go : (k : ℕ) (bytes : List ℕ) → k < length bytes
-            → T (cond (eqb k 0) (startIn w line q) (firstIn w line q)) ↔ First (world (no-bytes (take k bytes)) line false) (formOf (rule a)) (from a) q
-        go zero bytes lk = enc .start-is line a q lt i
-        go (suc k) [] lk = absurd (omega arith)
-        go (suc k) (y ∷ bytes) lk = subst (λ (b : Bool). T (cond b (startIn w line q) (firstIn w line q)) ↔ First (world false line false) (formOf (rule a)) (from a) q)
-            (sym (lib.Dec.eqb·suc-zero k)) (enc .first-is line a q lt i)
+    abbrev comes : Bool → ℕ → ℕ → Bool
+    comes line q p = has (s .live) p && w .follow (inner line) p q
 
-    -- `ended` says whether the stream is known to end after the byte
+    abbrev steps : Bool → ℕ → Bool
+    steps line q = ltb q (w .positions) && (w .takes x q && (w .first (outer line) q || any maxPositions (comes line q)))
+
+    member : (line : Bool) (q : ℕ) → q < maxPositions → has (reachedIn line) q ≡ steps line q
+    unfolding stepped
+    member line q lq = has-setOf (steps line) q lq
+
+    -- a byte steps to a position exactly if a way reaches it, were the stream to end there or not
     steps-to : (ended : Bool) (a : ℕ) → a < w .rules → (q : ℕ) → Within (from a) (rule a) q
         → T (has (reachedIn (ended && eqb x 10)) q) ↔ Reached (stream (take (suc k) bytes) ended) (formOf (rule a)) (from a) q (suc k)
-    unfolding stepped
     steps-to ended a lt q i =
         let f : Form ByteSet Assertion = formOf (rule a) in
         let b : ℕ = from a in
         let line : Bool = ended && eqb x 10 in
+        let newline : T line → x ≡ 10 = λ h. eqb-true x 10 (true-T (eqb x 10) (and-T ended (eqb x 10) .0 h .1)) in
         let inside : q < w .positions = omega (arith, i .1, enc .inside a lt) in
-        let comes : ℕ → Bool = λ p. has (s .live) p && followIn w line p q in
-        let member : has (reachedIn line) q ≡ (ltb q (w .positions) && (w .takes x q && (starts w line (s .taken) q || any maxPositions comes))) =
-        has-setOf (λ q. ltb q (w .positions) && (w .takes x q && (starts w line (s .taken) q || any maxPositions (λ p. has (s .live) p && followIn w line p q)))) q
-        (omega (arith, enc .few-positions)) in
-        let step = subst (λ (z : Bool). Reached (stream (take k bytes ++ x ∷ []) ended) f b q (suc (length (take k bytes)))
-        ↔ (T (has (tab q) x) × (First (world (no-bytes (take k bytes)) line z) f b q
-        ⊎ ((p : ℕ) × Reached (stream (take k bytes) false) f b p (length (take k bytes)) × Follow (world false line z) f b p q)))) (and-false ended)
-        (base-next tab f b (enc .takes a lt) (take k bytes) x ended q) in
+        let is : has (reachedIn line) q ≡ steps line q = member line q (omega (arith, enc .few-positions)) in
+        let starts : T (w .first (outer line) q) ↔ First (here line) f b q =
+        subst (λ (v : Assertion → Bool). T (w .first (outer line) q) ↔ First v f b q) (outer-is line newline)
+        (enc .first-is (outer line) a q (firstGap-first line (s .taken) (s .last) (sideOf x)) lt i) in
+        let follows : (p : ℕ) → T (w .follow (inner line) p q) ↔ Follow (worldAt (inner line)) f b p q =
+        λ p. enc .follow-is (inner line) a p q (gapOf-follow line (s .last) (sideOf x)) lt i in
+        let step = base-next tab f b (enc .takes a lt) (take k bytes) x ended q in
         let len : length (take k bytes) ≡ k = length-take-le k bytes (omega arith) in
         let more : take (suc k) bytes ≡ take k bytes ++ x ∷ [] = take-suc bytes k 0 lk in
         let to : Reached (stream (take k bytes ++ x ∷ []) ended) f b q (suc (length (take k bytes))) → Reached (stream (take (suc k) bytes) ended) f b q (suc k) =
         λ h. subst₂ (λ (l : List ℕ) (n : ℕ). Reached (stream l ended) f b q (suc n)) (sym more) len h in
         let of : Reached (stream (take (suc k) bytes) ended) f b q (suc k) → Reached (stream (take k bytes ++ x ∷ []) ended) f b q (suc (length (take k bytes))) =
-        λ h. subst₂ (λ (l : List ℕ) (n : ℕ). Reached (stream l ended) f b q (suc n)) more (sym len) h in (
+        λ h. subst₂ (λ (l : List ℕ) (n : ℕ). Reached (stream l ended) f b q (suc n)) more (sym len) h in
+        let some : (p : ℕ) → Reached (stream (take k bytes) false) f b p k → 0 < k = λ p h. omega (arith, reach-up (stream (take k bytes) false) f b (h .0) p k (h .1)) in (
           λ h.
-              let g = and-T (ltb q (w .positions)) (w .takes x q && (starts w line (s .taken) q || any maxPositions comes)) .0 (subst T member h) in
-              let c = and-T (w .takes x q) (starts w line (s .taken) q || any maxPositions comes) .0 (g .1) in
+              let g = and-T (ltb q (w .positions)) (w .takes x q && (w .first (outer line) q || any maxPositions (comes line q))) .0 (subst T is h) in
+              let c = and-T (w .takes x q) (w .first (outer line) q || any maxPositions (comes line q)) .0 (g .1) in
               to (step .1 (
                 enc .takes-is q x inside small .0 (c .0),
-                elim (or-T (starts w line (s .taken) q) (any maxPositions comes) .0 (c .1)) [
-                  | inl y ↦ inl (starts-is line a q lt i .0 y)
+                elim (or-T (w .first (outer line) q) (any maxPositions (comes line q)) .0 (c .1)) [
+                  | inl y ↦ inl (starts .0 y)
                   | inr y ↦
-                      let p = any-T maxPositions comes .0 y in
-                      let d = and-T (has (s .live) (p .0)) (followIn w line (p .0) q) .0 (p .2) in
-                      let fo = enc .follow-is line a (p .0) q lt (track .inside (p .0) (p .1) (d .0)) i .0 (d .1) in
+                      let p = any-T maxPositions (comes line q) .0 y in
+                      let d = and-T (has (s .live) (p .0)) (w .follow (inner line) (p .0) q) .0 (p .2) in
+                      let fo = follows (p .0) .0 (d .1) in
+                      let reached = track .live a lt (p .0) (follow-inside (worldAt (inner line)) f b (p .0) q fo) .0 (d .0) in
                       inr (
                         p .0,
-                        subst (λ (n : ℕ). Reached (stream (take k bytes) false) f b (p .0) n) (sym len)
-                            (track .live a lt (p .0) (follow-inside (world false line false) f b (p .0) q fo) .0 (d .0)),
-                        fo,
+                        subst (λ (n : ℕ). Reached (stream (take k bytes) false) f b (p .0) n) (sym len) reached,
+                        subst (λ (v : Assertion → Bool). Follow v f b (p .0) q) (inner-is line newline (some (p .0) reached)) fo,
                       )
                 ],
               )),
           λ h.
               let g = step .0 (of h) in
-              let came : T (starts w line (s .taken) q || any maxPositions comes) = or-T (starts w line (s .taken) q) (any maxPositions comes) .1 (elim (g .1) [
-                | inl y ↦ inl (starts-is line a q lt i .1 y)
+              let came : T (w .first (outer line) q || any maxPositions (comes line q)) = or-T (w .first (outer line) q) (any maxPositions (comes line q)) .1 (elim (g .1) [
+                | inl y ↦ inl (starts .1 y)
                 | inr y ↦
-                    let j = follow-inside (world false line false) f b (y .0) q (y .2) in
-                    let on-live : T (has (s .live) (y .0)) =
-                    track .live a lt (y .0) j .1 (subst (λ (n : ℕ). Reached (stream (take k bytes) false) f b (y .0) n) len (y .1)) in
-                    inr (any-T maxPositions comes .1 (
+                    let reached : Reached (stream (take k bytes) false) f b (y .0) k = subst (λ (n : ℕ). Reached (stream (take k bytes) false) f b (y .0) n) len (y .1) in
+                    let fo : Follow (worldAt (inner line)) f b (y .0) q = subst (λ (v : Assertion → Bool). Follow v f b (y .0) q) (sym (inner-is line newline (some (y .0) reached))) (y .2) in
+                    let j = follow-inside (worldAt (inner line)) f b (y .0) q fo in
+                    inr (any-T maxPositions (comes line q) .1 (
                       y .0,
                       omega (arith, j .1, enc .inside a lt, enc .few-positions),
-                      and-T (has (s .live) (y .0)) (followIn w line (y .0) q) .1 (on-live, enc .follow-is line a (y .0) q lt (omega (arith, j .1, enc .inside a lt)) i .1 (y .2)),
+                      and-T (has (s .live) (y .0)) (w .follow (inner line) (y .0) q) .1 (track .live a lt (y .0) j .1 reached, follows (y .0) .1 fo),
                     ))
               ]) in
-              let taking : T (w .takes x q && (starts w line (s .taken) q || any maxPositions comes)) =
-              and-T (w .takes x q) (starts w line (s .taken) q || any maxPositions comes) .1 (enc .takes-is q x inside small .1 (g .0), came) in
-              subst T (sym member)
-              (and-T (ltb q (w .positions)) (w .takes x q && (starts w line (s .taken) q || any maxPositions comes)) .1 (lt→ltb q (w .positions) inside, taking)),
+              let taking : T (w .takes x q && (w .first (outer line) q || any maxPositions (comes line q))) =
+              and-T (w .takes x q) (w .first (outer line) q || any maxPositions (comes line q)) .1 (enc .takes-is q x inside small .1 (g .0), came) in
+              subst T (sym is)
+              (and-T (ltb q (w .positions)) (w .takes x q && (w .first (outer line) q || any maxPositions (comes line q))) .1 (lt→ltb q (w .positions) inside, taking)),
         )
 
     step-inside : (line : Bool) (q : ℕ) → q < maxPositions → T (has (reachedIn line) q) → q < w .positions
-    unfolding stepped
     step-inside line q lq h =
         ltb→lt q (w .positions)
-        (and-T (ltb q (w .positions)) (w .takes x q && (starts w line (s .taken) q || any maxPositions (λ p. has (s .live) p && followIn w line p q))) .0
-        (subst T (has-setOf (λ q. ltb q (w .positions) && (w .takes x q && (starts w line (s .taken) q || any maxPositions (λ p. has (s .live) p && followIn w line p q)))) q lq) h) .0)
+        (and-T (ltb q (w .positions)) (w .takes x q && (w .first (outer line) q || any maxPositions (comes line q))) .0 (subst T (member line q lq) h) .0)
 
     goes-on : Alive (suc k) (byteState w s x)
     unfolding byteState
-    goes-on = record { taken = ap suc (track .taken); inside = step-inside false; live = steps-to false }
+    goes-on = record {
+      taken = ap suc (track .taken);
+      last = λ some. ap known-before (take-suc bytes k 0 lk) ∙ before-next (take k bytes) x;
+      inside = step-inside false;
+      live = steps-to false;
+    }
 
     -- a held position was stepped to over a last line's end
     held-is : (q : ℕ) → q < maxPositions → T (has (nextHeld w s x) q) ↔ (T (eqb x 10) × T (has (reachedIn true) q))
@@ -270,14 +309,14 @@ module _ (w : Automaton) (rule : ℕ → Rule) (from : ℕ → ℕ) (tab : ℕ �
         → T (has (unionOf (nextLive w s x) (nextHeld w s x)) q) ↔ Reached (stream (take (suc k) bytes) true) (formOf (rule a)) (from a) q (suc k)
     union-is a lt q i =
         let lq : q < maxPositions = omega (arith, i .1, enc .inside a lt, enc .few-positions) in
-        let member = has-union (nextLive w s x) (nextHeld w s x) q lq in (
-          λ h. elim (or-T (has (nextLive w s x) q) (has (nextHeld w s x) q) .0 (subst T member h)) [
+        let either = has-union (nextLive w s x) (nextHeld w s x) q lq in (
+          λ h. elim (or-T (has (nextLive w s x) q) (has (nextHeld w s x) q) .0 (subst T either h)) [
             | inl y ↦ (let g = steps-to false a lt q i .0 y in (g .0, known (g .0) (g .1)))
             | inr y ↦
                 let g = held-is q lq .0 y in
                 steps-to true a lt q i .0 (subst (λ (b : Bool). T (has (reachedIn b) q)) (sym (true-T (eqb x 10) (g .0))) (g .1))
           ],
-          λ h. subst T (sym member) (or-T (has (nextLive w s x) q) (has (nextHeld w s x) q) .1 (go (eqb x 10) refl (steps-to true a lt q i .1 h))),
+          λ h. subst T (sym either) (or-T (has (nextLive w s x) q) (has (nextHeld w s x) q) .1 (go (eqb x 10) refl (steps-to true a lt q i .1 h))),
         )
       where
         len : length (take (suc k) bytes) ≡ suc k
@@ -295,37 +334,38 @@ module _ (w : Automaton) (rule : ℕ → Rule) (from : ℕ → ℕ) (tab : ℕ �
 
     -- a held pair
     pending-is : (a : ℕ) → a < w .rules → T (on (nextPending w s x) a) ↔ Late bytes (rule a) (suc k)
-    unfolding nextPending
+    unfolding nextPending endsNewly sideOf
     pending-is a lt = (
       λ h.
           let g = on-if (eqb x 10 && ltb 0 (s .taken)) .0 h in
-          let c = and-T (endsLine w (s .live) a) (not (ends w (s .live) a)) .0 (subst T digit (g .1)) in
-          (k, refl, eqb-true x 10 (true-T (eqb x 10) (and-T (eqb x 10) (ltb 0 (s .taken)) .0 (g .0) .0)), line .0 (c .0), λ y. T-not (ends w (s .live) a) (c .1) (plain .1 y)),
+          let c = tests .0 (subst T digit (g .1)) in
+          (k, refl, eqb-true x 10 (true-T (eqb x 10) (and-T (eqb x 10) (ltb 0 (s .taken)) .0 (g .0) .0)), c .0, c .1),
       λ h.
           let e : h .0 ≡ k = omega (arith, h .1) in
           let newline : x ≡ 10 = ap (λ (n : ℕ). getD bytes n 0) (sym e) ∙ h .2 in
-          let ends-k : EndsAt bytes (rule a) k true = subst (λ (n : ℕ). EndsAt bytes (rule a) n true) e (h .3) in
+          let ends-k : EndsAt bytes (rule a) k (byte Newline) true = subst (λ (n : ℕ). EndsAt bytes (rule a) n (byte Newline) true) e (h .3) in
           let some : 0 < s .taken = omega (arith, track .taken, reach-up (stream (take k bytes) false) (formOf (rule a)) 0 (ends-k .0) (ends-k .1) k (ends-k .2)) in
           on-if (eqb x 10 && ltb 0 (s .taken)) .1 (
             and-T (eqb x 10) (ltb 0 (s .taken)) .1 (subst T (sym (eq-eqb x 10 newline)) tt, lt→ltb 0 (s .taken) some),
-            subst T (sym digit) (and-T (endsLine w (s .live) a) (not (ends w (s .live) a)) .1
-                (line .1 ends-k, not-T (ends w (s .live) a) (λ y. h .4 (subst (λ (n : ℕ). EndsAt bytes (rule a) n false) (sym e) (plain .0 y))))),
+            subst T (sym digit) (tests .1 (ends-k, λ y. h .4 (subst (λ (n : ℕ). EndsAt bytes (rule a) n (byte Newline) false) (sym e) y))),
           ),
     )
       where
+        test : ℕ → Bool
+        test = endsNewly w (beforeLast (s .last)) (s .live) (between (s .last) Newline) (s .live)
+
+        tests : T (test a) ↔ (EndsAt bytes (rule a) k (byte Newline) true × (¬ EndsAt bytes (rule a) k (byte Newline) false))
+        tests =
+            newly (ends w (beforeLast (s .last)) (s .live) a) (ends w (between (s .last) Newline) (s .live) a)
+            (ends-line-is k (omega arith) s track a lt) (ends-next-is k (omega arith) s track a lt 10)
+
         word : ℕ
-        word = rulesWhere w (λ a. endsLine w (s .live) a && not (ends w (s .live) a))
+        word = rulesWhere w test
 
-        digit : on word a ≡ (endsLine w (s .live) a && not (ends w (s .live) a))
+        digit : on word a ≡ test a
         digit =
-            on-wordOf 64 (λ a. ltb a (w .rules) && (endsLine w (s .live) a && not (ends w (s .live) a))) a (omega (arith, enc .few-rules))
-            ∙ ap (λ (b : Bool). b && (endsLine w (s .live) a && not (ends w (s .live) a))) (true-T (ltb a (w .rules)) (lt→ltb a (w .rules) lt))
-
-        line : T (endsLine w (s .live) a) ↔ EndsAt bytes (rule a) k true
-        line = ends-line-is k (omega arith) s track a lt
-
-        plain : T (ends w (s .live) a) ↔ EndsAt bytes (rule a) k false
-        plain = ends-is k (omega arith) s track a lt
+            on-wordOf 64 (λ a. ltb a (w .rules) && test a) a (omega (arith, enc .few-rules))
+            ∙ ap (λ (b : Bool). b && test a) (true-T (ltb a (w .rules)) (lt→ltb a (w .rules) lt))
 
         on-if : (b : Bool) → T (on (cond b word 0) a) ↔ (T b × T (on word a))
         on-if true = (λ h. (tt, h), λ h. h .1)
@@ -335,48 +375,56 @@ module _ (w : Automaton) (rule : ℕ → Rule) (from : ℕ → ℕ) (tab : ℕ �
     unfolding byteState
     goes-waiting = record { inside = union-inside; held = union-is; pending = pending-is }
 
+  -- ---- the tests say which pairs fall
+
+  pub byte-turn : (k : ℕ) → k < length bytes → getD bytes k 0 < 256 → (s : Stream) → Tracked k s
+      → Turn w rule from tab enc bytes (suc k) k (suc k) (lateTest w s (getD bytes k 0)) (ownTest w s (getD bytes k 0)) (s .reported)
+  unfolding endsNewly byteState
+  byte-turn k lk small s track =
+      let x : ℕ = getD bytes k 0 in
+      record {
+        only = λ a c lt f. only-byte bytes (rule a) k c lk f;
+        one-is = λ a lt.
+            both (newly (ends w (between (s .last) (sideOf x)) (s .live) a) (ends w unsettled (s .live) a)
+            (ends-next-is k (omega arith) s (track .alive) a lt x) (ends-is k (omega arith) s (track .alive) a lt))
+            (both (back (falls-late bytes (rule a) k lk)) (λ f. (omega arith, f), λ f. f .1));
+        two-is = λ a lt. both (ends-is (suc k) lk (byteState w s x) (goes-on k lk small s (track .alive)) a lt) (back (falls-own bytes (rule a) (suc k) lk));
+        marks-are = track .marks;
+      }
+
+  pub closing-turn : (s : Stream) → Tracked (length bytes) s
+      → Turn w rule from tab enc bytes (closing-moment bytes) (length bytes - 1) (length bytes) (heldTest w s) (endTest w s) (s .reported)
+  unfolding endsNewly
+  closing-turn s track =
+      let n : ℕ = length bytes in
+      record {
+        only = λ a c lt f. only-closing bytes (rule a) c f;
+        one-is = λ a lt. both (track .waits .pending a lt) (late-falls bytes (rule a));
+        two-is = λ a lt.
+            both (newly (ends w (atEnd (s .last)) (unionOf (s .live) (s .held)) a) (ends w unsettled (s .live) a)
+            (ends-at-end-is s (track .alive) (track .waits) a lt) (ends-is n (omega arith) s (track .alive) a lt))
+            (back (falls-end bytes (rule a)));
+        marks-are = track .marks;
+      }
+
+  -- ---- the state after any number of the bytes
+
   pub tracks : (k : ℕ) → k < length bytes → getD bytes k 0 < 256 → (s : Stream) → Tracked k s → Tracked (suc k) (byteState w s (getD bytes k 0))
-  unfolding byteState runMarks
-  tracks k lk small s track = record { alive = next; waits = goes-waiting k lk small s (track .alive); marks = marks }
-    where
-      x : ℕ
-      x = getD bytes k 0
-
-      next : Alive (suc k) (byteState w s (getD bytes k 0))
-      next = goes-on k lk small s (track .alive)
-
-      marks : (a : ℕ) → a < w .rules
-          → T (on (wordOf 64 (λ a. on (s .reported) a || (ltb a (w .rules) && (single w a && ends w (nextLive w s x) a)))) a)
-          ↔ (T (rule a .single) × ((d : ℕ) × (d ≤ suc k) × EndsAt bytes (rule a) d false))
-      marks a lt =
-          let now : Bool = ends w (nextLive w s x) a in
-          let bit = on-wordOf 64 (λ a. on (s .reported) a || (ltb a (w .rules) && (single w a && ends w (nextLive w s x) a))) a (omega (arith, enc .few-rules)) in
-          let now-is : T now ↔ EndsAt bytes (rule a) (suc k) false = ends-is (suc k) lk (byteState w s x) next a lt in (
-            λ h.
-                elim (or-T (on (s .reported) a) (ltb a (w .rules) && (single w a && now)) .0 (subst T bit h)) [
-                  | inl y ↦ (let g = track .marks a lt .0 y in (g .0, (g .1 .0, omega (arith, g .1 .1), g .1 .2)))
-                  | inr y ↦
-                      let c = and-T (single w a) now .0 (and-T (ltb a (w .rules)) (single w a && now) .0 y .1) in
-                      (subst T (enc .single-is a lt) (c .0), (suc k, omega arith, now-is .0 (c .1)))
-                ],
-            λ h.
-                subst T (sym bit) (or-T (on (s .reported) a) (ltb a (w .rules) && (single w a && now)) .1 (elim (decLe (h .1 .0) k) [
-                  | yes le ↦ inl (track .marks a lt .1 (h .0, (h .1 .0, le, h .1 .2)))
-                  | no gt ↦
-                      let e : h .1 .0 ≡ suc k = omega (arith, h .1 .1) in
-                      inr (and-T (ltb a (w .rules)) (single w a && now) .1 (
-                        lt→ltb a (w .rules) lt,
-                        and-T (single w a) now .1
-                            (subst T (sym (enc .single-is a lt)) (h .0), now-is .1 (subst (λ (d : ℕ). EndsAt bytes (rule a) d false) e (h .1 .2))),
-                      ))
-                ])),
-          )
+  unfolding byteState
+  tracks k lk small s track =
+      let x : ℕ = getD bytes k 0 in
+      record {
+        alive = goes-on k lk small s (track .alive);
+        waits = goes-waiting k lk small s (track .alive);
+        marks = marks-next w rule from tab enc bytes (suc k) k (suc k) (lateTest w s x) (ownTest w s x) (s .reported) (byte-turn k lk small s track);
+      }
 
   -- an opened stream
   pub opens : (s : Stream) → s .taken ≡ 0 → s .live ≡ emptySet → s .held ≡ emptySet → s .reported ≡ 0 → s .pending ≡ 0 → Tracked 0 s
   opens s taken live held reported pending = record {
     alive = record {
       taken = taken;
+      last = λ some. absurd (omega (arith, some));
       inside = λ q lq h. absurd (none q lq h);
       live = λ a lt q i. (λ h. absurd (none q (few a lt q i) h), λ h. absurd (omega (arith, reach-up (stream (take 0 bytes) false) (formOf (rule a)) (from a) (h .0) q 0 (h .1))));
     };
@@ -387,7 +435,7 @@ module _ (w : Automaton) (rule : ℕ → Rule) (from : ℕ → ℕ) (tab : ℕ �
     };
     marks = λ a lt. (
       λ h. absurd (subst T (ap (λ (m : ℕ). on m a) reported ∙ on-zero a) h),
-      λ h. absurd (omega (arith, h .1 .1, reach-up (stream (take (h .1 .0) bytes) false) (formOf (rule a)) 0 (h .1 .2 .0) (h .1 .2 .1) (h .1 .0) (h .1 .2 .2))),
+      λ h. let start : h .1 .0 ≡ 0 = omega (arith, h .1 .2) in absurd (none-at-zero bytes (rule a) (h .1 .1) (subst (λ (j : ℕ). Falls bytes (rule a) j (h .1 .1)) start (h .1 .3))),
     );
   }
     where

@@ -1,6 +1,6 @@
--- The worked cases that the product's rules mark P, "proved together, in one table": each rule alone in an emptied table, and all of them in one. The rules
--- are pattern bytes and flags, the logs are cut as the rules cut them, and all else is worked out by the definitions of the calls. The theorem is
--- `worked-cases` of proofs/Cases.antt. Assumes nothing: these are definitions.
+-- The worked cases that the product's rules mark P, "proved together, in one table", and those of line mode and word edges: each rule alone in an emptied table, and
+-- all of them in one. The rules are pattern bytes and flags, the logs are cut as the rules cut them, and all else is worked out by the definitions of the calls. The
+-- theorem is `worked-cases` of proofs/Cases.antt. Assumes nothing: these are definitions.
 use mathlib.Core.Path.{_≡_}
 use mathlib.Core.List.{List, [], _∷_, map, List·Memᴰ}
 use Prim.Native.Nat.{ℕ, suc, _*_, _≤_, _%_, _^_}
@@ -123,6 +123,13 @@ cases =
     ∷ hits 12 0 "[]a]" (log 12 (("]", 1 ∷ []) ∷ []) [] ∷ [])
     -- "`a$` on `a` and byte 10", of which "`a$` now gives 1, at closing"
     ∷ hits 11 0 "a$" (log 11 (("a\n", []) ∷ []) (1 ∷ []) ∷ [])
+    -- "a pair with none settled waits, as `a(?:\b|\B)` and `ba\b|a\B` do"
+    ∷ hits 15 0 "a(?:\\b|\\B)" (log 15 (("a", []) ∷ ("b", 1 ∷ []) ∷ []) [] ∷ [])
+    ∷ hits 16 0 "ba\\b|a\\B" (log 16 (("ba", []) ∷ ("-", 2 ∷ []) ∷ []) [] ∷ [])
+    -- "delivered when that byte is taken, or at closing, before the pairs of the newer offset": so of a single-match rule it is the one that stays
+    ∷ hits 13 8 "a\\b|a-" (log 13 (("a-", 1 ∷ []) ∷ []) [] ∷ log 13 (("a", []) ∷ []) (1 ∷ []) ∷ [])
+    -- "Add flag 4": "`^` also holds after a byte 10 that isn't the stream's last byte"
+    ∷ hits 14 4 "\\n^" (log 14 (("\n\n", 1 ∷ []) ∷ []) [] ∷ [])
     -- "`[z-a]` 9 at 1; `a*+` 14 at 1; `a)` 12 at 1; `(a` 12 at 2; `\x{100}` 7 at 0; `X{,4}` 15 at 5; empty pattern 15 at 0."
     ∷ refuses 21 0 "[z-a]" 9 1
     ∷ refuses 22 0 "a*+" 14 1
@@ -139,15 +146,18 @@ cut blocks closing = record { blocks = blocks; closing = closing }
 -- the same logs with all the rules in one table: by rising id within a byte, whatever the order of their addition
 unfoldable pub logs : List Log
 logs =
-    cut (("fooxyzbar", (3, 8) ∷ (8, 8) ∷ (12, 8) ∷ (7, 9) ∷ []) ∷ ("baz", (3, 11) ∷ (8, 11) ∷ (12, 11) ∷ []) ∷ ("qbar", (3, 15) ∷ (8, 15) ∷ (12, 15) ∷ (7, 16) ∷ []) ∷ []) []
-    ∷ cut (("abbb", (1, 1) ∷ (3, 1) ∷ (8, 1) ∷ (12, 1) ∷ (4, 2) ∷ (5, 2) ∷ (6, 2) ∷ (5, 3) ∷ (5, 4) ∷ []) ∷ []) []
-    ∷ cut (("aBC", (1, 1) ∷ (3, 1) ∷ (8, 1) ∷ (12, 1) ∷ (4, 2) ∷ (4, 3) ∷ []) ∷ []) []
+    cut (("fooxyzbar", (3, 8) ∷ (8, 8) ∷ (12, 8) ∷ (15, 8) ∷ (16, 8) ∷ (7, 9) ∷ []) ∷ ("baz", (3, 11) ∷ (8, 11) ∷ (12, 11) ∷ (15, 11) ∷ (16, 11) ∷ []) ∷ ("qbar", (3, 15) ∷ (8, 15) ∷ (12, 15) ∷ (15, 15) ∷ (16, 15) ∷ (7, 16) ∷ []) ∷ []) []
+    ∷ cut (("abbb", (1, 1) ∷ (3, 1) ∷ (8, 1) ∷ (12, 1) ∷ (15, 1) ∷ (16, 1) ∷ (4, 2) ∷ (5, 2) ∷ (6, 2) ∷ (5, 3) ∷ (5, 4) ∷ []) ∷ []) []
+    ∷ cut (("aBC", (1, 1) ∷ (3, 1) ∷ (8, 1) ∷ (12, 1) ∷ (15, 1) ∷ (16, 1) ∷ (4, 2) ∷ (4, 3) ∷ []) ∷ []) []
     ∷ cut (("AB", []) ∷ []) []
     ∷ cut (("{,}", (9, 3) ∷ []) ∷ []) []
-    ∷ cut (("aXX", (1, 1) ∷ (3, 1) ∷ (8, 1) ∷ (12, 1) ∷ (8, 2) ∷ (8, 3) ∷ []) ∷ []) []
-    ∷ cut (("aa", (1, 1) ∷ (3, 1) ∷ (8, 1) ∷ (12, 1) ∷ (3, 2) ∷ (8, 2) ∷ (12, 2) ∷ []) ∷ []) ((2, 2) ∷ (11, 2) ∷ [])
+    ∷ cut (("aXX", (1, 1) ∷ (3, 1) ∷ (8, 1) ∷ (12, 1) ∷ (15, 1) ∷ (16, 1) ∷ (8, 2) ∷ (8, 3) ∷ []) ∷ []) []
+    ∷ cut (("aa", (1, 1) ∷ (3, 1) ∷ (8, 1) ∷ (12, 1) ∷ (15, 1) ∷ (16, 1) ∷ (3, 2) ∷ (8, 2) ∷ (12, 2) ∷ []) ∷ []) ((2, 2) ∷ (11, 2) ∷ (13, 2) ∷ (15, 2) ∷ [])
     ∷ cut (("]", (12, 1) ∷ []) ∷ []) []
-    ∷ cut (("a\n", (1, 1) ∷ (3, 1) ∷ (8, 1) ∷ (12, 1) ∷ []) ∷ []) ((11, 1) ∷ [])
+    ∷ cut (("a\n", (1, 1) ∷ (3, 1) ∷ (8, 1) ∷ (12, 1) ∷ (13, 1) ∷ (15, 1) ∷ []) ∷ []) ((11, 1) ∷ [])
+    ∷ cut (("ba", (3, 2) ∷ (8, 2) ∷ (12, 2) ∷ []) ∷ ("-", (13, 2) ∷ (15, 2) ∷ (16, 2) ∷ []) ∷ []) []
+    ∷ cut (("a-", (1, 1) ∷ (3, 1) ∷ (8, 1) ∷ (12, 1) ∷ (13, 1) ∷ (15, 1) ∷ []) ∷ []) []
+    ∷ cut (("\n\n", (14, 1) ∷ []) ∷ []) []
     ∷ []
 
 -- every case holds, the rule alone; and all of them hold together

@@ -83,7 +83,7 @@ Acceptance = (c : Setting) → Between c → (a : Addition) → addAnswer (table
 
 -- The reasons to refuse an addition to some accepted rules, by their numbers. (1 does not arise: the words are a table.)
 pub data Refusal (rules : List Accepted) (a : Addition) : Type 0 where
-  -- 2: "a flag bit other than 1, 2, 8"
+  -- 2: "a flag bit other than 1, 2, 8", and "Refusal 2 lets 4 through"
   unknown-flag : ¬ (bitAnd (a .flags) knownFlags ≡ a .flags) → Refusal rules a
   -- 3: "id already in the table"
   id-there : (r : Accepted) → List·Memᴰ r rules → r .id ≡ a .id → Refusal rules a

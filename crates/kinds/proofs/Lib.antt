@@ -4,3 +4,4 @@ pub mod Bits
 pub mod Case
 pub mod Collect
 pub mod Laws
+pub mod Sides

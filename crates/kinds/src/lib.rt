@@ -1,13 +1,14 @@
 // What each byte is: a digit, a word byte, white space of a sort, a letter of either case. One table has it, a bit for each kind; the sets of the types
 // `\d \w \s \h \v` and of the classes by name such as `[:alpha:]`, their complements, and the other case of a letter are read from the table and written
 // nowhere else.
-// Nothing is required of a caller. specs/Kind.antt and specs/Case.antt say what each function gives.
+// Nothing is required of a caller. specs/Kind.antt, specs/Case.antt and specs/Side.antt say what each function gives.
 mod table;
 
 ghost use mathlib.Core.Path.{_≡_};
 ghost use Rattle.sets.specs.Set.{setOf};
 ghost use Rattle.kinds.specs.Kind.{isKind, isNotKind, kindsOf};
 ghost use Rattle.kinds.specs.Case.{otherCase, caseClosed, uncased};
+ghost use Rattle.kinds.specs.Side.{sideOf};
 ghost use Rattle.kinds.specs.Invariants.{Ruled, bitOf};
 
 // The bit of each kind in an entry of the table, in the order of specs/Kind.antt's list of kinds.
@@ -191,4 +192,28 @@ pub fn close_case(s: [u64; 4]) -> [u64; 4]
         i += 1;
     }
     t
+}
+
+// The byte that ends a line.
+const NEWLINE: u8 = 10;
+
+// What a byte is to an assertion that looks at it from a gap beside it.
+pub enum Side {
+    Other,
+    Word,
+    Newline,
+}
+
+// What this byte is, seen from a gap before or after it.
+pub fn side_of(b: u8) -> Side
+    ensures { λ r. ⌜ r ≡ sideOf b ⌝ }
+{
+    if b == NEWLINE {
+        return Side::Newline;
+    }
+    if kinds_of(b) & WORD != 0 {
+        Side::Word
+    } else {
+        Side::Other
+    }
 }

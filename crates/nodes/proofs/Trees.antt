@@ -13,7 +13,7 @@ use lib.Seq.{sets, sets-eq, drop-at, take-at, drop-drop, length-take-le}
 use Rattle.atoms.specs.Number.{cap}
 use Rattle.atoms.proofs.Suffixes.{first}
 use Rattle.regex.specs.Tree.{empty, item, assertion, then, or, repeat, Extra, atMost, unbounded}
-use Rattle.regex.specs.Rule.{Assertion, at-start, at-last-line, at-end, ByteSet}
+use Rattle.regex.specs.Rule.{Assertion, at-start, at-last-line, at-end, line-start, line-end, word-edge, no-word-edge, ByteSet}
 use Rattle.nodes.specs.Nodes.{Syntax, word, opOf, xOf, yOf, zOf, extraOf, numberOf, codeOf, nodeOf, treeWithin, treeAt, width, lay}
 use Rattle.nodes.specs.Invariants.{Tidy, childAt}
 use Rattle.nodes.proofs.Base.{sets-append}
@@ -109,6 +109,10 @@ module _ (d : ℕ) (a : List ℕ) (k : ℕ) where
   read-assertion at-start = refl
   read-assertion at-last-line = refl
   read-assertion at-end = refl
+  read-assertion line-start = refl
+  read-assertion line-end = refl
+  read-assertion word-edge = refl
+  read-assertion no-word-edge = refl
 
   read-item : (c : ByteSet) (r : List ℕ) → 4 ≤ k → length c ≡ 4 → Stands a (k - 4) c r → node-at d a k (word 1 0 0 0) ≡ item c
   unfolding nodeOf

@@ -7,7 +7,7 @@ use lib.Dec.{eqb, ltb}
 use lib.ListN.{getD, take, drop}
 use Rattle.atoms.specs.Number.{cap}
 use Rattle.regex.specs.Tree.{Tree, empty, item, assertion, then, or, repeat, Extra, atMost, unbounded}
-use Rattle.regex.specs.Rule.{Assertion, at-start, at-last-line, at-end, ByteSet}
+use Rattle.regex.specs.Rule.{Assertion, at-start, at-last-line, at-end, line-start, line-end, word-edge, no-word-edge, ByteSet}
 
 abbrev pub Syntax : Type 0
 Syntax = Tree ByteSet Assertion
@@ -36,14 +36,24 @@ abbrev pub numberOf : Extra → ℕ
 numberOf (atMost j) = j
 numberOf unbounded = cap
 
--- the three assertions, as numbers: `^` and `\A`, `\z`, and `$` and `\Z`, for which every other number stands too
+-- the assertions as numbers from 0 to 6; every number above reads as 6
 abbrev pub assertionOf : ℕ → Assertion
-assertionOf x = cond (eqb x 0) at-start (cond (eqb x 1) at-end at-last-line)
+assertionOf x =
+    cond (eqb x 0) at-start
+    (cond (eqb x 1) at-end
+    (cond (eqb x 2) at-last-line
+    (cond (eqb x 3) line-start
+    (cond (eqb x 4) line-end
+    (cond (eqb x 5) word-edge no-word-edge)))))
 
 abbrev pub codeOf : Assertion → ℕ
 codeOf at-start = 0
 codeOf at-last-line = 2
 codeOf at-end = 1
+codeOf line-start = 3
+codeOf line-end = 4
+codeOf word-edge = 5
+codeOf no-word-edge = 6
 
 -- the tree of a node's word, where `set` stands before it and t gives the trees of smaller numbers
 unfoldable pub nodeOf : ℕ → ByteSet → (ℕ → Syntax) → Syntax

@@ -10,7 +10,7 @@ use lib.Dec.{eqb, leb, ltb}
 use lib.ListN.{length, drop, replicate}
 use Rattle.tokens.specs.declared.Options.{Options}
 use Rattle.atoms.specs.declared.Atom.{Atom}
-use Rattle.atoms.specs.declared.Atom.the-variants.{Byte, OfKind, NotOfKind, Dot, NotNewline, Start, LastLine, End}
+use Rattle.atoms.specs.declared.Atom.the-variants.{Byte, OfKind, NotOfKind, Dot, NotNewline, Start, LastLine, End, Caret, Dollar, WordEdge, NoWordEdge}
 use Rattle.tokens.specs.declared.Token.{Token}
 use Rattle.tokens.specs.declared.Token.the-variants.{Finish, Bar, Close, Class, One, Open, Set, Note, Unclosed, Repeat, Bad}
 use Rattle.tokens.specs.declared.Lexeme.{Lexeme}
@@ -107,6 +107,10 @@ one-fine at k m NotNewline h = item-fine at k m _ single h (words-item (m .optio
 one-fine at k m Start h = item-fine at k m _ nothing h tt (omega arith)
 one-fine at k m LastLine h = item-fine at k m _ nothing h tt (omega arith)
 one-fine at k m End h = item-fine at k m _ nothing h tt (omega arith)
+one-fine at k m Caret h = item-fine at k m _ nothing h tt (omega arith)
+one-fine at k m Dollar h = item-fine at k m _ nothing h tt (omega arith)
+one-fine at k m WordEdge h = item-fine at k m _ nothing h tt (omega arith)
+one-fine at k m NoWordEdge h = item-fine at k m _ nothing h tt (omega arith)
 
 closing-fine : (at : ℕ) (st : List Frame) (t : Syntax) → FramesTidy st → Tidy t → width t + weighFrames st ≤ 6 * at + 1 → Fine-next at (closing at st t)
 unfolding Fine-next closing FramesTidy weighFrames AllTidy weigh

@@ -10,7 +10,7 @@ use denote.Enum.Declared.{tagOf}
 use Rattle.tokens.proofs.Token as token
 use Rattle.atoms.proofs.Atom as atom
 use Rattle.atoms.specs.declared.Atom.{Atom}
-use Rattle.atoms.specs.declared.Atom.the-variants.{Byte, OfKind, NotOfKind, Dot, NotNewline, Start, LastLine, End}
+use Rattle.atoms.specs.declared.Atom.the-variants.{Byte, OfKind, NotOfKind, Dot, NotNewline, Start, LastLine, End, Caret, Dollar, WordEdge, NoWordEdge}
 use Rattle.tokens.specs.declared.Token.{Token}
 use Rattle.tokens.specs.declared.Token.the-variants.{Finish, Bar, Close, Class, One, Open, Set, Note, Unclosed, Repeat, Bad}
 use Rattle.tokens.specs.declared.Lexeme.{Lexeme}
@@ -63,6 +63,10 @@ takes-byte NotNewline h = tt
 takes-byte Start h = miss (0 ∷ 1 ∷ 2 ∷ 3 ∷ 4 ∷ []) 5 tt h
 takes-byte LastLine h = miss (0 ∷ 1 ∷ 2 ∷ 3 ∷ 4 ∷ []) 6 tt h
 takes-byte End h = miss (0 ∷ 1 ∷ 2 ∷ 3 ∷ 4 ∷ []) 7 tt h
+takes-byte Caret h = miss (0 ∷ 1 ∷ 2 ∷ 3 ∷ 4 ∷ []) 8 tt h
+takes-byte Dollar h = miss (0 ∷ 1 ∷ 2 ∷ 3 ∷ 4 ∷ []) 9 tt h
+takes-byte WordEdge h = miss (0 ∷ 1 ∷ 2 ∷ 3 ∷ 4 ∷ []) 10 tt h
+takes-byte NoWordEdge h = miss (0 ∷ 1 ∷ 2 ∷ 3 ∷ 4 ∷ []) 11 tt h
 
 -- the tokens that end a branch
 pub ends : (t : Token) → Among (0 ∷ 1 ∷ 2 ∷ []) t → Ends t

@@ -19,7 +19,7 @@ use Rattle.atoms.specs.Number.{cap, numeralOf}
 use Rattle.atoms.specs.Escape.{escapeOf}
 use Rattle.atoms.specs.Fault.{lower}
 use Rattle.atoms.specs.Raw.{anyRaw, withRaw}
-use Rattle.tokens.specs.Option.{faulty, withCaseless, withDotAll, lettersOf, beforeClose, commentOf, openingOf}
+use Rattle.tokens.specs.Option.{faulty, withCaseless, withDotAll, withLines, lettersOf, beforeClose, commentOf, openingOf}
 use Rattle.tokens.specs.Quantifier.{noForm, form, bounded, open-ended, bracesOf, formOf, marked, quantifierOf}
 use Rattle.atoms.specs.Quote.{isMark}
 use Rattle.tokens.specs.Token.{escaped, unquotedOf, spelledOf, faultyAs, lexemeOf}
@@ -56,13 +56,15 @@ letters-right c on any o size [] = bad-right c 14 (omega arith)
 letters-right c on any o size (b ∷ v) =
     let caseless : RightL c (lettersOf on true (withCaseless on o) (size + 1) v) = letters-right c on true (withCaseless on o) (size + 1) v in
     let dotAll : RightL c (lettersOf on true (withDotAll on o) (size + 1) v) = letters-right c on true (withDotAll on o) (size + 1) v in
+    let lines : RightL c (lettersOf on true (withLines on o) (size + 1) v) = letters-right c on true (withLines on o) (size + 1) v in
     let off : RightL c (lettersOf false any o (size + 1) v) = letters-right c false any o (size + 1) v in
     let wrong : RightL c (faulty 14) = bad-right c 14 (omega arith) in
     either (RightL c) (eqb b 105) (λ e. caseless)
     (λ e. either (RightL c) (eqb b 115) (λ f. dotAll)
-    (λ f. either (RightL c) (eqb b 45) (λ g. either (RightL c) on (λ h. off) (λ h. wrong))
+    (λ f. either (RightL c) (eqb b 109) (λ k. lines)
+    (λ k. either (RightL c) (eqb b 45) (λ g. either (RightL c) on (λ h. off) (λ h. wrong))
     (λ g. either (RightL c) (eqb b 41) (λ h. either (RightL c) any (λ i. refl) (λ i. wrong))
-    (λ h. either (RightL c) (eqb b 58) (λ i. either (RightL c) any (λ j. refl) (λ j. wrong)) (λ i. wrong)))))
+    (λ h. either (RightL c) (eqb b 58) (λ i. either (RightL c) any (λ j. refl) (λ j. wrong)) (λ i. wrong))))))
 
 comment-right : (c : ℕ) (o : Options) (v : List ℕ) → RightL c (commentOf o v)
 unfolding commentOf

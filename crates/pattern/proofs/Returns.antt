@@ -14,7 +14,7 @@ use Rattle.sets.proofs.Laws.{Words}
 use Rattle.classes.specs.declared as declared
 use Rattle.tokens.specs.declared.Options.{Options}
 use Rattle.atoms.specs.declared.Atom.{Atom}
-use Rattle.atoms.specs.declared.Atom.the-variants.{Byte, OfKind, NotOfKind, Dot, NotNewline, Start, LastLine, End}
+use Rattle.atoms.specs.declared.Atom.the-variants.{Byte, OfKind, NotOfKind, Dot, NotNewline, Start, LastLine, End, Caret, Dollar, WordEdge, NoWordEdge}
 use Rattle.tokens.specs.declared.Token.{Token}
 use Rattle.tokens.specs.declared.Token.the-variants.{Class, One, Open, Set, Note, Unclosed, Repeat}
 use Rattle.tokens.specs.declared.Lexeme.{Lexeme}
@@ -23,8 +23,8 @@ use Rattle.atoms.specs.Number.{cap}
 use Rattle.tokens.specs.Token.{lexemeOf, itemSet}
 use Rattle.atoms.proofs.Suffixes.{inside}
 use Rattle.regex.specs.Tree.{empty, item, assertion, then, or, repeat}
-use Rattle.regex.specs.Rule.{at-start, at-last-line, at-end}
-use Rattle.nodes.specs.Nodes.{Syntax, word, treeAt, width, lay, extraOf}
+use Rattle.regex.specs.Rule.{Assertion, at-start, at-last-line, at-end, line-start, line-end, word-edge, no-word-edge}
+use Rattle.nodes.specs.Nodes.{Syntax, word, codeOf, treeAt, width, lay, extraOf}
 use Rattle.pattern.specs.Walk.{nothing, single, Frame, Read, refused, chained, chosen, one, closing}
 use Rattle.nodes.specs.Invariants.{Tidy}
 use Rattle.pattern.specs.Invariants.{lent, Room, state, from, groupEnds, classEnds, refusal, got, onward, Read-up, Said, SaysBranches, SaysSequence, SaysItem, SaysOne, SaysClass, SaysQuantified, SaidBranches, SaidSequence, SaidItem, SaidOne, SaidClass, SaidQuantified, faultOf}
@@ -409,6 +409,10 @@ Takes NotNewline = Unit {0}
 Takes Start = ⊥
 Takes LastLine = ⊥
 Takes End = ⊥
+Takes Caret = ⊥
+Takes Dollar = ⊥
+Takes WordEdge = ⊥
+Takes NoWordEdge = ⊥
 
 one-takes : (st : List Frame) (al it : List Syntax) (o : Options) (x : Atom) → Takes x → one (state st al it o nothing) x ≡ state st al (item (itemSet o x) ∷ it) o single
 unfolding one
@@ -420,6 +424,20 @@ one-takes st al it o NotNewline k = refl
 one-takes st al it o Start k = absurd k
 one-takes st al it o LastLine k = absurd k
 one-takes st al it o End k = absurd k
+one-takes st al it o Caret k = absurd k
+one-takes st al it o Dollar k = absurd k
+one-takes st al it o WordEdge k = absurd k
+one-takes st al it o NoWordEdge k = absurd k
+
+-- an assertion's number is at most that of the last
+pub code-small : (y : Assertion) → codeOf y < 7
+code-small at-start = omega arith
+code-small at-last-line = omega arith
+code-small at-end = omega arith
+code-small line-start = omega arith
+code-small line-end = omega arith
+code-small word-edge = omega arith
+code-small no-word-edge = omega arith
 
 module _ (s a : List ℕ) (at : ℕ) (o : Options) (n : ℕ) (room : Room s a at n 5) where
   -- what is left of the room after an item's words, at place p
@@ -436,21 +454,14 @@ module _ (s a : List ℕ) (at : ℕ) (o : Options) (n : ℕ) (room : Room s a at
       let t : treeAt b (n + 4) ≡ item bytes = laid-tree (item bytes) a b n (n + 4) (omega arith) (omega (arith, room .space)) (omega (arith, room .space, room .long)) w e in
       (rw t at Q) a n at (n + 6 * (length s - at) + 5) R
 
-  module _ (b : List ℕ) (g : Got) where
-    pub one-start : g ≡ got at (n + 1) n o → b ≡ set a n (word 2 0 0 0) → SaidOne s a b at o Start n g
-    unfolding onward one width lay Tidy
-    one-start eg eb =
-        rw (eg, eb) (leaf-said (SaysOne s at o Start (got at (n + 1) n o)) s a at n 5 o room (omega arith) (assertion at-start) (word 2 0 0 0) refl refl tt (λ st al it. refl))
-
-    pub one-last-line : g ≡ got at (n + 1) n o → b ≡ set a n (word 2 2 0 0) → SaidOne s a b at o LastLine n g
-    unfolding onward one width lay Tidy
-    one-last-line eg eb =
-        rw (eg, eb) (leaf-said (SaysOne s at o LastLine (got at (n + 1) n o)) s a at n 5 o room (omega arith) (assertion at-last-line) (word 2 2 0 0) refl refl tt (λ st al it. refl))
-
-    pub one-end : g ≡ got at (n + 1) n o → b ≡ set a n (word 2 1 0 0) → SaidOne s a b at o End n g
-    unfolding onward one width lay Tidy
-    one-end eg eb =
-        rw (eg, eb) (leaf-said (SaysOne s at o End (got at (n + 1) n o)) s a at n 5 o room (omega arith) (assertion at-end) (word 2 1 0 0) refl refl tt (λ st al it. refl))
+  -- an atom that stands for the assertion y
+  pub one-assertion : (x : Atom) (y : Assertion) → ((st : List Frame) (al it : List Syntax) → one (state st al it o nothing) x ≡ state st al (assertion y ∷ it) o nothing)
+      → (b : List ℕ) (g : Got) → g ≡ got at (n + 1) n o → b ≡ set a n (word 2 (codeOf y) 0 0) → SaidOne s a b at o x n g
+  unfolding onward width lay Tidy
+  one-assertion x y h b g eg eb =
+      rw (eg, eb)
+      (leaf-said (SaysOne s at o x (got at (n + 1) n o)) s a at n 5 o room (omega arith) (assertion y) (word 2 (codeOf y) 0 0) refl refl tt
+      (λ st al it. rw (h st al it)))
 
   -- an atom that takes a byte
   pub one-item : (x : Atom) → Takes x → (bytes b c : List ℕ) (g : Got) → bytes ≡ itemSet o x → b ≡ sets a n (bytes ++ (word 1 0 0 0 ∷ [])) → SaidQuantified s b c at o (n + 5) (n + 4) g → SaidOne s a c at o x n g

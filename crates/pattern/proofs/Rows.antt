@@ -12,7 +12,7 @@ use lib.Seq.{getD-drop, drop-drop}
 use Rattle.kinds.specs.Kind.{within, isLower, isUpper, isDigit, isAlpha, isAlnum, isCntrl}
 use Rattle.kinds.specs.declared.Kind.the-variants.{Digit, Word, Space, Horizontal, Vertical}
 use Rattle.atoms.specs.declared.Atom.{Atom}
-use Rattle.atoms.specs.declared.Atom.the-variants.{Byte, OfKind, NotOfKind, NotNewline, Start, LastLine, End}
+use Rattle.atoms.specs.declared.Atom.the-variants.{Byte, OfKind, NotOfKind, NotNewline, Start, LastLine, End, WordEdge, NoWordEdge}
 use Rattle.atoms.specs.declared.Part.{Part}
 use Rattle.atoms.specs.declared.Gap.{Gap}
 use Rattle.classes.specs.declared.Joint.{Joint}
@@ -28,7 +28,7 @@ use Rattle.atoms.specs.Raw.{anyRaw, withRaw}
 use Rattle.atoms.specs.Quote.{isMark, opensQuote, wider, gapOf}
 use Rattle.classes.specs.Name.{Name, names, begins, nameAmong, nameOf}
 use Rattle.classes.specs.Class.{bracketOf, memberOf, rangeFault, isType, byteOf, jointOf, spelledAt, memberAt}
-use Rattle.tokens.specs.Option.{plain, withCaseless, withDotAll, lettersOf, beforeClose, commentOf, openingOf}
+use Rattle.tokens.specs.Option.{plain, withCaseless, withDotAll, withLines, lettersOf, beforeClose, commentOf, openingOf}
 use Rattle.tokens.specs.Quantifier.{bounded, open-ended, bracesOf, formOf, marked, quantifierOf}
 use Rattle.tokens.specs.Token.{escaped, withQuoted, unquotedOf, lexemeOf, spelledOf, faultyAs}
 use Rattle.atoms.proofs.Suffixes.{first}
@@ -181,8 +181,8 @@ other-fault true c v e x o z k m n =
     ∙ chain-among c (97 ∷ 101 ∷ 102 ∷ 110 ∷ 114 ∷ 116 ∷ 100 ∷ 119 ∷ 115 ∷ 104 ∷ 118 ∷ 68 ∷ 87 ∷ 83 ∷ 72 ∷ 86 ∷ 98 ∷ []))
 other-fault false c v e x o z k m n =
     rw (e, x, o, z, k, m, n, and-false (eqb (getD v 0 0) 123))
-    (named-fault c _ _ (type-fault c _ _ (two (eqb c 78) NotNewline _ _ (two (eqb c 65) Start _ _ (two (eqb c 90) LastLine _ _ (two (eqb c 122) End _ 14 refl)))))
-    ∙ chain-among c (97 ∷ 101 ∷ 102 ∷ 110 ∷ 114 ∷ 116 ∷ 100 ∷ 119 ∷ 115 ∷ 104 ∷ 118 ∷ 68 ∷ 87 ∷ 83 ∷ 72 ∷ 86 ∷ 78 ∷ 65 ∷ 90 ∷ 122 ∷ []))
+    (named-fault c _ _ (type-fault c _ _ (two (eqb c 78) NotNewline _ _ (two (eqb c 65) Start _ _ (two (eqb c 90) LastLine _ _ (two (eqb c 122) End _ _ (two (eqb c 98) WordEdge _ _ (two (eqb c 66) NoWordEdge _ 14 refl)))))))
+    ∙ chain-among c (97 ∷ 101 ∷ 102 ∷ 110 ∷ 114 ∷ 116 ∷ 100 ∷ 119 ∷ 115 ∷ 104 ∷ 118 ∷ 68 ∷ 87 ∷ 83 ∷ 72 ∷ 86 ∷ 78 ∷ 65 ∷ 90 ∷ 122 ∷ 98 ∷ 66 ∷ []))
 
 -- any other byte
 alnum-99 : isAlnum 99 ≡ true
@@ -258,6 +258,11 @@ module _ (v : List ℕ) (ih : (on any : Bool) (o : Options) (size : ℕ) → let
   letter-s on any o size =
       ih on true (withDotAll on o) (size + 1) ∙ sym (rw (lt-ltb (hyphens (optionBytes v)) (suc (length (optionBytes v))) (omega (arith, hyphens-fit (optionBytes v))), or-true any))
 
+  letter-m : LettersFault 109 v
+  unfolding LettersFault lettersOf optionBytes hyphens
+  letter-m on any o size =
+      ih on true (withLines on o) (size + 1) ∙ sym (rw (lt-ltb (hyphens (optionBytes v)) (suc (length (optionBytes v))) (omega (arith, hyphens-fit (optionBytes v))), or-true any))
+
   letter-off : LettersFault 45 v
   unfolding LettersFault lettersOf optionBytes hyphens
   letter-off true any o size =
@@ -278,18 +283,19 @@ letter-open v true false o size = refl
 letter-open v false true o size = refl
 letter-open v false false o size = refl
 
-letter-other : (c : ℕ) (v : List ℕ) → eqb c 105 ≡ false → eqb c 115 ≡ false → eqb c 45 ≡ false → eqb c 41 ≡ false → eqb c 58 ≡ false → LettersFault c v
+letter-other : (c : ℕ) (v : List ℕ) → eqb c 105 ≡ false → eqb c 115 ≡ false → eqb c 109 ≡ false → eqb c 45 ≡ false → eqb c 41 ≡ false → eqb c 58 ≡ false → LettersFault c v
 unfolding LettersFault lettersOf optionBytes hyphens
-letter-other c v e f g k l on any o size = rw (e, f, g, k, l, and-false (any || false), and-false (leb 0 (cond on 1 0)))
+letter-other c v e f m g k l on any o size = rw (e, f, m, g, k, l, and-false (any || false), and-false (leb 0 (cond on 1 0)))
 
 -- any byte
-letter-by : (c : ℕ) (v : List ℕ) → LettersFault 105 v → LettersFault 115 v → LettersFault 45 v → LettersFault c v
-letter-by c v i s h =
+letter-by : (c : ℕ) (v : List ℕ) → LettersFault 105 v → LettersFault 115 v → LettersFault 109 v → LettersFault 45 v → LettersFault c v
+letter-by c v i s m h =
     split (eqb c 105) (λ e. at-letter 105 e i)
     (λ e. split (eqb c 115) (λ f. at-letter 115 f s)
-    (λ f. split (eqb c 45) (λ g. at-letter 45 g h)
+    (λ f. split (eqb c 109) (λ n. at-letter 109 n m)
+    (λ n. split (eqb c 45) (λ g. at-letter 45 g h)
     (λ g. split (eqb c 41) (λ k. at-letter 41 k (letter-set v))
-    (λ k. split (eqb c 58) (λ l. at-letter 58 l (letter-open v)) (λ l. letter-other c v e f g k l)))))
+    (λ k. split (eqb c 58) (λ l. at-letter 58 l (letter-open v)) (λ l. letter-other c v e f n g k l))))))
   where
     at-letter : (k : ℕ) → eqb c k ≡ true → LettersFault k v → LettersFault c v
     at-letter k e l = subst (λ (b : ℕ). LettersFault b v) (sym (eqb-true c k e)) l
@@ -299,7 +305,7 @@ unfolding LettersFault lettersOf optionBytes hyphens
 letters-fault [] on any o size = sym (rw (and-false (any || false), and-false (leb 0 (cond on 1 0))))
 letters-fault (c ∷ v) on any o size =
     let ih : (on any : Bool) (o : Options) (size : ℕ) → lettersOf on any o size v .fault ≡ cond (settingFrom on any v) 0 14 = letters-fault v in
-    letter-by c v (letter-i v ih) (letter-s v ih) (letter-off v ih) on any o size
+    letter-by c v (letter-i v ih) (letter-s v ih) (letter-m v ih) (letter-off v ih) on any o size
 
 flip : (b : Bool) → _≡_ {A = ℕ} (cond b 0 14) (cond (not b) 14 0)
 flip true = refl
@@ -438,13 +444,13 @@ module _ (o : Options) (v : List ℕ) where
   unfolding unquotedOf formOf row6 row7 row11 row14
   dot-token = refl
 
-  start-token : LexemeFault o v 94
+  caret-token : LexemeFault o v 94
   unfolding unquotedOf formOf row6 row7 row11 row14
-  start-token = refl
+  caret-token = refl
 
-  last-line-token : LexemeFault o v 36
+  dollar-token : LexemeFault o v 36
   unfolding unquotedOf formOf row6 row7 row11 row14
-  last-line-token = refl
+  dollar-token = refl
 
   unquoted-fault : (c : ℕ) → isMark false c (getD v 0 0) ≡ false → LexemeFault o v c
   unfolding unquotedOf row6 row7 row11 row14
@@ -455,8 +461,8 @@ module _ (o : Options) (v : List ℕ) where
       (λ g. split (eqb c 41) (λ h. at-byte 41 h close-token)
       (λ h. split (eqb c 124) (λ i. at-byte 124 i bar-token)
       (λ i. split (eqb c 46) (λ j. at-byte 46 j dot-token)
-      (λ j. split (eqb c 94) (λ k. at-byte 94 k start-token)
-      (λ k. split (eqb c 36) (λ l. at-byte 36 l last-line-token)
+      (λ j. split (eqb c 94) (λ k. at-byte 94 k caret-token)
+      (λ k. split (eqb c 36) (λ l. at-byte 36 l dollar-token)
       (λ l. rw (e, f, g, h, i, j, k, l)
       (split (formOf (c ∷ v) .is) (λ n. rw n (quantifier-fault c v n)) (λ n. rw n))))))))))
     where

@@ -12,7 +12,7 @@ use Rattle.sets.specs.Set.{emptySet, fullSet, inserted, insertedRange, unionOf,
 use Rattle.sets.proofs.Laws.{Words, words-setOf}
 use Rattle.kinds.specs.Case.{caseClosed}
 use Rattle.atoms.specs.declared.Atom.{Atom}
-use Rattle.atoms.specs.declared.Atom.the-variants.{Byte, OfKind, NotOfKind, Dot, NotNewline, Start, LastLine, End}
+use Rattle.atoms.specs.declared.Atom.the-variants.{Byte, OfKind, NotOfKind, Dot, NotNewline, Start, LastLine, End, Caret, Dollar, WordEdge, NoWordEdge}
 use Rattle.classes.specs.declared.Class.{Class}
 use Rattle.atoms.specs.declared.Gap.{Gap}
 use Rattle.classes.specs.declared.Member.{Member}
@@ -53,6 +53,10 @@ words-item o NotNewline = words-complement _
 words-item o Start = words-empty
 words-item o LastLine = words-empty
 words-item o End = words-empty
+words-item o Caret = words-empty
+words-item o Dollar = words-empty
+words-item o WordEdge = words-empty
+words-item o NoWordEdge = words-empty
 
 words-joined : (s : List ℕ) (lo hi : Atom) → Words s → Words (joined s lo hi)
 unfolding joined insertedRange unionOf
@@ -64,6 +68,10 @@ words-joined s NotNewline hi w = w
 words-joined s Start hi w = w
 words-joined s LastLine hi w = w
 words-joined s End hi w = w
+words-joined s Caret hi w = w
+words-joined s Dollar hi w = w
+words-joined s WordEdge hi w = w
+words-joined s NoWordEdge hi w = w
 
 words-settled : (caseless negated : Bool) (s : List ℕ) → Words s → Words (settled caseless negated s)
 unfolding settled

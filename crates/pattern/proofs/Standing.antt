@@ -23,7 +23,7 @@ use Rattle.atoms.specs.Fault.{lower}
 use Rattle.atoms.specs.Raw.{withRaw}
 use Rattle.atoms.specs.Quote.{isMark, gapOf}
 use Rattle.classes.specs.Class.{memberAt, joined, membersOf, classOf}
-use Rattle.tokens.specs.Option.{plain, withCaseless, withDotAll, lettersOf, beforeClose, commentOf, openingOf}
+use Rattle.tokens.specs.Option.{plain, withCaseless, withDotAll, withLines, lettersOf, beforeClose, commentOf, openingOf}
 use Rattle.tokens.specs.Quantifier.{formOf, marked, quantifierOf}
 use Rattle.tokens.specs.Token.{escaped, unquotedOf, spelledOf, faultyAs, lexemeOf}
 use Rattle.sets.specs.Set.{emptySet}
@@ -190,9 +190,10 @@ module _ (P : Type 0) where
   letters-quiet (c ∷ v) on any o size =
       either QuietLexeme (eqb c 105) (λ e. letters-quiet v on true (withCaseless on o) (size + 1))
       (λ e. either QuietLexeme (eqb c 115) (λ f. letters-quiet v on true (withDotAll on o) (size + 1))
-      (λ f. either QuietLexeme (eqb c 45) (λ g. either QuietLexeme on (λ h. letters-quiet v false any o (size + 1)) (λ h. tt))
+      (λ f. either QuietLexeme (eqb c 109) (λ k. letters-quiet v on true (withLines on o) (size + 1))
+      (λ k. either QuietLexeme (eqb c 45) (λ g. either QuietLexeme on (λ h. letters-quiet v false any o (size + 1)) (λ h. tt))
       (λ g. either QuietLexeme (eqb c 41) (λ h. either QuietLexeme any (λ i. tt) (λ i. tt))
-      (λ h. either QuietLexeme (eqb c 58) (λ i. either QuietLexeme any (λ j. refl) (λ j. tt)) (λ i. tt)))))
+      (λ h. either QuietLexeme (eqb c 58) (λ i. either QuietLexeme any (λ j. refl) (λ j. tt)) (λ i. tt))))))
 
   comment-quiet : (o : Options) (v : List ℕ) → (among 41 v ≡ false → P) → QuietLexeme (commentOf o v)
   unfolding commentOf Quiet

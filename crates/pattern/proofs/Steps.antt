@@ -13,7 +13,7 @@ use lib.Seq.{drop-drop}
 use Rattle.classes.specs.declared as declared
 use Rattle.tokens.specs.declared.Options.{Options}
 use Rattle.atoms.specs.declared.Atom.{Atom}
-use Rattle.atoms.specs.declared.Atom.the-variants.{Byte, OfKind, NotOfKind, Dot, NotNewline, Start, LastLine, End}
+use Rattle.atoms.specs.declared.Atom.the-variants.{Byte, OfKind, NotOfKind, Dot, NotNewline, Start, LastLine, End, Caret, Dollar, WordEdge, NoWordEdge}
 use Rattle.tokens.specs.declared.Token.{Token}
 use Rattle.tokens.specs.declared.Token.the-variants.{Finish, Bar, Close, Class, One, Open, Set, Note, Unclosed, Repeat, Bad}
 use Rattle.tokens.specs.declared.Lexeme.{Lexeme}
@@ -128,6 +128,10 @@ one-free st al it o NotNewline x y = refl
 one-free st al it o Start x y = refl
 one-free st al it o LastLine x y = refl
 one-free st al it o End x y = refl
+one-free st al it o Caret x y = refl
+one-free st al it o Dollar x y = refl
+one-free st al it o WordEdge x y = refl
+one-free st al it o NoWordEdge x y = refl
 
 -- neither a quantifier nor a note
 abbrev pub Other : Token → Type 0

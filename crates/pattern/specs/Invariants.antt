@@ -69,7 +69,7 @@ classEnds s at m =
 
 -- a refusal, and a tree read up to place `at`, its root the last of the words below n
 abbrev pub refusal : ℕ → ℕ → Got
-refusal fault at = record { fault = fault; at = at; n = 0; root = 0; options = record { caseless = false; dotall = false; quoted = false } }
+refusal fault at = record { fault = fault; at = at; n = 0; root = 0; options = record { caseless = false; dotall = false; lines = false; quoted = false } }
 
 abbrev pub got : (at n root : ℕ) → Options → Got
 got at n root o = record { fault = 0; at = at; n = n; root = root; options = o }

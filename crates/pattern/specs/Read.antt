@@ -24,9 +24,9 @@ judged n (tree t) = cond (nullable t) (refused 15 n) (cond (ltb limit (saturatin
 unfoldable pub readOf : List ℕ → Options → Read
 readOf s o = cond (ltb longest (length s)) (refused 5 0) (judged (length s) (walk s 0 0 (begin o)))
 
--- "Flags, .. 1 caseless, 2 dot matches all": other bits mean nothing here. No quote is open at the start.
+-- "Flags, .. 1 caseless, 2 dot matches all"; "Add flag 4 and option `m`": other bits mean nothing here. No quote is open at the start.
 unfoldable pub optionsOf : ℕ → Options
-optionsOf flags = record { caseless = eqb (flags % 2) 1; dotall = eqb (flags / 2 % 2) 1; quoted = false }
+optionsOf flags = record { caseless = eqb (flags % 2) 1; dotall = eqb (flags / 2 % 2) 1; lines = eqb (flags / 4 % 2) 1; quoted = false }
 
 -- how many words the nodes of any pattern fit in
 abbrev pub room : ℕ

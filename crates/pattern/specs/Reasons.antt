@@ -63,26 +63,27 @@ unfoldable pub tooLarge : List ℕ → Bool
 tooLarge v =
     eqb (getD v 1 0) 123 && ((eqb (getD v 0 0) 120 && over255 16 (drop 2 v)) || (eqb (getD v 0 0) 111 && over255 8 (drop 2 v)))
 
--- the letters and digits that mean something after a `\`: x o 0 c, a e f n r t, d w s h v and their capitals, by where they stand b or N A Z z, and the marks
--- of quotes, Q E
+-- the letters and digits that mean something after a `\`: x o 0 c, a e f n r t, d w s h v and their capitals, by where they stand b or N A Z z b B, and the
+-- marks of quotes, Q E
 abbrev pub letters : Bool → List ℕ
 letters true = 120 ∷ 111 ∷ 48 ∷ 99 ∷ 97 ∷ 101 ∷ 102 ∷ 110 ∷ 114 ∷ 116 ∷ 100 ∷ 119 ∷ 115 ∷ 104 ∷ 118 ∷ 68 ∷ 87 ∷ 83 ∷ 72 ∷ 86 ∷ 98 ∷ 81 ∷ 69 ∷ []
-letters false = 120 ∷ 111 ∷ 48 ∷ 99 ∷ 97 ∷ 101 ∷ 102 ∷ 110 ∷ 114 ∷ 116 ∷ 100 ∷ 119 ∷ 115 ∷ 104 ∷ 118 ∷ 68 ∷ 87 ∷ 83 ∷ 72 ∷ 86 ∷ 78 ∷ 65 ∷ 90 ∷ 122 ∷ 81 ∷ 69 ∷ []
+letters false = 120 ∷ 111 ∷ 48 ∷ 99 ∷ 97 ∷ 101 ∷ 102 ∷ 110 ∷ 114 ∷ 116 ∷ 100 ∷ 119 ∷ 115 ∷ 104 ∷ 118 ∷ 68 ∷ 87 ∷ 83 ∷ 72 ∷ 86 ∷ 78 ∷ 65 ∷ 90 ∷ 122 ∷ 98 ∷ 66 ∷ 81 ∷ 69 ∷ []
 
 abbrev pub among : ℕ → List ℕ → Bool
 among c [] = false
 among c (k ∷ ks) = cond (eqb c k) true (among c ks)
 
--- 14: "any other letter or digit escape"; "`\N`, `\A`, `\z` in a class"; "add `\Z` with the same meaning (14 in a class)"
+-- 14: "any other letter or digit escape"; "`\N`, `\A`, `\z` in a class"; "add `\Z` with the same meaning (14 in a class)"; it lets through "`\b` and, outside
+-- a class, `\B`"
 unfoldable pub unknown : (inside : Bool) → List ℕ → Bool
 unknown inside v = isAlnum (getD v 0 0) && not (among (getD v 0 0) (letters inside))
 
 -- ---- openings: v is the pattern after the `(`
 
--- the letters and hyphens of an option setting
+-- the letters and hyphens of an option setting: "Options `i` and `s`", and "option `m`"
 unfoldable pub optionBytes : List ℕ → List ℕ
 optionBytes [] = []
-optionBytes (c ∷ v) = cond (eqb c 105 || (eqb c 115 || eqb c 45)) (c ∷ optionBytes v) []
+optionBytes (c ∷ v) = cond (eqb c 105 || (eqb c 115 || (eqb c 109 || eqb c 45))) (c ∷ optionBytes v) []
 
 unfoldable pub hyphens : List ℕ → ℕ
 hyphens [] = 0

@@ -6,7 +6,7 @@ use Prim.Native.Nat.{ℕ, zero, suc, pred, _+_, _-_}
 use lib.Dec.{eqb, leb}
 use lib.ListN.{length}
 use Rattle.atoms.specs.declared.Atom.{Atom}
-use Rattle.atoms.specs.declared.Atom.the-variants.{Byte, OfKind, NotOfKind, Dot, NotNewline, Start, LastLine, End}
+use Rattle.atoms.specs.declared.Atom.the-variants.{Byte, OfKind, NotOfKind, Dot, NotNewline, Start, LastLine, End, Caret, Dollar, WordEdge, NoWordEdge}
 use Rattle.tokens.specs.declared.Options.{Options}
 use Rattle.tokens.specs.declared.Token.{Token}
 use Rattle.tokens.specs.declared.Token.the-variants.{Finish, Bar, Close, Class, One, Open, Set, Note, Unclosed, Repeat, Bad}
@@ -15,7 +15,7 @@ use Rattle.atoms.specs.Fault.{lower}
 use Rattle.classes.specs.Class.{classOf}
 use Rattle.tokens.specs.Token.{lexemeOf, itemSet}
 use Rattle.regex.specs.Tree.{empty, item, assertion, then, or, repeat}
-use Rattle.regex.specs.Rule.{at-start, at-last-line, at-end}
+use Rattle.regex.specs.Rule.{Assertion, at-start, at-last-line, at-end, line-start, line-end, word-edge, no-word-edge}
 use Rattle.nodes.specs.Nodes.{Syntax, extraOf}
 
 -- what a quantifier at this place would repeat: nothing, an item or a group, or one that has a quantifier already
@@ -75,7 +75,15 @@ with-options m o = record { stack = m .stack; branches = m .branches; items = m 
 abbrev pub noted : State → Options → State
 noted m o = record { stack = m .stack; branches = m .branches; items = m .items; options = o; target = m .target }
 
--- an item takes a quantifier, an assertion does not; "add `\Z` with the same meaning" as `$`, "`\z` stays"
+-- What `^` and `$` stand for where the options are these: "`^` and `\A` hold at offset 0 only", "PCRE also lets `$` hold just before a newline that is the last
+-- byte. Mend it"; and "Add flag 4 and option `m`: `^` also holds after a byte 10 that isn't the stream's last byte, `$` also before any byte 10."
+abbrev pub caret : Options → Assertion
+caret o = cond (o .lines) line-start at-start
+
+abbrev pub dollar : Options → Assertion
+dollar o = cond (o .lines) line-end at-last-line
+
+-- An item takes a quantifier, an assertion does not. "Add `\Z` with the same meaning" as `$` without `m`, "`\z` stays"; "Add `\b` and `\B`".
 unfoldable pub one : State → Atom → State
 one m (Byte b) = with-item m (item (itemSet (m .options) (Byte b))) single
 one m (OfKind k) = with-item m (item (itemSet (m .options) (OfKind k))) single
@@ -85,6 +93,10 @@ one m NotNewline = with-item m (item (itemSet (m .options) NotNewline)) single
 one m Start = with-item m (assertion at-start) nothing
 one m LastLine = with-item m (assertion at-last-line) nothing
 one m End = with-item m (assertion at-end) nothing
+one m Caret = with-item m (assertion (caret (m .options))) nothing
+one m Dollar = with-item m (assertion (dollar (m .options))) nothing
+one m WordEdge = with-item m (assertion word-edge) nothing
+one m NoWordEdge = with-item m (assertion no-word-edge) nothing
 
 -- "Groups open at once: 16"
 abbrev pub deepest : ℕ

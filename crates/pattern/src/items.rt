@@ -5,7 +5,14 @@ use crate::writer::put_item;
 use atoms::Atom;
 use classes::class_at;
 use nodes::layout::ASSERTION;
+use nodes::layout::AT_END;
+use nodes::layout::AT_LAST_LINE;
+use nodes::layout::AT_START;
+use nodes::layout::LINE_END;
+use nodes::layout::LINE_START;
+use nodes::layout::NO_WORD_EDGE;
 use nodes::layout::REPEAT;
+use nodes::layout::WORD_EDGE;
 use tokens::Lexeme;
 use tokens::Options;
 use tokens::Token;
@@ -14,7 +21,8 @@ use tokens::token_at;
 ghost use mathlib.Core.Path.{_≡_};
 ghost use Prim.Native.Nat.{_+_, _<_};
 ghost use lib.ListN.{set};
-ghost use Rattle.nodes.specs.Nodes.{word};
+ghost use Rattle.nodes.specs.Nodes.{word, codeOf};
+ghost use Rattle.pattern.specs.Walk.{caret, dollar};
 ghost use Rattle.pattern.specs.Invariants.{lent, Room, refusal, got, faultOf, SaidOne, SaidClass, SaidQuantified};
 
 // What a reader hands back. Fault 0: it has read up to place `at`, the words below n are written, root is the tree's node, and `options` hold from
@@ -39,6 +47,7 @@ pub(super) fn refuse(fault: u32, at: usize) -> Got
         options: Options {
             caseless: false,
             dotall: false,
+            lines: false,
             quoted: false,
         },
     }
@@ -53,7 +62,7 @@ pub(super) fn leaf(
     at: usize,
     options: Options,
 ) -> Got
-    requires { ⌜ (n < lent) × (op < 8) × (x < 3) ⌝ }
+    requires { ⌜ (n < lent) × (op < 8) × (x < 7) ⌝ }
     ensures { λ r. ⌜ (r ≡ got at (n + 1) n options) × (now (a .exit) ≡ set (now (a .entry)) n (word op x 0 0)) ⌝ }
 {
     put(a, n, op, x, 0, 0);
@@ -123,6 +132,26 @@ pub(super) fn quantified(
     }
 }
 
+// The number of the assertion that `^` stands for, where the options are these.
+fn caret(options: Options) -> u64
+    ensures { λ r. ⌜ r ≡ codeOf (caret options) ⌝ }
+{
+    if options.lines {
+        return LINE_START;
+    }
+    AT_START
+}
+
+// The number of the assertion that `$` stands for, where the options are these.
+fn dollar(options: Options) -> u64
+    ensures { λ r. ⌜ r ≡ codeOf (dollar options) ⌝ }
+{
+    if options.lines {
+        return LINE_END;
+    }
+    AT_LAST_LINE
+}
+
 // What one atom stands for, which was read up to `at`: an assertion, or an item with the quantifier that may follow it.
 pub(super) fn single(
     s: &[u8],
@@ -136,9 +165,13 @@ pub(super) fn single(
     ensures { λ r. ⌜ SaidOne (now (s .entry)) (now (a .entry)) (now (a .exit)) at options atom n r ⌝ }
 {
     match atom {
-        Atom::Start => leaf(a, n, ASSERTION, 0, at, options),
-        Atom::LastLine => leaf(a, n, ASSERTION, 2, at, options),
-        Atom::End => leaf(a, n, ASSERTION, 1, at, options),
+        Atom::Start => leaf(a, n, ASSERTION, AT_START, at, options),
+        Atom::LastLine => leaf(a, n, ASSERTION, AT_LAST_LINE, at, options),
+        Atom::End => leaf(a, n, ASSERTION, AT_END, at, options),
+        Atom::Caret => leaf(a, n, ASSERTION, caret(options), at, options),
+        Atom::Dollar => leaf(a, n, ASSERTION, dollar(options), at, options),
+        Atom::WordEdge => leaf(a, n, ASSERTION, WORD_EDGE, at, options),
+        Atom::NoWordEdge => leaf(a, n, ASSERTION, NO_WORD_EDGE, at, options),
         _ => {
             let bytes = item_set(options, atom);
             put_item(a, n, bytes);

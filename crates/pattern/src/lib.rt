@@ -53,6 +53,7 @@ fn options_of(flags: u32) -> Options
     Options {
         caseless: flags % 2 == 1,
         dotall: flags / 2 % 2 == 1,
+        lines: flags / 4 % 2 == 1,
         quoted: false,
     }
 }

@@ -1,20 +1,21 @@
--- When a pair falls: with its last byte if some way passes no assertion on the end, else at the closing, where the last offset can, and the one before a last
--- newline. What is settled at a moment is read off the positions reached by the pair's own bytes, and the world that follows them.
--- Assumes nothing.
+-- When a pair falls: with its last byte if some way of it is known to hold before the next byte is; else with the next byte, which tells all but whether the last
+-- line ends there; else at the closing, where the last offset can, and the one before a last newline. What is settled at a moment is read off the positions
+-- reached by the pair's own bytes, and the world that follows them. Assumes nothing.
 use mathlib.Core.Path.{_≡_, refl, sym, subst, subst₂, ap, ap₂, _∙_}
 use mathlib.Core.Logic.{_⊎_, inl, inr, _↔_}
 use mathlib.Core.Bool.{Bool, true, false, _&&_}
-use mathlib.Core.List.{List, _∷_, _++_}
-use Prim.Native.Nat.{ℕ, suc, _+_, _≤_, _<_}
+use mathlib.Core.List.{List, [], _∷_, _++_}
+use Prim.Native.Nat.{ℕ, zero, suc, _+_, _-_, _≤_, _<_}
 use native.Mathlib.Omega.{arith}
 use native.Mathlib.Decide.{decLt, decLe}
-use lib.Dec.{T, ltb, ltb→lt, lt→ltb}
-use lib.ListN.{length, getD, take, drop, length-take, take-append-drop}
-use lib.Seq.{length-take-le, take-all, take-take, drop-cons}
+use lib.Dec.{ltb, ltb→lt, lt→ltb}
+use lib.ListN.{length, getD, take, drop, length-take, take-append-drop, drop-of-length-le}
+use lib.Seq.{length-take-le, take-all, take-take, drop-cons, getD-take}
 use Rattle.sets.specs.Set.{has}
+use Rattle.kinds.specs.Side.{sideOf}
 use Rattle.regex.specs.Tree.{Means}
 use Rattle.regex.specs.Form.{Form, Match, Reach, write}
-use Rattle.regex.specs.Gap.{no-bytes, last-line}
+use Rattle.regex.specs.Gap.{last-line, Known, byte, edge, unknown, known-before, known-after}
 use Rattle.regex.specs.Rule.{Rule, Assertion, world, holds, ByteSet, stream, MatchEnds}
 use Rattle.regex.specs.Ordered.{closing-moment, end-known, seen, Settled, Falls}
 use Rattle.regex.proofs.Relations.{Last}
@@ -24,10 +25,10 @@ use Rattle.regex.proofs.Step.{end}
 use Rattle.regex.proofs.Local.{reach-up, reach-short}
 use Rattle.regex.proofs.Worlds.{last-more}
 use Rattle.regex.proofs.Stream.{Same}
-use Rattle.regex.proofs.Base.{open-same, ended-same, base-over, base-end, reach-ended}
+use Rattle.regex.proofs.Base.{next-known, open-same, ended-same, base-over, base-end, line-more, known-more, reach-ended}
 use Rattle.regex.proofs.OneList.{settled-dec}
 
-before-closing : (bytes : List ℕ) (m : ℕ) → m ≤ length bytes → end-known bytes m ≡ false
+pub before-closing : (bytes : List ℕ) (m : ℕ) → m ≤ length bytes → end-known bytes m ≡ false
 before-closing bytes m le = false-T (end-known bytes m) (λ h. omega (arith, ltb→lt (length bytes) m h))
 
 at-closing : (bytes : List ℕ) → end-known bytes (closing-moment bytes) ≡ true
@@ -40,13 +41,17 @@ module _ (bytes : List ℕ) (r : Rule) where
   abbrev f : Form ByteSet Assertion
   f = write (r .tree)
 
-  -- some way through the rule ends with byte e, where the last line ends too if z says so
-  abbrev pub EndsAt : ℕ → Bool → Type 0
-  EndsAt e z = (s : ℕ) × (p : ℕ) × Reach (stream (take e bytes) false) f 0 s p e × Last (world false z false) f 0 p
+  -- some way through the rule ends with the byte before offset e, where this is known of the next byte, and the last line ends if z says so
+  abbrev pub EndsAt : ℕ → Known → Bool → Type 0
+  EndsAt e after z = (s : ℕ) × (p : ℕ) × Reach (stream (take e bytes) false) f 0 s p e × Last (world (known-before (take e bytes)) after z) f 0 p
+
+  -- the next byte
+  abbrev pub after : ℕ → Known
+  after e = byte (sideOf (getD bytes e 0))
 
   -- some way ends where the stream does
   abbrev pub EndsLast : Type 0
-  EndsLast = (s : ℕ) × (p : ℕ) × Reach (stream bytes true) f 0 s p n × Last (world false true true) f 0 p
+  EndsLast = (s : ℕ) × (p : ℕ) × Reach (stream bytes true) f 0 s p n × Last (world (known-before bytes) edge true) f 0 p
 
   -- the pair's own bytes, and those known after them
   split : (m e : ℕ) → e ≤ m → take e bytes ++ drop e (take m bytes) ≡ take m bytes
@@ -54,23 +59,24 @@ module _ (bytes : List ℕ) (r : Rule) where
 
   -- what is settled at moment m, where the bytes known after the pair's own tell nothing new of the gaps before
   settled-is : (m e : ℕ) → e ≤ m → e ≤ n → Same has holds (take e bytes) (drop e (take m bytes)) false (end-known bytes m)
-      → (z : Bool) → (end-known bytes m && last-line (drop e (take m bytes))) ≡ z → (end-known bytes m && no-bytes (drop e (take m bytes))) ≡ false
-      → Settled bytes r m e ↔ EndsAt e z
-  settled-is m e le ln same z line none = (
+      → (k : Known) (z : Bool) → known-after (drop e (take m bytes)) (end-known bytes m) ≡ k → (end-known bytes m && last-line (drop e (take m bytes))) ≡ z
+      → Settled bytes r m e ↔ EndsAt e k z
+  settled-is m e le ln same k z next line = (
     λ h. let g = over (h .start) (h .earlier) .0 (written (seen bytes m) (r .tree) (h .start) e (h .matched)) in
         (h .start, g .0, g .1, g .2),
     λ h. let lt : h .0 < e = reach-up (stream (take e bytes) false) f 0 (h .0) (h .1) e (h .2) in
         record { start = h .0; earlier = lt; matched = unwritten (seen bytes m) (r .tree) (h .0) e (over (h .0) lt .1 (h .1, h .2, h .3)) },
   )
     where
-      over : (s : ℕ) → s < e → Match (seen bytes m) f s e ↔ ((p : ℕ) × Reach (stream (take e bytes) false) f 0 s p e × Last (world false z false) f 0 p)
+      over : (s : ℕ) → s < e
+          → Match (seen bytes m) f s e ↔ ((p : ℕ) × Reach (stream (take e bytes) false) f 0 s p e × Last (world (known-before (take e bytes)) k z) f 0 p)
       over s lt =
           let len : length (take e bytes) ≡ e = length-take-le e bytes ln in
-          subst₂ (λ (u v : Bool). Match (seen bytes m) f s e ↔ ((p : ℕ) × Reach (stream (take e bytes) false) f 0 s p e × Last (world false u v) f 0 p)) line none
+          subst₂ (λ (u : Known) (v : Bool). Match (seen bytes m) f s e ↔ ((p : ℕ) × Reach (stream (take e bytes) false) f 0 s p e × Last (world (known-before (take e bytes)) u v) f 0 p)) next line
           (subst₂
-          (λ (l : List ℕ) (k : ℕ). Match (stream l (end-known bytes m)) f s k
-          ↔ ((p : ℕ) × Reach (stream (take e bytes) false) f 0 s p k
-          × Last (world false (end-known bytes m && last-line (drop e (take m bytes))) (end-known bytes m && no-bytes (drop e (take m bytes)))) f 0 p))
+          (λ (l : List ℕ) (j : ℕ). Match (stream l (end-known bytes m)) f s j
+          ↔ ((p : ℕ) × Reach (stream (take e bytes) false) f 0 s p j
+          × Last (world (known-before (take e bytes)) (known-after (drop e (take m bytes)) (end-known bytes m)) (end-known bytes m && last-line (drop e (take m bytes)))) f 0 p))
           (split m e le) len
           (base-over f 0 (take e bytes) (drop e (take m bytes)) (end-known bytes m) same s (omega arith)))
 
@@ -84,23 +90,35 @@ module _ (bytes : List ℕ) (r : Rule) where
       f 0 (h .start) (g .0) e (g .1) in
       omega (arith, short, length-take m bytes)
 
-  -- while bytes come, no end is known: the same pairs are settled at every moment from their last byte on
-  pub by-byte : (m e : ℕ) → e ≤ m → m ≤ n → Settled bytes r m e ↔ EndsAt e false
-  by-byte m e le ln =
-      let unknown : end-known bytes m ≡ false = before-closing bytes m ln in
-      settled-is m e le (omega arith) (subst (λ (k : Bool). Same has holds (take e bytes) (drop e (take m bytes)) false k) (sym unknown) (open-same (take e bytes) (drop e (take m bytes))))
-      false (ap (λ (k : Bool). k && last-line (drop e (take m bytes))) unknown) (ap (λ (k : Bool). k && no-bytes (drop e (take m bytes))) unknown)
+  -- while bytes come, no end is known
+  open-settled : (m e : ℕ) → e ≤ m → m ≤ n → (k : Known) → known-after (drop e (take m bytes)) false ≡ k → Settled bytes r m e ↔ EndsAt e k false
+  open-settled m e le ln k next =
+      let open-end : end-known bytes m ≡ false = before-closing bytes m ln in
+      settled-is m e le (omega arith)
+      (subst (λ (z : Bool). Same has holds (take e bytes) (drop e (take m bytes)) false z) (sym open-end) (open-same (take e bytes) (drop e (take m bytes))))
+      k false (ap (known-after (drop e (take m bytes))) open-end ∙ next) (ap (λ (z : Bool). z && last-line (drop e (take m bytes))) open-end)
+
+  -- with the pair's last byte nothing is known of the next one
+  pub by-byte : (e : ℕ) → e ≤ n → Settled bytes r e e ↔ EndsAt e unknown false
+  by-byte e le =
+      let none : drop e (take e bytes) ≡ [] = drop-of-length-le (take e bytes) {i = e} (omega (arith, length-take-le e bytes le)) in
+      open-settled e e (omega arith) le unknown (ap (λ (l : List ℕ). known-after l false) none)
+
+  -- from the next byte on it is known: the same pairs are settled at each of these moments
+  pub by-next : (m e : ℕ) → e < m → m ≤ n → Settled bytes r m e ↔ EndsAt e (after e) false
+  by-next m e lt ln =
+      open-settled m e (omega arith) ln (after e)
+      (next-known (take m bytes) e false (omega (arith, length-take-le m bytes ln)) ∙ ap (λ (x : ℕ). byte (sideOf x)) (getD-take m bytes e 0 lt))
 
   -- at the closing, before the stream's end: `$` holds where one newline is left
-  pub by-closing : (e : ℕ) → e < n → Settled bytes r (closing-moment bytes) e ↔ EndsAt e (last-line (drop e bytes))
+  pub by-closing : (e : ℕ) → e < n → Settled bytes r (closing-moment bytes) e ↔ EndsAt e (after e) (last-line (drop e bytes))
   by-closing e lt =
       let all : take (suc n) bytes ≡ bytes = take-all (suc n) bytes (omega arith) in
       let known : end-known bytes (suc n) ≡ true = at-closing bytes in
       let rest : drop e (take (suc n) bytes) ≡ getD bytes e 0 ∷ drop (suc e) bytes = ap (drop e) all ∙ drop-cons bytes e 0 lt in
       settled-is (suc n) e (omega arith) (omega arith)
       (subst₂ (λ (l : List ℕ) (k : Bool). Same has holds (take e bytes) l false k) (sym rest) (sym known) (ended-same (take e bytes) (getD bytes e 0) (drop (suc e) bytes)))
-      (last-line (drop e bytes)) (ap₂ (λ (l : List ℕ) (k : Bool). k && last-line (drop e l)) all known)
-      (ap₂ (λ (l : List ℕ) (k : Bool). k && no-bytes l) rest known)
+      (after e) (last-line (drop e bytes)) (ap₂ known-after rest known) (ap₂ (λ (l : List ℕ) (k : Bool). k && last-line (drop e l)) all known)
 
   -- and at its end
   pub by-end : Settled bytes r (closing-moment bytes) n ↔ EndsLast
@@ -116,64 +134,55 @@ module _ (bytes : List ℕ) (r : Rule) where
             },
       )
 
-  -- a way that needs no look at the end is one whatever comes
-  pub ends-more : (e : ℕ) (z : Bool) → EndsAt e false → EndsAt e z
-  ends-more e z h = (h .0, h .1, h .2, last-more (world false false false) (world false z false) more f 0 (h .1) (h .3))
-    where
-      more : (a : Assertion) → T (world false false false a) → T (world false z false a)
-      more Rattle.regex.specs.Rule.at-start h = h
-      more Rattle.regex.specs.Rule.at-last-line h = absurd h
-      more Rattle.regex.specs.Rule.at-end h = h
+  -- what is known only grows
+  pub ends-next : (e : ℕ) (k : Known) (z : Bool) → EndsAt e unknown false → EndsAt e k z
+  ends-next e k z h =
+      (h .0, h .1, h .2, last-more (world (known-before (take e bytes)) unknown false) (world (known-before (take e bytes)) k z) (known-more (known-before (take e bytes)) k z) f 0 (h .1) (h .3))
 
-  pub ends-ended : EndsAt n false → EndsLast
+  pub ends-line : (e : ℕ) (k : Known) (z : Bool) → EndsAt e k false → EndsAt e k z
+  ends-line e k z h =
+      (h .0, h .1, h .2, last-more (world (known-before (take e bytes)) k false) (world (known-before (take e bytes)) k z) (line-more (known-before (take e bytes)) k z) f 0 (h .1) (h .3))
+
+  pub ends-ended : EndsAt n unknown false → EndsLast
   ends-ended h =
       let whole : take n bytes ≡ bytes = take-all n bytes (omega arith) in (
         h .0,
         h .1,
         reach-ended f 0 bytes (h .0) (h .1) (subst (λ (l : List ℕ). Reach (stream l false) f 0 (h .0) (h .1) n) whole (h .2)),
-        last-more (world false false false) (world false true true) more f 0 (h .1) (h .3),
+        last-more (world (known-before bytes) unknown false) (world (known-before bytes) edge true) (known-more (known-before bytes) edge true) f 0 (h .1)
+            (subst (λ (l : List ℕ). Last (world (known-before l) unknown false) f 0 (h .1)) whole (h .3)),
       )
+
+  -- what is settled at one moment is settled at the next
+  stays-next : (m e : ℕ) → e ≤ m → e ≤ n → m ≤ n → Settled bytes r m e → Settled bytes r (suc m) e
+  stays-next m e le ln lm h = go (decLt e m) (decLt m n) (decLt e n)
     where
-      more : (a : Assertion) → T (world false false false a) → T (world false true true a)
-      more Rattle.regex.specs.Rule.at-start h = h
-      more Rattle.regex.specs.Rule.at-last-line h = tt
-      more Rattle.regex.specs.Rule.at-end h = tt
+      own : m ≡ e → EndsAt e unknown false
+      own q = by-byte e ln .0 (subst (λ (k : ℕ). Settled bytes r k e) q h)
+
+      closes : m ≡ n → Settled bytes r (closing-moment bytes) e → Settled bytes r (suc m) e
+      closes q = subst (λ (k : ℕ). Settled bytes r (suc k) e) (sym q)
+
+      go : Dec (e < m) → Dec (m < n) → Dec (e < n) → Settled bytes r (suc m) e
+      go (yes lt) (yes l) d = by-next (suc m) e (omega arith) l .1 (by-next m e lt lm .0 h)
+      go (no ge) (yes l) d = by-next (suc m) e (omega arith) l .1 (ends-next e (after e) false (own (omega arith)))
+      go (yes lt) (no g) (yes d) = closes (omega arith) (by-closing e d .1 (ends-line e (after e) (last-line (drop e bytes)) (by-next m e lt lm .0 h)))
+      go (no ge) (no g) (yes d) = absurd (omega arith)
+      go (yes lt) (no g) (no d) = absurd (omega arith)
+      go (no ge) (no g) (no d) =
+          let q : e ≡ n = omega arith in
+          closes (omega arith) (subst (λ (k : ℕ). Settled bytes r (closing-moment bytes) k) (sym q)
+          (by-end .1 (ends-ended (subst (λ (k : ℕ). EndsAt k unknown false) q (own (omega arith))))))
 
   -- what is settled stays settled
   pub stays-settled : (j m e : ℕ) → j ≤ m → m ≤ closing-moment bytes → Settled bytes r j e → Settled bytes r m e
-  stays-settled j m e le lc h = go (within j e h) (decLe m n) (decLe j n) (decLt e n)
+  stays-settled j m e le lc h = let q : j + (m - j) ≡ m = omega arith in subst (λ (k : ℕ). Settled bytes r k e) q (go (m - j) (omega arith))
     where
-      go : (e ≤ j) × (e ≤ n) → Dec (m ≤ n) → Dec (j ≤ n) → Dec (e < n) → Settled bytes r m e
-      go w (yes lm) lj d = by-byte m e (omega arith) lm .1 (by-byte j e (w .0) (omega arith) .0 h)
-      go w (no gm) (no gj) d = let q : j ≡ m = omega arith in subst (λ (k : ℕ). Settled bytes r k e) q h
-      go w (no gm) (yes lj) (yes lt) =
-          let q : suc n ≡ m = omega arith in
-          subst (λ (k : ℕ). Settled bytes r k e) q (by-closing e lt .1 (ends-more e (last-line (drop e bytes)) (by-byte j e (w .0) lj .0 h)))
-      go w (no gm) (yes lj) (no ge) =
-          let q : suc n ≡ m = omega arith in
-          let is-n : e ≡ n = omega arith in
-          subst₂ (λ (k d : ℕ). Settled bytes r k d) q (sym is-n) (by-end .1 (ends-ended (subst (λ (k : ℕ). EndsAt k false) is-n (by-byte j e (w .0) lj .0 h))))
-
-  -- before the closing, or at it
-  abbrev pub Moment : (m e : ℕ) → Type 0
-  Moment m e = ((m ≡ e) × (e ≤ n)) ⊎ ((m ≡ closing-moment bytes) × ((e ≡ n) ⊎ ((e < n) × (last-line (drop e bytes) ≡ true))))
-
-  -- A pair falls with its last byte, or at the closing, and there only at the stream's end or before a last newline.
-  pub falls-when : (m e : ℕ) → Falls bytes r m e → Moment m e
-  falls-when m e h = go (within m e (h .settled)) (decLt e m) (decLe m n) (decLt e n)
-    where
-      go : (e ≤ m) × (e ≤ n) → Dec (e < m) → Dec (m ≤ n) → Dec (e < n) → Moment m e
-      go w (no ge) d c = inl (omega arith, w .1)
-      go w (yes lt) (yes ln) c = absurd (h .not-before e (omega arith) lt (by-byte e e (omega arith) (w .1) .1 (by-byte m e (omega arith) ln .0 (h .settled))))
-      go w (yes lt) (no gn) (yes le) =
-          let q : m ≡ suc n = omega (arith, h .by-closing) in
-          let now : EndsAt e (last-line (drop e bytes)) = by-closing e le .0 (subst (λ (k : ℕ). Settled bytes r k e) q (h .settled)) in
-          inr (q, inr (le, line (last-line (drop e bytes)) now))
-        where
-          line : (z : Bool) → EndsAt e z → z ≡ true
-          line true g = refl
-          line false g = absurd (h .not-before e (omega arith) lt (by-byte e e (omega arith) (w .1) .1 g))
-      go w (yes lt) (no gn) (no ge) = inr (omega (arith, h .by-closing), inl (omega arith))
+      go : (d : ℕ) → j + d ≤ closing-moment bytes → Settled bytes r (j + d) e
+      go zero l = let q : j ≡ j + 0 = omega arith in subst (λ (k : ℕ). Settled bytes r k e) q h
+      go (suc d) l =
+          let q : suc (j + d) ≡ j + suc d = omega arith in
+          subst (λ (k : ℕ). Settled bytes r k e) q (stays-next (j + d) e (omega (arith, within j e h)) (within j e h .1) (omega arith) (go d (omega arith)))
 
   -- a pair settled with its last byte falls there
   pub falls-at : (e : ℕ) → Settled bytes r e e → Falls bytes r e e
@@ -184,21 +193,86 @@ module _ (bytes : List ℕ) (r : Rule) where
     not-before = λ j a c g. omega arith;
   }
 
-  -- Whatever is settled at the closing falls at some moment.
-  pub falls-some : (e : ℕ) → Settled bytes r (closing-moment bytes) e → (m : ℕ) × Falls bytes r m e
-  falls-some e h = go (within (closing-moment bytes) e h) (settled-dec bytes r e e)
+  -- and at a later moment, if it was not settled at the one before
+  pub falls-after : (m e : ℕ) → e ≤ m → suc m ≤ closing-moment bytes → Falls bytes r (suc m) e ↔ (Settled bytes r (suc m) e × (¬ Settled bytes r m e))
+  falls-after m e le lc = (
+    λ h. (h .settled, h .not-before m le (omega arith)),
+    λ h. record {
+      from-last = omega arith;
+      by-closing = lc;
+      settled = h .0;
+      not-before = λ j a c g. h .1 (stays-settled j m e (omega arith) (omega arith) g);
+    },
+  )
+
+  -- what falls with its last byte ..
+  pub falls-own : (e : ℕ) → e ≤ n → Falls bytes r e e ↔ EndsAt e unknown false
+  falls-own e le = (λ h. by-byte e le .0 (h .settled), λ h. falls-at e (by-byte e le .1 h))
+
+  -- .. with the next one ..
+  pub falls-late : (e : ℕ) → e < n → Falls bytes r (suc e) e ↔ (EndsAt e (after e) false × (¬ EndsAt e unknown false))
+  falls-late e lt =
+      let both = falls-after e e (omega arith) (omega arith) in
+      let now = by-next (suc e) e (omega arith) lt in
+      let own = by-byte e (omega arith) in
+      (λ h. let g = both .0 h in (now .0 (g .0), λ x. g .1 (own .1 x)), λ h. both .1 (now .1 (h .0), λ x. h .1 (own .0 x)))
+
+  -- .. at the closing before the last line's end ..
+  pub falls-line : (e : ℕ) → e < n → Falls bytes r (closing-moment bytes) e ↔ (EndsAt e (after e) (last-line (drop e bytes)) × (¬ EndsAt e (after e) false))
+  falls-line e lt =
+      let both = falls-after n e (omega arith) (omega arith) in
+      let now = by-closing e lt in
+      let own = by-next n e lt (omega arith) in
+      (λ h. let g = both .0 h in (now .0 (g .0), λ x. g .1 (own .1 x)), λ h. both .1 (now .1 (h .0), λ x. h .1 (own .0 x)))
+
+  -- .. and at the stream's end.
+  pub falls-end : Falls bytes r (closing-moment bytes) n ↔ (EndsLast × (¬ EndsAt n unknown false))
+  falls-end =
+      let both = falls-after n n (omega arith) (omega arith) in
+      let own = by-byte n (omega arith) in
+      (λ h. let g = both .0 h in (by-end .0 (g .0), λ x. g .1 (own .1 x)), λ h. both .1 (by-end .1 (h .0), λ x. h .1 (own .0 x)))
+
+  -- with its last byte, with the next one, or at the closing
+  abbrev pub Moment : (m e : ℕ) → Type 0
+  Moment m e =
+      ((m ≡ e) × (e ≤ n)) ⊎ ((m ≡ suc e) × (e < n)) ⊎ ((m ≡ closing-moment bytes) × ((e ≡ n) ⊎ ((e < n) × (last-line (drop e bytes) ≡ true))))
+
+  -- A pair falls with its last byte, with the next one, or at the closing, and there only at the stream's end or before a last newline.
+  pub falls-when : (m e : ℕ) → Falls bytes r m e → Moment m e
+  falls-when m e h = go (within m e (h .settled)) (decLt e m) (decLt (suc e) m) (decLe m n) (decLt e n)
     where
-      go : (e ≤ closing-moment bytes) × (e ≤ n) → Dec (Settled bytes r e e) → (m : ℕ) × Falls bytes r m e
-      go w (yes s) = (e, falls-at e s)
-      go w (no s) = (
-        closing-moment bytes,
-        record {
-          from-last = w .0;
-          by-closing = omega arith;
-          settled = h;
-          not-before = λ j a c g. s (by-byte e e (omega arith) (w .1) .1 (by-byte j e a (omega arith) .0 g));
-        },
-      )
+      go : (e ≤ m) × (e ≤ n) → Dec (e < m) → Dec (suc e < m) → Dec (m ≤ n) → Dec (e < n) → Moment m e
+      go w (no ge) b d c = inl (omega arith, w .1)
+      go w (yes lt) (no ge) d (yes le) = inr (inl (omega arith, le))
+      go w (yes lt) (no ge) d (no gn) = inr (inr (omega (arith, h .by-closing), inl (omega arith)))
+      go w (yes lt) (yes l) (yes ln) c =
+          absurd (h .not-before (suc e) (omega arith) l (by-next (suc e) e (omega arith) (omega arith) .1 (by-next m e lt ln .0 (h .settled))))
+      go w (yes lt) (yes l) (no gn) c =
+          let q : m ≡ suc n = omega (arith, h .by-closing) in
+          let le : e < n = omega arith in
+          let now = falls-line e le .0 (subst (λ (k : ℕ). Falls bytes r k e) q h) in
+          inr (inr (q, inr (le, line (last-line (drop e bytes)) (now .0) (now .1))))
+        where
+          line : (z : Bool) → EndsAt e (after e) z → ¬ EndsAt e (after e) false → z ≡ true
+          line true x y = refl
+          line false x y = absurd (y x)
+
+  -- Whatever is settled at the closing falls at some moment: the first at which it is settled.
+  pub falls-some : (e : ℕ) → Settled bytes r (closing-moment bytes) e → (m : ℕ) × Falls bytes r m e
+  falls-some e h =
+      let w = within (closing-moment bytes) e h in
+      let q : closing-moment bytes ≡ e + (closing-moment bytes - e) = omega arith in
+      first (closing-moment bytes - e) (omega arith) (subst (λ (k : ℕ). Settled bytes r k e) q h)
+    where
+      first : (d : ℕ) → e + d ≤ closing-moment bytes → Settled bytes r (e + d) e → (m : ℕ) × Falls bytes r m e
+      first zero l s = let q : e + 0 ≡ e = omega arith in (e, falls-at e (subst (λ (k : ℕ). Settled bytes r k e) q s))
+      first (suc d) l s = go (λ t. first d (omega arith) t) (settled-dec bytes r (e + d) e)
+        where
+          go : (Settled bytes r (e + d) e → (m : ℕ) × Falls bytes r m e) → Dec (Settled bytes r (e + d) e) → (m : ℕ) × Falls bytes r m e
+          go ih (yes t) = ih t
+          go ih (no t) =
+              let q : e + suc d ≡ suc (e + d) = omega arith in
+              (suc (e + d), falls-after (e + d) e (omega arith) (omega arith) .1 (subst (λ (k : ℕ). Settled bytes r k e) q s, t))
 
   -- What is settled at the closing is what matches on the whole stream.
   pub settled-whole : (e : ℕ) → Settled bytes r (closing-moment bytes) e ↔ MatchEnds r bytes e
@@ -208,7 +282,7 @@ module _ (bytes : List ℕ) (r : Rule) where
         λ h. record { start = h .0; earlier = h .1; matched = subst (λ t. Means t (r .tree) (h .0) e) (sym whole) (h .2) },
       )
 
-  -- With all bytes known and not the end, what is settled is what matches while no end assertion holds.
+  -- With all bytes known and not the end, what is settled is what matches by what is known then.
   pub open-end : (e : ℕ) → Settled bytes r n e ↔ ((s : ℕ) × (s < e) × Means (stream bytes false) (r .tree) s e)
   open-end e =
       let known : stream (take n bytes) (end-known bytes n) ≡ stream bytes false = ap₂ stream (take-all n bytes (omega arith)) (before-closing bytes n (omega arith)) in (
@@ -216,18 +290,14 @@ module _ (bytes : List ℕ) (r : Rule) where
         λ h. record { start = h .0; earlier = h .1; matched = subst (λ t. Means t (r .tree) (h .0) e) (sym known) (h .2) },
       )
 
-  -- A pair falls at the closing exactly if it matches, and does not match while no end is known: each of its ways passes an assertion on the end.
+  -- A pair falls at the closing exactly if it matches, and does not match while the end is not known.
   pub falls-at-closing : (e : ℕ) → Falls bytes r (closing-moment bytes) e
       ↔ (MatchEnds r bytes e × (¬ ((s : ℕ) × (s < e) × Means (stream bytes false) (r .tree) s e)))
   falls-at-closing e = (
-    λ h. (settled-whole e .0 (h .settled), λ g. h .not-before n (within (closing-moment bytes) e (h .settled) .1) (omega arith) (open-end e .1 g)),
-    λ h.
-        let s : Settled bytes r (closing-moment bytes) e = settled-whole e .1 (h .0) in
-        let w = within (closing-moment bytes) e s in
-        record {
-          from-last = w .0;
-          by-closing = omega arith;
-          settled = s;
-          not-before = λ j a c g. h .1 (open-end e .0 (stays-settled j n e (omega arith) (omega arith) g));
-        },
+    λ h. let g = after-n (within (closing-moment bytes) e (h .settled) .1) .0 h in (settled-whole e .0 (g .0), λ x. g .1 (open-end e .1 x)),
+    λ h. let s : Settled bytes r (closing-moment bytes) e = settled-whole e .1 (h .0) in
+        after-n (within (closing-moment bytes) e s .1) .1 (s, λ x. h .1 (open-end e .0 x)),
   )
+    where
+      after-n : e ≤ n → Falls bytes r (closing-moment bytes) e ↔ (Settled bytes r (closing-moment bytes) e × (¬ Settled bytes r n e))
+      after-n le = falls-after n e le (omega arith)

@@ -2,9 +2,9 @@
 -- order.
 -- Assumes nothing.
 use mathlib.Core.Path.{_≡_, refl, sym, subst, subst₂, ap, _∙_}
-use mathlib.Core.Logic.{_⊎_, inl, inr, _↔_}
+use mathlib.Core.Logic.{inl, inr, _↔_}
 use mathlib.Core.List.{List, [], _∷_, map, List·Memᴰ, List·Memᴰ·head, List·Memᴰ·tail, List·Memᴰ·not-nil}
-use Prim.Native.Nat.{ℕ, _≤_, _<_}
+use Prim.Native.Nat.{ℕ, suc, _≤_, _<_}
 use native.Mathlib.Omega.{arith}
 use native.Mathlib.Decide.{decLt}
 use lib.ListN.{length}
@@ -75,14 +75,16 @@ module _ (rules : List Rule) (bytes : List ℕ) (l : List Entry) (is : IsList ru
   by-offset m e i j d k lm lj a b lt =
       let x = is .exactly (entry m e i) .0 a in
       let y = is .exactly (entry j d k) .0 b in
-      go lt (at-last (x .0) m e lm (falls-when bytes (x .0) m e (x .3 .falls))) (at-last (y .0) j d lj (falls-when bytes (y .0) j d (y .3 .falls)))
+      go lt (near (x .0) m e lm (falls-when bytes (x .0) m e (x .3 .falls))) (near (y .0) j d lj (falls-when bytes (y .0) j d (y .3 .falls)))
     where
-      at-last : (r : Rule) (m e : ℕ) → m ≤ length bytes → Moment bytes r m e → m ≡ e
-      at-last r m e h (inl x) = x .0
-      at-last r m e h (inr x) = absurd (omega (arith, x .0))
+      -- with its last byte or with the next one
+      near : (r : Rule) (m e : ℕ) → m ≤ length bytes → Moment bytes r m e → (e ≤ m) × (m ≤ suc e)
+      near r m e h (inl x) = (omega (arith, x .0), omega (arith, x .0))
+      near r m e h (inr (inl x)) = (omega (arith, x .0), omega (arith, x .0))
+      near r m e h (inr (inr x)) = absurd (omega (arith, x .0))
 
-      go : Before (entry m e i) (entry j d k) → m ≡ e → j ≡ d → e ≤ d
-      go (inl x) p q = omega arith
+      go : Before (entry m e i) (entry j d k) → (e ≤ m) × (m ≤ suc e) → (d ≤ j) × (j ≤ suc d) → e ≤ d
+      go (inl x) p q = omega (arith, p .0, q .1)
       go (inr x) p q = elim (x .1) [ inl u ↦ omega arith | inr u ↦ omega (arith, u .0) ]
 
   -- What the closing gives comes last.

@@ -27,7 +27,8 @@ abbrev pub Earlier : (j d m e : ℕ) → Type 0
 Earlier j d m e = (j < m) ⊎ ((j ≡ m) × (d < e))
 
 module _ (bytes : List ℕ) (r : Rule) where
-  -- "one way of one of its matches has every assertion known to hold": some earlier start matches up to e by what is known at m
+  -- "one way of one of its matches has every assertion known to hold", and "A match is settled once one way of it has every assertion, taken singly, known to
+  -- hold": some earlier start matches up to e by what is known at m
   pub record Settled (m e : ℕ) : Type 0 where
     pub start : ℕ
     pub earlier : start < e

@@ -1,5 +1,5 @@
 -- A way through a form: the items it takes and the assertions it passes, in order; and the texts that it runs over. The meaning is given
--- elsewhere by spans; this is the same, step by step, and serves to say that a way passes an assertion on the end. Assumes nothing: these are
+-- elsewhere by spans; this is the same, step by step, and serves to say which assertions a way passes. Assumes nothing: these are
 -- definitions.
 use mathlib.Core.Path.{_≡_}
 use mathlib.Core.List.{List, [], _∷_, _++_, List·Memᴰ}

@@ -20,9 +20,10 @@ use Rattle.regex.specs.Form.{write, positions}
 use Rattle.nodes.specs.Nodes.{Syntax}
 use Rattle.pattern.specs.Walk.{Read, tree, refused}
 use Rattle.pattern.specs.Read.{optionsOf}
-use Rattle.automaton.specs.Parts.{partsOf, formParts}
+use Rattle.automaton.specs.Parts.{formParts}
 use Rattle.automaton.specs.declared.Parts.{Parts}
 use Rattle.automaton.proofs.Padded.{parts-whole}
+use Rattle.rules.specs.Gaps.{holdingAt, partsAt}
 use Rattle.rules.specs.Words.{placeOf, added}
 use Rattle.rules.specs.Add.{answer, hasId, addAnswer, withRule, addWords}
 use Rattle.rules.specs.Additions.{Addition, Accepted, size, used, taken, readingOf, nextAnswer, withNew, afterNext, acceptedAfter}
@@ -31,11 +32,12 @@ use Rattle.rules.specs.declared.Added.{Added}
 use Rattle.rules.proofs.Place.{count-to}
 use Rattle.rules.proofs.Kept.{passes-added, has-id-added}
 use Rattle.rules.proofs.Views.{extended}
+use Rattle.rules.proofs.Parts.{sized-parts}
 use Rattle.rules.proofs.Sorted.{Placed, at, insert, laid, into, byId, byId-more, place, place-within, smaller-before, larger-there}
 use Rattle.rules.proofs.Encodes.{Encodes, encodes-none, encodes-more}
 use Rattle.rules.proofs.Regions.{added-rules, added-positions}
 use Rattle.rules.proofs.Readings.{Reads, reads}
-use Rattle.rules.proofs.Checks.{Admits, zero-if, sized-parts, no-record, accepted-passes}
+use Rattle.rules.proofs.Checks.{Admits, zero-if, no-record, accepted-passes}
 
 -- ---- one rule more at the end of the list
 
@@ -49,10 +51,10 @@ unfolding taken
 taken-more [] r id = or-false (eqb (r .id) id)
 taken-more (x ∷ xs) r id = ap (λ (b : Bool). eqb (x .id) id || b) (taken-more xs r id) ∙ sym (or-assoc (eqb (x .id) id) (taken xs id) (eqb (r .id) id))
 
-encode-more : (t : List ℕ) (rs : List Accepted) (r : Accepted) → encode t (rs ++ (r ∷ [])) ≡ added (encode t rs) (r .id) (r .flags) (partsOf (r .tree) (positionsOf (encode t rs)))
+encode-more : (t : List ℕ) (rs : List Accepted) (r : Accepted) → encode t (rs ++ (r ∷ [])) ≡ added (encode t rs) (r .id) (r .flags) (partsAt (r .tree) (positionsOf (encode t rs)))
 unfolding encode
 encode-more t [] r = refl
-encode-more t (x ∷ xs) r = encode-more (added t (x .id) (x .flags) (partsOf (x .tree) (positionsOf t))) xs r
+encode-more t (x ∷ xs) r = encode-more (added t (x .id) (x .flags) (partsAt (x .tree) (positionsOf t))) xs r
 
 -- ---- what a list leaves
 
@@ -93,8 +95,8 @@ module _ (t : List ℕ) (rs : List Accepted) (b : Built t rs) (a : Addition) (ok
   abbrev n : ℕ
   n = positionsOf t
 
-  abbrev parts : Parts
-  parts = partsOf x n
+  abbrev parts : ℕ → Parts
+  parts = partsAt x n
 
   abbrev ps : List Placed
   ps = byId rs
@@ -105,11 +107,11 @@ module _ (t : List ℕ) (rs : List Accepted) (b : Built t rs) (a : Addition) (ok
   read : Reads (a .pattern) (optionsOf (a .flags)) x
   read = reads (a .pattern) (optionsOf (a .flags)) x .0 (ok .reading)
 
-  are : parts ≡ formParts (write x) n
-  are = sym (parts-whole x n (omega (arith, b .positions, ok .room)))
+  are : (g : ℕ) → parts g ≡ formParts (write x) n (holdingAt g)
+  are g = sym (parts-whole x n (holdingAt g) (omega (arith, b .positions, ok .room)))
 
-  more : parts .positions ≡ positions (write x)
-  more = sized-parts x n (omega (arith, b .positions, ok .room))
+  more : parts 0 .positions ≡ positions (write x)
+  more = sized-parts x n (holdingAt 0) (omega (arith, b .positions, ok .room))
 
   -- the table has none with this id
   fresh : (c : ℕ) → c < rulesOf t → recordWord t c 0 ≡ a .id → ⊥
@@ -146,7 +148,7 @@ module _ (t : List ℕ) (rs : List Accepted) (b : Built t rs) (a : Addition) (ok
       are (omega (arith, b .positions)) ps (b .encodes) here (read .full)
       (λ c h e. fresh c (omega (arith, b .encodes .rules)) (word-id c (omega (arith, b .encodes .rules)) ∙ e)))
 
-  pub built-more : Built (added t (a .id) (a .flags) (partsOf x (positionsOf t))) (rs ++ (record { id = a .id; flags = a .flags; tree = x } ∷ []))
+  pub built-more : Built (added t (a .id) (a .flags) (partsAt x (positionsOf t))) (rs ++ (record { id = a .id; flags = a .flags; tree = x } ∷ []))
   built-more =
       record {
         passed = passes-added t (a .id) (a .flags) parts (b .passed) (omega (arith, b .rules)) (omega (arith, b .positions, more)) (a .narrow) (ok .known) fresh;

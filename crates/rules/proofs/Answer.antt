@@ -1,5 +1,5 @@
 -- The answer of an addition and the words after it, by how its checks went: one law for each way that `add` returns.
-use mathlib.Core.Path.{_≡_, refl, sym, ap, ap₂, _∙_}
+use mathlib.Core.Path.{_≡_, refl, sym, ap, ap₂, _∙_, subst}
 use mathlib.Core.Bool.{Bool, true, false, cond, _||_}
 use mathlib.Core.List.{List}
 use Prim.Native.Nat.{ℕ, _+_, _≤_, _<_}
@@ -23,12 +23,11 @@ use Rattle.pattern.specs.declared.Reading.{Reading}
 use Rattle.pattern.proofs.Answers.{accepted-tree}
 use Rattle.automaton.specs.Parts.{partsOf, formParts, noParts}
 use Rattle.automaton.specs.declared.Parts.{Parts}
-use Rattle.automaton.proofs.Padded.{parts-whole}
+use Rattle.rules.specs.Gaps.{holdingAt, partsAt}
 use Rattle.rules.specs.Words.{added}
 use Rattle.rules.specs.Add.{answer, unknownFlag, hasId, placed, addAnswer, withRule, addWords}
 use Rattle.rules.specs.Invariants.{firstFault}
 use Rattle.rules.specs.declared.Added.{Added}
-use Rattle.rules.proofs.Parts.{parts-positions}
 
 -- ---- an id among the records
 
@@ -144,7 +143,7 @@ module _ (t : List ℕ) (id flags : ℕ) (s : List ℕ) where
         go (tree x) z = absurd (n (ap (λ (x : Reading). x .number) (e ∙ ap answerOf z)))
 
     -- the pattern is read
-    module _ (r : Reading) (is : r ≡ answerOf (readOf s (optionsOf flags))) (fine : r .number ≡ 0) (parts : Parts) (built : parts ≡ partsOf (treeAt (r .nodes) (r .root)) (positionsOf t)) where
+    module _ (r : Reading) (is : r ≡ answerOf (readOf s (optionsOf flags))) (fine : r .number ≡ 0) (parts : Parts) (built : parts ≡ partsAt (treeAt (r .nodes) (r .root)) (positionsOf t) 0) where
       x : Syntax
       x = accepted-tree s (optionsOf flags) r is fine .0
 
@@ -152,15 +151,15 @@ module _ (t : List ℕ) (id flags : ℕ) (s : List ℕ) where
       unfolding x
       read = accepted-tree s (optionsOf flags) r is fine .1
 
-      are : parts ≡ partsOf x (positionsOf t)
+      here : treeAt (r .nodes) (r .root) ≡ x
       unfolding x
-      are = built ∙ ap (λ (y : Syntax). partsOf y (positionsOf t)) (accepted-tree s (optionsOf flags) r is fine .2 .tree)
+      here = accepted-tree s (optionsOf flags) r is fine .2 .tree
 
       fits-is : parts .fits ≡ leb (positionsOf t + positions (write x)) limit
       unfolding partsOf formParts
-      fits-is = ap (λ (p : Parts). p .fits) are ∙ go (leb (positionsOf t + positions (write x)) limit)
+      fits-is = ap (λ (p : Parts). p .fits) (built ∙ ap (λ (y : Syntax). partsAt y (positionsOf t) 0) here) ∙ go (leb (positionsOf t + positions (write x)) limit)
         where
-          go : (b : Bool) → cond b (formParts (write x) (positionsOf t)) noParts .fits ≡ b
+          go : (b : Bool) → cond b (formParts (write x) (positionsOf t) (holdingAt 0)) noParts .fits ≡ b
           go true = refl
           go false = refl
 
@@ -179,12 +178,11 @@ module _ (t : List ℕ) (id flags : ℕ) (s : List ℕ) where
         room : positionsOf t + positions (write x) ≤ limit
         room = leb-true (positionsOf t + positions (write x)) limit (sym fits-is ∙ e)
 
-        pub fits-room : positionsOf t + parts .positions ≤ maxPositions
-        fits-room =
-            omega (arith, room, ap (λ (p : Parts). p .positions) (are ∙ sym (parts-whole x (positionsOf t) room)), parts-positions (write x) (positionsOf t))
+        pub fits-room : positionsOf t + positions (write (treeAt (r .nodes) (r .root))) ≤ maxPositions
+        fits-room = subst (λ (y : Syntax). positionsOf t + positions (write y) ≤ maxPositions) (sym here) room
 
-        pub accepted : (u : List ℕ) → u ≡ added t id flags parts → Answers (answer 0 0) u
+        pub accepted : (u : List ℕ) → u ≡ added t id flags (partsAt (treeAt (r .nodes) (r .root)) (positionsOf t)) → Answers (answer 0 0) u
         unfolding addWords withRule
         accepted u w =
             let z : addAnswer t id flags s ≡ answer 0 0 = last-answer ∙ ap (λ (b : Bool). cond b (answer 17 (length s)) (answer 0 0)) (le-ltb limit (positionsOf t + positions (write x)) room) in
-            (sym z, w ∙ ap (added t id flags) are ∙ sym (ap₂ (λ (d : Added) (o : Read). cond (eqb (d .number) 0) (withRule t id flags o) t) z read))
+            (sym z, w ∙ ap (λ (y : Syntax). added t id flags (partsAt y (positionsOf t))) here ∙ sym (ap₂ (λ (d : Added) (o : Read). cond (eqb (d .number) 0) (withRule t id flags o) t) z read))

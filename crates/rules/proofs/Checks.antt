@@ -1,6 +1,6 @@
 -- What an accepted addition has passed. The checks go by four things of the table: whether the id is there, how many rules and positions it has, and, for words,
 -- whether they pass the test. An answer of 0 is taken apart here once: each reason to refuse fails, and the words are those with the rule.
-use mathlib.Core.Path.{_≡_, refl, sym, ap, _∙_}
+use mathlib.Core.Path.{_≡_, refl, ap, _∙_}
 use mathlib.Core.Bool.{Bool, true, false, cond}
 use mathlib.Core.Logic.{_↔_}
 use mathlib.Core.List.{List}
@@ -19,14 +19,13 @@ use Rattle.regex.specs.Count.{limit}
 use Rattle.nodes.specs.Nodes.{Syntax}
 use Rattle.pattern.specs.Walk.{Read, tree, refused}
 use Rattle.pattern.specs.Read.{readOf, optionsOf}
-use Rattle.automaton.specs.Parts.{partsOf}
 use Rattle.automaton.specs.declared.Parts.{Parts}
-use Rattle.automaton.proofs.Padded.{parts-whole}
+use Rattle.rules.specs.Gaps.{holdingAt, partsAt}
 use Rattle.rules.specs.Words.{added}
 use Rattle.rules.specs.Add.{answer, unknownFlag, hasId, placed, addAnswer, withRule, addWords}
 use Rattle.rules.specs.declared.Added.{Added}
 use Rattle.rules.proofs.Kept.{passes-added}
-use Rattle.rules.proofs.Parts.{parts-positions}
+use Rattle.rules.proofs.Parts.{sized-parts}
 use Rattle.rules.proofs.Regions.{added-rules}
 use Rattle.rules.proofs.Readings.{refusal-numbered}
 
@@ -76,10 +75,6 @@ module _ (there : Bool) (rules used flags : ℕ) (pattern : List ℕ) where
   pub zero-if : (checked .number ≡ 0) ↔ Admits
   zero-if = (admits, λ c. ap (λ (d : Added). d .number) (admitted c))
 
--- the parts of a tree have as many positions as it, where they fit
-pub sized-parts : (x : Syntax) (n : ℕ) → n + positions (write x) ≤ limit → partsOf x n .positions ≡ positions (write x)
-sized-parts x n room = ap (λ (p : Parts). p .positions) (sym (parts-whole x n room)) ∙ parts-positions (write x) n
-
 -- no record has an id that the words have not
 pub no-record : (t : List ℕ) (id : ℕ) → hasId t id ≡ false → (c : ℕ) → c < rulesOf t → recordWord t c 0 ≡ id → ⊥
 unfolding hasId
@@ -99,8 +94,8 @@ module _ (t : List ℕ) (id flags : ℕ) (pattern : List ℕ) (ok : addAnswer t 
       go true e h = (e, admits (hasId t id) (rulesOf t) (positionsOf t) flags pattern h)
       go false e h = absurd (omega (arith, h))
 
-  abbrev parts : Parts
-  parts = partsOf (checks .1 .read) (positionsOf t)
+  abbrev parts : ℕ → Parts
+  parts = partsAt (checks .1 .read) (positionsOf t)
 
   -- "An accepted one has place 0."
   pub accepted-place : addAnswer t id flags pattern .place ≡ 0
@@ -123,4 +118,4 @@ module _ (t : List ℕ) (id flags : ℕ) (pattern : List ℕ) (ok : addAnswer t 
       ap isTable with-rule
       ∙ accepted (added t id flags parts)
       (passes-added t id flags parts (passes t (checks .0)) (checks .1 .few)
-      (omega (arith, checks .1 .room, sized-parts (checks .1 .read) (positionsOf t) (checks .1 .room))) narrow (checks .1 .known) (no-record t id (checks .1 .free)))
+      (omega (arith, checks .1 .room, sized-parts (checks .1 .read) (positionsOf t) (holdingAt 0) (checks .1 .room))) narrow (checks .1 .known) (no-record t id (checks .1 .free)))

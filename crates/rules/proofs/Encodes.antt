@@ -1,8 +1,8 @@
 -- The automaton of some rules. `Encodes` says that a table's automaton is, rule by rule, the position automaton of the rule's written-out form, with the rules
--- in the order of their ids and each at its own positions. It holds of no rules, and one rule more keeps it: the sets of the old positions are kept among
+-- in the order of their ids and each at its own positions, at every gap in the world of that gap. It holds of no rules, and one rule more keeps it: the sets of the old positions are kept among
 -- themselves, the new rule's come from its parts, and no set of a form reaches outside the form's positions.
 use mathlib.Core.Path.{_≡_, refl, sym, ap, ap₂, _∙_, subst}
-use mathlib.Core.Bool.{Bool, true, false, _&&_, _||_, or-false}
+use mathlib.Core.Bool.{Bool, false, _&&_, _||_, or-false}
 use mathlib.Core.List.{List, [], _++_, map, append-nil, List·Memᴰ, Memᴰ·of-map}
 use mathlib.Core.Logic.{_⊎_, inl, inr}
 use Prim.Native.Nat.{ℕ, suc, _+_, _-_, _*_, _≤_, _<_}
@@ -15,7 +15,8 @@ use lib.Seq.{getD-append-add}
 use borrow.Author.Tests.{lt-ltb, le-ltb, eq-eqb, ne-eqb}
 use Rattle.sets.specs.Set.{has}
 use Rattle.table.specs.Layout.{maxPositions, bytes, rowHas, from-to}
-use Rattle.table.specs.Automaton.{Automaton, firstIn, startIn, followIn, lastIn}
+use Rattle.table.specs.Gaps.{firstGaps, followGaps, lastGaps}
+use Rattle.table.specs.Automaton.{Automaton}
 use Rattle.table.proofs.Over.{from-to-in, from-to-below}
 use Rattle.table.proofs.Emptying.{noRules}
 use Rattle.regex.specs.Form.{Form, eps, take, check, seq, alt, plus, opt, write, positions}
@@ -27,11 +28,12 @@ use Rattle.regex.proofs.Logic.{false-T}
 use Rattle.regex.proofs.Computed.{first-T, last-T, follow-T, items-agree}
 use Rattle.regex.proofs.Range.{first-inside, last-inside, follow-inside, follow-inside-to}
 use Rattle.regex.proofs.Reports.{Distinct}
-use Rattle.automaton.specs.Parts.{inside, atStart, atEnd, formParts}
+use Rattle.automaton.specs.Parts.{worldOf, formParts}
 use Rattle.automaton.specs.declared.Parts.{Parts}
+use Rattle.rules.specs.Gaps.{holdingAt}
 use Rattle.rules.specs.Additions.{Accepted, size, ruleOf}
 use Rattle.rules.proofs.Views.{putIn, Extended}
-use Rattle.rules.proofs.Parts.{firstOf, startOf, lastOf, followOf, parts-positions, parts-first, parts-start, parts-last, parts-end, parts-follow, parts-takes}
+use Rattle.rules.proofs.Parts.{parts-positions, parts-first, parts-last, parts-follow, parts-takes}
 use Rattle.rules.proofs.Sorted.{Placed, at, insert, byId, byId-mem, mem-at, laid-mem, place, length-insert, place-within, smaller-before, larger-there, insert-before, insert-there, insert-after}
 
 -- ---- what is said of a table's automaton
@@ -48,6 +50,10 @@ Of p q = (p .from ≤ q) × (q < p .from + size (p .rule))
 abbrev pub itemOf : Placed → ℕ → ByteSet
 itemOf p q = getD (items (formOf p)) (q - p .from) []
 
+-- the assertions that hold at a gap
+abbrev pub worldAt : (gap : ℕ) → Assertion → Bool
+worldAt g = worldOf (holdingAt g)
+
 -- the rule p stands in place a of the automaton w
 pub record Stands (w : Automaton) (a : ℕ) (p : Placed) : Type 0 where
   pub id-is : w .id a ≡ p .rule .id
@@ -56,14 +62,12 @@ pub record Stands (w : Automaton) (a : ℕ) (p : Placed) : Type 0 where
   pub full : nullable (p .rule .tree) ≡ false
   pub within : p .from + size (p .rule) ≤ w .positions
   pub takes-is : (x q : ℕ) → x < bytes → Of p q → w .takes x q ≡ has (itemOf p q) x
-  -- at a gap where the last line ends, and elsewhere
-  pub first-is : (line : Bool) (q : ℕ) → Of p q → firstIn w line q ≡ first (inside line) (formOf p) (p .from) q
-  pub start-is : (line : Bool) (q : ℕ) → Of p q → startIn w line q ≡ first (atStart line) (formOf p) (p .from) q
+  -- at each gap
+  pub first-is : (g q : ℕ) → g < firstGaps → Of p q → w .first g q ≡ first (worldAt g) (formOf p) (p .from) q
   -- a position of another rule does not come before it
-  pub follow-is : (line : Bool) (o q : ℕ) → Of p q → followIn w line o q ≡ follow (inside line) (formOf p) (p .from) o q
+  pub follow-is : (g o q : ℕ) → g < followGaps → Of p q → w .follow g o q ≡ follow (worldAt g) (formOf p) (p .from) o q
   -- nor end it
-  pub last-is : (line : Bool) (q : ℕ) → q < w .positions → lastIn w line a q ≡ last (inside line) (formOf p) (p .from) q
-  pub end-is : (q : ℕ) → q < w .positions → w .lastAtEnd a q ≡ last atEnd (formOf p) (p .from) q
+  pub last-is : (g q : ℕ) → g < lastGaps → q < w .positions → w .last g a q ≡ last (worldAt g) (formOf p) (p .from) q
 
 -- the automaton w is that of the rules ps, by rising id
 pub record Encodes (w : Automaton) (ps : List Placed) : Type 0 where
@@ -74,7 +78,7 @@ pub record Encodes (w : Automaton) (ps : List Placed) : Type 0 where
   pub covered : (q : ℕ) → q < w .positions → (a : ℕ) × (a < length ps) × Of (at ps a) q
   pub apart : (a b q : ℕ) → a < length ps → b < length ps → Of (at ps a) q → Of (at ps b) q → a ≡ b
   -- nothing follows what is no position
-  pub rest : (line : Bool) (o q : ℕ) → w .positions ≤ o → followIn w line o q ≡ false
+  pub rest : (g o q : ℕ) → w .positions ≤ o → w .follow g o q ≡ false
 
 -- ---- no set of a form reaches outside its positions
 
@@ -105,17 +109,13 @@ encodes-none =
       rising = λ a b h l. absurd (not-suc-le-zero l);
       covered = λ q h. absurd (not-suc-le-zero h);
       apart = λ a b q h l i j. absurd (not-suc-le-zero h);
-      rest = λ line o q h. nothing line o q;
+      rest = λ g o q h. refl;
     }
-  where
-    nothing : (line : Bool) (o q : ℕ) → followIn noRules line o q ≡ false
-    nothing true o q = refl
-    nothing false o q = refl
 
 -- ---- one rule more
 
-module _ (w v : Automaton) (k : ℕ) (r : Accepted) (parts : Parts) (x : Extended w v k (r .id) (r .flags) parts)
-    (is : parts ≡ formParts (write (r .tree)) (w .positions)) (room : w .positions + size r ≤ maxPositions) where
+module _ (w v : Automaton) (k : ℕ) (r : Accepted) (parts : ℕ → Parts) (x : Extended w v k (r .id) (r .flags) parts)
+    (is : (g : ℕ) → parts g ≡ formParts (write (r .tree)) (w .positions) (holdingAt g)) (room : w .positions + size r ≤ maxPositions) where
   abbrev n : ℕ
   n = w .positions
 
@@ -125,31 +125,25 @@ module _ (w v : Automaton) (k : ℕ) (r : Accepted) (parts : Parts) (x : Extende
   abbrev new : Placed
   new = record { rule = r; from = w .positions }
 
-  more : parts .positions ≡ positions f
-  more = ap (λ (p : Parts). p .positions) is ∙ parts-positions f n
+  more : parts 0 .positions ≡ positions f
+  more = ap (λ (p : Parts). p .positions) (is 0) ∙ parts-positions f n (holdingAt 0)
 
   grown : v .positions ≡ n + positions f
   grown = x .positions ∙ ap (λ (m : ℕ). n + m) more
 
   -- the new rule's sets, below 256
-  new-first : (line : Bool) (q : ℕ) → q < maxPositions → has (firstOf parts line) q ≡ first (inside line) f n q
-  new-first line q h = ap (λ (p : Parts). has (firstOf p line) q) is ∙ parts-first f n line q h
+  new-first : (g q : ℕ) → q < maxPositions → has (parts g .first) q ≡ first (worldAt g) f n q
+  new-first g q h = ap (λ (p : Parts). has (p .first) q) (is g) ∙ parts-first f n (holdingAt g) q h
 
-  new-start : (line : Bool) (q : ℕ) → q < maxPositions → has (startOf parts line) q ≡ first (atStart line) f n q
-  new-start line q h = ap (λ (p : Parts). has (startOf p line) q) is ∙ parts-start f n line q h
+  new-last : (g q : ℕ) → q < maxPositions → has (parts g .last) q ≡ last (worldAt g) f n q
+  new-last g q h = ap (λ (p : Parts). has (p .last) q) (is g) ∙ parts-last f n (holdingAt g) q h
 
-  new-last : (line : Bool) (q : ℕ) → q < maxPositions → has (lastOf parts line) q ≡ last (inside line) f n q
-  new-last line q h = ap (λ (p : Parts). has (lastOf p line) q) is ∙ parts-last f n line q h
-
-  new-end : (q : ℕ) → q < maxPositions → has (parts .«end») q ≡ last atEnd f n q
-  new-end q h = ap (λ (p : Parts). has (p .«end») q) is ∙ parts-end f n q h
-
-  new-follow : (line : Bool) (o q : ℕ) → n ≤ o → o < n + positions f → q < maxPositions → followIn v line o q ≡ follow (inside line) f n o q
-  new-follow line o q h l m =
+  new-follow : (g o q : ℕ) → g < followGaps → n ≤ o → o < n + positions f → q < maxPositions → v .follow g o q ≡ follow (worldAt g) f n o q
+  new-follow g o q z h l m =
       let e : n + (o - n) ≡ o = omega arith in
-      ap (λ (j : ℕ). followIn v line j q) (sym e) ∙ x .follow-new line (o - n) q (omega (arith, more)) m
-      ∙ ap (λ (p : Parts). rowHas (followOf p line) ((o - n) * 4) q) is ∙ parts-follow (r .tree) n room line (o - n) q (omega arith) m
-      ∙ ap (λ (j : ℕ). follow (inside line) f n j q) e
+      ap (λ (j : ℕ). v .follow g j q) (sym e) ∙ x .follow-new g (o - n) q z (omega (arith, more)) m
+      ∙ ap (λ (p : Parts). rowHas (p .follow) ((o - n) * 4) q) (is g) ∙ parts-follow (r .tree) n (holdingAt g) room (o - n) q (omega arith) m
+      ∙ ap (λ (j : ℕ). follow (worldAt g) f n j q) e
 
   -- nothing of the new rule comes before its positions, or after them
   low : (q : ℕ) → q < n → (n ≤ q) → (q < n + positions f) → ⊥
@@ -161,7 +155,7 @@ module _ (w v : Automaton) (k : ℕ) (r : Accepted) (parts : Parts) (x : Extende
   -- ---- an old rule
 
   module _ (p : Placed) (a c : ℕ) (s : Stands w a p) (id-kept : v .id c ≡ w .id a) (flags-kept : v .flags c ≡ w .flags a)
-      (last-kept : (line : Bool) (q : ℕ) → q < maxPositions → lastIn v line c q ≡ (ltb q n && lastIn w line a q)) (end-kept : (q : ℕ) → q < maxPositions → v .lastAtEnd c q ≡ (ltb q n && w .lastAtEnd a q)) where
+      (last-kept : (g q : ℕ) → g < lastGaps → q < maxPositions → v .last g c q ≡ (ltb q n && w .last g a q)) where
     -- its positions are old ones
     old : (q : ℕ) → Of p q → q < n
     old q h = omega (arith, s .within, h .1)
@@ -178,21 +172,21 @@ module _ (w v : Automaton) (k : ℕ) (r : Accepted) (parts : Parts) (x : Extende
             ap (λ (i : Bool). i && b) (le-ltb q n (omega arith))
             ∙ sym (last-out (formOf p) (p .from) g q (λ i j. l (old q (i, j))))
 
-    kept-follow : (line : Bool) (o q : ℕ) → Of p q → followIn v line o q ≡ follow (inside line) (formOf p) (p .from) o q
-    kept-follow line o q h = go (decLt o n) (decLt o (n + positions f))
+    kept-follow : (g o q : ℕ) → g < followGaps → Of p q → v .follow g o q ≡ follow (worldAt g) (formOf p) (p .from) o q
+    kept-follow g o q z h = go (decLt o n) (decLt o (n + positions f))
       where
         below : q < n
         below = old q h
 
-        outside : n ≤ o → follow (inside line) (formOf p) (p .from) o q ≡ false
-        outside l = follow-out-from (formOf p) (p .from) (inside line) o q (λ i j. omega (arith, s .within))
+        outside : n ≤ o → follow (worldAt g) (formOf p) (p .from) o q ≡ false
+        outside l = follow-out-from (formOf p) (p .from) (worldAt g) o q (λ i j. omega (arith, s .within))
 
-        go : Dec (o < n) → Dec (o < n + positions f) → followIn v line o q ≡ follow (inside line) (formOf p) (p .from) o q
+        go : Dec (o < n) → Dec (o < n + positions f) → v .follow g o q ≡ follow (worldAt g) (formOf p) (p .from) o q
         go (yes l) m =
-            x .follow-old line o q l (omega arith) ∙ ap (λ (b : Bool). b && followIn w line o q) (lt-ltb q n below) ∙ s .follow-is line o q h
+            x .follow-old g o q z l (omega arith) ∙ ap (λ (b : Bool). b && w .follow g o q) (lt-ltb q n below) ∙ s .follow-is g o q z h
         go (no l) (yes m) =
-            new-follow line o q (omega arith) m (omega arith) ∙ follow-out-to f n (inside line) o q (low q below) ∙ sym (outside (omega arith))
-        go (no l) (no m) = x .follow-rest line o q (omega (arith, more)) ∙ s .follow-is line o q h
+            new-follow g o q z (omega arith) m (omega arith) ∙ follow-out-to f n (worldAt g) o q (low q below) ∙ sym (outside (omega arith))
+        go (no l) (no m) = x .follow-rest g o q (omega (arith, more)) ∙ s .follow-is g o q z h
 
     stands-old : Stands v c p
     stands-old =
@@ -204,42 +198,36 @@ module _ (w v : Automaton) (k : ℕ) (r : Accepted) (parts : Parts) (x : Extende
           takes-is = λ y q l h.
               let below : q < n = old q h in
               x .takes y q l (omega arith)
-              ∙ joined q below (w .takes y q) (from-to n (n + parts .positions) q && rowHas (parts .takes) ((q - n) * 4) y)
-              (ap (λ (b : Bool). b && rowHas (parts .takes) ((q - n) * 4) y) (from-to-below n (n + parts .positions) q below))
+              ∙ joined q below (w .takes y q) (from-to n (n + parts 0 .positions) q && rowHas (parts 0 .takes) ((q - n) * 4) y)
+              (ap (λ (b : Bool). b && rowHas (parts 0 .takes) ((q - n) * 4) y) (from-to-below n (n + parts 0 .positions) q below))
               ∙ s .takes-is y q l h;
-          first-is = λ line q h.
+          first-is = λ g q z h.
               let below : q < n = old q h in
-              x .first line q (omega arith)
-              ∙ joined q below (firstIn w line q) (has (firstOf parts line) q) (new-first line q (omega arith) ∙ first-out f n (inside line) q (low q below))
-              ∙ s .first-is line q h;
-          start-is = λ line q h.
-              let below : q < n = old q h in
-              x .firstAtStart line q (omega arith)
-              ∙ joined q below (startIn w line q) (has (startOf parts line) q) (new-start line q (omega arith) ∙ first-out f n (atStart line) q (low q below))
-              ∙ s .start-is line q h;
+              x .first g q z (omega arith)
+              ∙ joined q below (w .first g q) (has (parts g .first) q) (new-first g q (omega arith) ∙ first-out f n (worldAt g) q (low q below))
+              ∙ s .first-is g q z h;
           follow-is = kept-follow;
-          last-is = λ line q h. last-kept line q (omega (arith, grown)) ∙ ends q (omega (arith, grown)) (lastIn w line a q) (inside line) (λ l. s .last-is line q l);
-          end-is = λ q h. end-kept q (omega (arith, grown)) ∙ ends q (omega (arith, grown)) (w .lastAtEnd a q) atEnd (λ l. s .end-is q l);
+          last-is = λ g q z h. last-kept g q z (omega (arith, grown)) ∙ ends q (omega (arith, grown)) (w .last g a q) (worldAt g) (λ l. s .last-is g q z l);
         }
 
   -- ---- the new rule
 
   module _ (full : nullable (r .tree) ≡ false) (id-new : v .id k ≡ r .id) (flags-new : v .flags k ≡ r .flags)
-      (last-here : (line : Bool) (q : ℕ) → q < maxPositions → lastIn v line k q ≡ has (lastOf parts line) q) (end-here : (q : ℕ) → q < maxPositions → v .lastAtEnd k q ≡ has (parts .«end») q)
-      (nothing-after : (line : Bool) (o q : ℕ) → n ≤ o → followIn w line o q ≡ false) where
+      (last-here : (g q : ℕ) → g < lastGaps → q < maxPositions → v .last g k q ≡ has (parts g .last) q)
+      (nothing-after : (g o q : ℕ) → n ≤ o → w .follow g o q ≡ false) where
     -- an old set has none of its positions
     masked : (q : ℕ) → n ≤ q → (b d : Bool) → ((ltb q n && b) || d) ≡ d
     masked q h b d = ap (λ (i : Bool). (i && b) || d) (le-ltb q n h)
 
-    own-follow : (line : Bool) (o q : ℕ) → Of new q → followIn v line o q ≡ follow (inside line) f n o q
-    own-follow line o q h = go (decLt o n) (decLt o (n + positions f))
+    own-follow : (g o q : ℕ) → g < followGaps → Of new q → v .follow g o q ≡ follow (worldAt g) f n o q
+    own-follow g o q z h = go (decLt o n) (decLt o (n + positions f))
       where
-        go : Dec (o < n) → Dec (o < n + positions f) → followIn v line o q ≡ follow (inside line) f n o q
+        go : Dec (o < n) → Dec (o < n + positions f) → v .follow g o q ≡ follow (worldAt g) f n o q
         go (yes l) m =
-            x .follow-old line o q l (omega arith) ∙ ap (λ (b : Bool). b && followIn w line o q) (le-ltb q n (h .0)) ∙ sym (follow-out-from f n (inside line) o q (low o l))
-        go (no l) (yes m) = new-follow line o q (omega arith) m (omega arith)
+            x .follow-old g o q z l (omega arith) ∙ ap (λ (b : Bool). b && w .follow g o q) (le-ltb q n (h .0)) ∙ sym (follow-out-from f n (worldAt g) o q (low o l))
+        go (no l) (yes m) = new-follow g o q z (omega arith) m (omega arith)
         go (no l) (no m) =
-            x .follow-rest line o q (omega (arith, more)) ∙ nothing-after line o q (omega arith) ∙ sym (follow-out-from f n (inside line) o q (high o (omega arith)))
+            x .follow-rest g o q (omega (arith, more)) ∙ nothing-after g o q (omega arith) ∙ sym (follow-out-from f n (worldAt g) o q (high o (omega arith)))
 
     stands-new : Stands v k new
     stands-new =
@@ -250,14 +238,12 @@ module _ (w v : Automaton) (k : ℕ) (r : Accepted) (parts : Parts) (x : Extende
           within = omega (arith, grown);
           takes-is = λ y q l h.
               x .takes y q l (omega arith)
-              ∙ masked q (h .0) (w .takes y q) (from-to n (n + parts .positions) q && rowHas (parts .takes) ((q - n) * 4) y)
-              ∙ ap (λ (b : Bool). b && rowHas (parts .takes) ((q - n) * 4) y) (from-to-in n (n + parts .positions) q (h .0) (omega (arith, more, h .1)))
-              ∙ ap (λ (p : Parts). rowHas (p .takes) ((q - n) * 4) y) is ∙ parts-takes (r .tree) n room (q - n) y (omega arith) l;
-          first-is = λ line q h. x .first line q (omega arith) ∙ masked q (h .0) (firstIn w line q) (has (firstOf parts line) q) ∙ new-first line q (omega arith);
-          start-is = λ line q h. x .firstAtStart line q (omega arith) ∙ masked q (h .0) (startIn w line q) (has (startOf parts line) q) ∙ new-start line q (omega arith);
+              ∙ masked q (h .0) (w .takes y q) (from-to n (n + parts 0 .positions) q && rowHas (parts 0 .takes) ((q - n) * 4) y)
+              ∙ ap (λ (b : Bool). b && rowHas (parts 0 .takes) ((q - n) * 4) y) (from-to-in n (n + parts 0 .positions) q (h .0) (omega (arith, more, h .1)))
+              ∙ ap (λ (p : Parts). rowHas (p .takes) ((q - n) * 4) y) (is 0) ∙ parts-takes (r .tree) n (holdingAt 0) room (q - n) y (omega arith) l;
+          first-is = λ g q z h. x .first g q z (omega arith) ∙ masked q (h .0) (w .first g q) (has (parts g .first) q) ∙ new-first g q (omega arith);
           follow-is = own-follow;
-          last-is = λ line q h. last-here line q (omega (arith, grown)) ∙ new-last line q (omega (arith, grown));
-          end-is = λ q h. end-here q (omega (arith, grown)) ∙ new-end q (omega (arith, grown));
+          last-is = λ g q z h. last-here g q z (omega (arith, grown)) ∙ new-last g q (omega (arith, grown));
         }
 
   -- ---- all the rules
@@ -301,15 +287,13 @@ module _ (w v : Automaton) (k : ℕ) (r : Accepted) (parts : Parts) (x : Extende
             (stands-old (at ps a) a a (e .rule a (omega (arith, k-le)))
             (x .id-in a (omega (arith, e .rules)) ∙ put-before (r .id) (w .id) a l)
             (x .flags-in a (omega (arith, e .rules)) ∙ put-before (r .flags) (w .flags) a l)
-            (λ line q i. x .last line a q (omega (arith, e .rules)) i ∙ put-before (has (lastOf parts line) q) (λ b. ltb q n && lastIn w line b q) a l)
-            (λ q i. x .lastAtEnd a q (omega (arith, e .rules)) i ∙ put-before (has (parts .«end») q) (λ b. ltb q n && w .lastAtEnd b q) a l))
+            (λ g q z i. x .last g a q z (omega (arith, e .rules)) i ∙ put-before (has (parts g .last) q) (λ b. ltb q n && w .last g b q) a l))
         go (no l) (yes m) =
             subst (Stands v a) (sym (at-after a m))
             (stands-old (at ps (a - 1)) (a - 1) a (e .rule (a - 1) (omega arith))
             (x .id-in a (omega (arith, e .rules)) ∙ put-after (r .id) (w .id) a m)
             (x .flags-in a (omega (arith, e .rules)) ∙ put-after (r .flags) (w .flags) a m)
-            (λ line q i. x .last line a q (omega (arith, e .rules)) i ∙ put-after (has (lastOf parts line) q) (λ b. ltb q n && lastIn w line b q) a m)
-            (λ q i. x .lastAtEnd a q (omega (arith, e .rules)) i ∙ put-after (has (parts .«end») q) (λ b. ltb q n && w .lastAtEnd b q) a m))
+            (λ g q z i. x .last g a q z (omega (arith, e .rules)) i ∙ put-after (has (parts g .last) q) (λ b. ltb q n && w .last g b q) a m))
         go (no l) (no m) =
             let z : k ≡ a = omega arith in
             subst (λ (b : ℕ). Stands v b (at qs b)) z
@@ -317,8 +301,7 @@ module _ (w v : Automaton) (k : ℕ) (r : Accepted) (parts : Parts) (x : Extende
             (stands-new full
             (x .id-in k (omega (arith, e .rules)) ∙ put-here (r .id) (w .id))
             (x .flags-in k (omega (arith, e .rules)) ∙ put-here (r .flags) (w .flags))
-            (λ line q i. x .last line k q (omega (arith, e .rules)) i ∙ put-here (has (lastOf parts line) q) (λ b. ltb q n && lastIn w line b q))
-            (λ q i. x .lastAtEnd k q (omega (arith, e .rules)) i ∙ put-here (has (parts .«end») q) (λ b. ltb q n && w .lastAtEnd b q))
+            (λ g q z i. x .last g k q z (omega (arith, e .rules)) i ∙ put-here (has (parts g .last) q) (λ b. ltb q n && w .last g b q))
             (e .rest)))
 
     -- ids rise
@@ -404,8 +387,8 @@ module _ (w v : Automaton) (k : ℕ) (r : Accepted) (parts : Parts) (x : Extende
             found a i o (no d) =
                 (suc a, omega arith, subst (λ (p : Placed). Of p q) (sym (insert-after new ps a (omega (arith, here)))) o)
 
-    nothing-past : (line : Bool) (o q : ℕ) → n + positions f ≤ o → followIn v line o q ≡ false
-    nothing-past line o q h = x .follow-rest line o q (omega (arith, more)) ∙ e .rest line o q (omega arith)
+    nothing-past : (g o q : ℕ) → n + positions f ≤ o → v .follow g o q ≡ false
+    nothing-past g o q h = x .follow-rest g o q (omega (arith, more)) ∙ e .rest g o q (omega arith)
 
     pub encodes-more : Encodes v (insert (record { rule = r; from = w .positions }) ps)
     encodes-more =
@@ -415,7 +398,7 @@ module _ (w v : Automaton) (k : ℕ) (r : Accepted) (parts : Parts) (x : Extende
           rising = λ a b h l. rises a b h (omega (arith, long));
           covered = λ q h. let s = some-place q (omega (arith, grown)) in (s .0, omega (arith, long, s .1), s .2);
           apart = λ a b q h l i j. one-place a b q (omega (arith, long)) (omega (arith, long)) i j;
-          rest = λ line o q h. nothing-past line o q (omega (arith, grown));
+          rest = λ g o q h. nothing-past g o q (omega (arith, grown));
         }
 
 -- ---- as the theory of the position automaton wants it

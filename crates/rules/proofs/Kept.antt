@@ -12,9 +12,8 @@ use lib.ListN.{length}
 use borrow.Author.Tests.{lt-ltb, le-ltb, le-leb, eq-eqb, ne-eqb, eqb-true, eqb-false}
 use Rattle.sets.specs.Set.{any}
 use Rattle.sets.proofs.Laws.{any-at, any-some, any-none}
-use Rattle.table.specs.Layout.{tableWords, maxRules, maxPositions, rulesOf, positionsOf, stride, span, fromOf, toOf, recordWord}
+use Rattle.table.specs.Layout.{tableWords, maxRules, maxPositions, rulesOf, positionsOf, stride, recordWord}
 use Rattle.table.specs.Table.{knownFlags}
-use Rattle.table.proofs.Over.{from-to-below}
 use Rattle.table.proofs.Test.{Passes}
 use Rattle.automaton.specs.declared.Parts.{Parts}
 use Rattle.rules.specs.Words.{placeOf, newRecord, oldRecord, recordWords, added}
@@ -24,7 +23,7 @@ use Rattle.rules.proofs.Regions.{length-added, added-format, added-rule
 
 -- ---- the records
 
-module _ (t : List ℕ) (id flags : ℕ) (parts : Parts) (long : tableWords ≤ length t) (few : rulesOf t < maxRules) where
+module _ (t : List ℕ) (id flags : ℕ) (parts : ℕ → Parts) (long : tableWords ≤ length t) (few : rulesOf t < maxRules) where
   pub record-before : (a i : ℕ) → a < placeOf t id → i < stride → recordWord (added t id flags parts) a i ≡ oldRecord t id flags parts a i
   unfolding recordWords
   record-before a i h l = added-record t id flags parts long a i (omega (arith, place-le t id)) l ∙ rw (lt-ltb a (placeOf t id) h)
@@ -42,13 +41,13 @@ module _ (t : List ℕ) (id flags : ℕ) (parts : Parts) (long : tableWords ≤ 
       ∙ rw (le-ltb a (placeOf t id) (omega arith), ne-eqb a (placeOf t id) (λ z. omega arith), le-leb a (rulesOf t) m)
 
 -- id, flags and positions of an old record are as they were
-pub old-field : (t : List ℕ) (id flags : ℕ) (parts : Parts) (a i : ℕ) → i < 3 → oldRecord t id flags parts a i ≡ recordWord t a i
+pub old-field : (t : List ℕ) (id flags : ℕ) (parts : ℕ → Parts) (a i : ℕ) → i < 4 → oldRecord t id flags parts a i ≡ recordWord t a i
 unfolding oldRecord
-old-field t id flags parts a i h = rw (from-to-below 3 7 i h, from-to-below 7 11 i (omega arith), from-to-below 11 15 i (omega arith))
+old-field t id flags parts a i h = rw (lt-ltb i 4 h)
 
 -- ---- the test
 
-module _ (t : List ℕ) (id flags : ℕ) (parts : Parts) (p : Passes t) (few : rulesOf t < maxRules) (room : positionsOf t + parts .positions ≤ maxPositions)
+module _ (t : List ℕ) (id flags : ℕ) (parts : ℕ → Parts) (p : Passes t) (few : rulesOf t < maxRules) (room : positionsOf t + parts 0 .positions ≤ maxPositions)
     (small : id < 2 ^ 32) (known : bitAnd flags knownFlags ≡ flags) (fresh : (a : ℕ) → a < rulesOf t → recordWord t a 0 ≡ id → ⊥) where
   abbrev u : List ℕ
   u = added t id flags parts
@@ -59,10 +58,10 @@ module _ (t : List ℕ) (id flags : ℕ) (parts : Parts) (p : Passes t) (few : r
   k-le : k ≤ rulesOf t
   k-le = place-le t id
 
-  before : (a i : ℕ) → a < k → i < 3 → recordWord u a i ≡ recordWord t a i
+  before : (a i : ℕ) → a < k → i < 4 → recordWord u a i ≡ recordWord t a i
   before a i h l = record-before t id flags parts (p .long) few a i h (omega arith) ∙ old-field t id flags parts a i l
 
-  after : (a i : ℕ) → k < a → a ≤ rulesOf t → i < 3 → recordWord u a i ≡ recordWord t (a - 1) i
+  after : (a i : ℕ) → k < a → a ≤ rulesOf t → i < 4 → recordWord u a i ≡ recordWord t (a - 1) i
   after a i h m l = record-after t id flags parts (p .long) few a i h m (omega arith) ∙ old-field t id flags parts (a - 1) i l
 
   here : (i : ℕ) → i < stride → recordWord u k i ≡ newRecord t id flags parts i
@@ -104,15 +103,8 @@ module _ (t : List ℕ) (id flags : ℕ) (parts : Parts) (p : Passes t) (few : r
   rules-u : rulesOf u ≡ rulesOf t + 1
   rules-u = added-rules t id flags parts (p .long)
 
-  positions-u : positionsOf u ≡ positionsOf t + parts .positions
+  positions-u : positionsOf u ≡ positionsOf t + parts 0 .positions
   positions-u = added-positions t id flags parts (p .long)
-
-  -- the new rule's positions, read back
-  span-from : fromOf (span (positionsOf t) (positionsOf t + parts .positions)) ≡ positionsOf t
-  span-from = omega arith
-
-  span-to : toOf (span (positionsOf t) (positionsOf t + parts .positions)) ≡ positionsOf t + parts .positions
-  span-to = omega arith
 
   pub passes-added : Passes (added t id flags parts)
   unfolding newRecord
@@ -131,19 +123,19 @@ module _ (t : List ℕ) (id flags : ℕ) (parts : Parts) (p : Passes t) (few : r
             (λ a x. subst (λ (f : ℕ). bitAnd f knownFlags ≡ f) (sym (before a 1 x (omega arith))) (p .known a (omega (arith, k-le))))
             (subst (λ (f : ℕ). bitAnd f knownFlags ≡ f) (sym (here 1 (omega arith))) known)
             (λ a x y. subst (λ (f : ℕ). bitAnd f knownFlags ≡ f) (sym (after a 1 x y (omega arith))) (p .known (a - 1) (omega arith))) a (omega (arith, rules-u));
-        ordered = λ a h. each (λ (a : ℕ). fromOf (recordWord u a 2) ≤ toOf (recordWord u a 2))
-            (λ a x. subst (λ (w : ℕ). fromOf w ≤ toOf w) (sym (before a 2 x (omega arith))) (p .ordered a (omega (arith, k-le))))
-            (subst (λ (w : ℕ). fromOf w ≤ toOf w) (sym (here 2 (omega arith))) (omega (arith, span-from, span-to)))
-            (λ a x y. subst (λ (w : ℕ). fromOf w ≤ toOf w) (sym (after a 2 x y (omega arith))) (p .ordered (a - 1) (omega arith))) a (omega (arith, rules-u));
-        inside = λ a h. each (λ (a : ℕ). toOf (recordWord u a 2) ≤ positionsOf u)
-            (λ a x. subst (λ (w : ℕ). toOf w ≤ positionsOf u) (sym (before a 2 x (omega arith))) (omega (arith, positions-u, p .inside a (omega (arith, k-le)))))
-            (subst (λ (w : ℕ). toOf w ≤ positionsOf u) (sym (here 2 (omega arith))) (omega (arith, positions-u, span-to)))
-            (λ a x y. subst (λ (w : ℕ). toOf w ≤ positionsOf u) (sym (after a 2 x y (omega arith))) (omega (arith, positions-u, p .inside (a - 1) (omega arith)))) a (omega (arith, rules-u));
+        ordered = λ a h. each (λ (a : ℕ). recordWord u a 2 ≤ recordWord u a 3)
+            (λ a x. omega (arith, before a 2 x (omega arith), before a 3 x (omega arith), p .ordered a (omega (arith, k-le))))
+            (omega (arith, here 2 (omega arith), here 3 (omega arith)))
+            (λ a x y. omega (arith, after a 2 x y (omega arith), after a 3 x y (omega arith), p .ordered (a - 1) (omega arith))) a (omega (arith, rules-u));
+        inside = λ a h. each (λ (a : ℕ). recordWord u a 3 ≤ positionsOf u)
+            (λ a x. omega (arith, before a 3 x (omega arith), positions-u, p .inside a (omega (arith, k-le))))
+            (omega (arith, here 3 (omega arith), positions-u))
+            (λ a x y. omega (arith, after a 3 x y (omega arith), positions-u, p .inside (a - 1) (omega arith))) a (omega (arith, rules-u));
       }
 
 -- ---- the ids
 
-module _ (t : List ℕ) (id flags : ℕ) (parts : Parts) (long : tableWords ≤ length t) (few : rulesOf t < maxRules) where
+module _ (t : List ℕ) (id flags : ℕ) (parts : ℕ → Parts) (long : tableWords ≤ length t) (few : rulesOf t < maxRules) where
   -- the id of each record, old or new
   id-low : (a : ℕ) → a < placeOf t id → recordWord (added t id flags parts) a 0 ≡ recordWord t a 0
   id-low a h = record-before t id flags parts long few a 0 h (omega arith) ∙ old-field t id flags parts a 0 (omega arith)

@@ -1,5 +1,5 @@
--- Words beyond the first 4,096 count for nothing in an addition either: lists that agree up to there get the same answer and agree up to there afterwards, and
--- each keeps its own words beyond. Every word that the definitions read stands at a place below 4,096.
+-- Words beyond the first 16,384 count for nothing in an addition either: lists that agree up to there get the same answer and agree up to there afterwards, and
+-- each keeps its own words beyond. Every word that the definitions read stands at a place below 16,384.
 use mathlib.Core.Path.{_≡_, refl, sym, ap, ap₂, _∙_}
 use mathlib.Core.Bool.{Bool, true, false, true≢false, cond, _&&_, _||_}
 use mathlib.Core.List.{List, [], _∷_, _++_}
@@ -11,16 +11,17 @@ use lib.Seq.{take-at, drop-at}
 use borrow.Author.Tests.{leb-true, ltb-true}
 use Rattle.sets.specs.Set.{has, setOf, any, count}
 use Rattle.sets.proofs.Laws.{any-ext, count-ext}
-use Rattle.table.specs.Layout.{tableWords, maxRules, maxPositions, bytes, rulesOf, positionsOf, firstAt, firstAtStartAt, lineFirstAt, lineFirstAtStartAt, stride, recordAt, lastAt, lastAtEndAt, lineLastAt, span, followAt, takersAt, lineFollowAt, recordWord, rowHas, from-to}
+use Rattle.table.specs.Layout.{tableWords, maxRules, maxPositions, bytes, rulesOf, positionsOf, firstAt, stride, recordAt, lastAt, followAt, takersAt, recordWord, rowHas, from-to}
+use Rattle.table.specs.Gaps.{firstGaps, followGaps}
 use Rattle.table.specs.Table.{isTable}
 use Rattle.table.proofs.Rows.{row-same}
 use Rattle.table.proofs.Test.{passes}
 use Rattle.table.proofs.Local.{same-word, isTable-local}
 use Rattle.pattern.specs.Walk.{Read, tree, refused}
 use Rattle.pattern.specs.Read.{readOf, optionsOf}
-use Rattle.automaton.specs.Parts.{partsOf}
 use Rattle.automaton.specs.declared.Parts.{Parts}
-use Rattle.rules.specs.Words.{wordsOf, oldRow, joinedRow, placeOf, newRecord, oldRecord, recordWords, followWords, newTaker, takersWords, addedWord, added}
+use Rattle.rules.specs.Gaps.{partsAt}
+use Rattle.rules.specs.Words.{wordsOf, oldRow, joinedRow, placeOf, newRecord, oldRecord, recordWords, firstWords, followWords, newTaker, takersWords, addedWord, added}
 use Rattle.rules.specs.Add.{hasId, addAnswer, withRule, addWords}
 use Rattle.rules.specs.declared.Added.{Added}
 use Rattle.rules.proofs.Regions.{length-wordsOf}
@@ -62,7 +63,7 @@ module _ (t u : List ℕ) (same : take tableWords t ≡ take tableWords u) where
         any-ext (rulesOf t) (λ a. eqb (recordWord t a 0) id) (λ a. eqb (recordWord u a 0) id) (λ a h. ap (λ (x : ℕ). eqb x id) (field a 0 (omega arith) (omega arith)))
         ∙ ap (λ (n : ℕ). any n (λ a. eqb (recordWord u a 0) id)) rules
 
-    module _ (id flags : ℕ) (parts : Parts) where
+    module _ (id flags : ℕ) (parts : ℕ → Parts) where
       place : placeOf t id ≡ placeOf u id
       unfolding placeOf
       place =
@@ -72,17 +73,13 @@ module _ (t u : List ℕ) (same : take tableWords t ≡ take tableWords u) where
       new-record : (i : ℕ) → newRecord t id flags parts i ≡ newRecord u id flags parts i
       unfolding newRecord
       new-record i =
-          ap (λ (n : ℕ). cond (eqb i 0) id (cond (eqb i 1) flags (cond (eqb i 2) (span n (n + parts .positions))
-          (cond (from-to 3 7 i) (getD (parts .last) (i - 3) 0) (cond (from-to 7 11 i) (getD (parts .«end») (i - 7) 0)
-          (cond (from-to 11 15 i) (getD (parts .«line_last») (i - 11) 0) 0)))))) positions
+          ap (λ (n : ℕ). cond (eqb i 0) id (cond (eqb i 1) flags (cond (eqb i 2) n (cond (eqb i 3) (n + parts 0 .positions)
+          (getD (parts ((i - 4) / 4) .last) ((i - 4) % 4) 0))))) positions
 
       old-record : (a i : ℕ) → a < maxRules → i < stride → oldRecord t id flags parts a i ≡ oldRecord u id flags parts a i
       unfolding oldRecord
       old-record a i h l = λ j.
-          cond (from-to 3 7 i) (getD (setOf (old-row (lastAt a) (omega arith) j)) (i - 3) 0)
-          (cond (from-to 7 11 i) (getD (setOf (old-row (lastAtEndAt a) (omega arith) j)) (i - 7) 0)
-          (cond (from-to 11 15 i) (getD (setOf (old-row (lineLastAt a) (omega arith) j)) (i - 11) 0)
-          (field a i h l j)))
+          cond (ltb i 4) (field a i h l j) (getD (setOf (old-row (lastAt a ((i - 4) / 4)) (omega arith) j)) ((i - 4) % 4) 0)
 
       record-words : (a i : ℕ) → a < maxRules → i < stride → recordWords t id flags parts a i ≡ recordWords u id flags parts a i
       unfolding recordWords
@@ -92,36 +89,37 @@ module _ (t u : List ℕ) (same : take tableWords t ≡ take tableWords u) where
           (cond (leb a (rules j)) (old-record (a - 1) i (omega arith) l j)
           (field a i h l j)))
 
-      follow-words : (at : ℕ → ℕ) (new : List ℕ) (p i : ℕ) → at p + 4 ≤ tableWords → i < 4 → followWords t id flags parts at new p i ≡ followWords u id flags parts at new p i
+      first-words : (g i : ℕ) → g < firstGaps → firstWords t id flags parts g i ≡ firstWords u id flags parts g i
+      unfolding firstWords joinedRow
+      first-words g i h = λ j. getD (setOf (λ q. old-row (firstAt g) (omega arith) j q || has (parts g .first) q)) i 0
+
+      follow-words : (g p i : ℕ) → g < followGaps → p < maxPositions → i < 4 → followWords t id flags parts g p i ≡ followWords u id flags parts g p i
       unfolding followWords
-      follow-words at new p i h l = λ j.
-          cond (ltb p (positions j)) (getD (setOf (old-row (at p) h j)) i 0)
-          (cond (ltb p (positions j + parts .positions)) (getD new ((p - positions j) * 4 + i) 0)
-          (same-word t u same (at p + i) (omega arith) j))
+      follow-words g p i h m l = λ j.
+          cond (ltb p (positions j)) (getD (setOf (old-row (followAt g p) (omega arith) j)) i 0)
+          (cond (ltb p (positions j + parts 0 .positions)) (getD (parts g .follow) ((p - positions j) * 4 + i) 0)
+          (same-word t u same (followAt g p + i) (omega arith) j))
 
       takers-words : (x i : ℕ) → x < bytes → takersWords t id flags parts x i ≡ takersWords u id flags parts x i
       unfolding takersWords newTaker
       takers-words x i h = λ j.
           getD (setOf (λ q. old-row (takersAt x) (omega arith) j q
-          || (from-to (positions j) (positions j + parts .positions) q && rowHas (parts .takes) ((q - positions j) * 4) x))) i 0
+          || (from-to (positions j) (positions j + parts 0 .positions) q && rowHas (parts 0 .takes) ((q - positions j) * 4) x))) i 0
 
       word : (w : ℕ) → w < tableWords → addedWord t id flags parts w ≡ addedWord u id flags parts w
-      unfolding addedWord joinedRow
+      unfolding addedWord
       word w h =
           header _ _ _ _ _ _ rules positions
-          (within firstAt (firstAt + 4) w _ _ _ _ (λ a b. λ j. getD (setOf (λ q. old-row firstAt (omega arith) j q || has (parts .first) q)) (w - firstAt) 0)
-          (within firstAtStartAt (firstAtStartAt + 4) w _ _ _ _ (λ a b. λ j. getD (setOf (λ q. old-row firstAtStartAt (omega arith) j q || has (parts .start) q)) (w - firstAtStartAt) 0)
-          (within lineFirstAt (lineFirstAt + 4) w _ _ _ _ (λ a b. λ j. getD (setOf (λ q. old-row lineFirstAt (omega arith) j q || has (parts .«line_first») q)) (w - lineFirstAt) 0)
-          (within lineFirstAtStartAt (lineFirstAtStartAt + 4) w _ _ _ _ (λ a b. λ j. getD (setOf (λ q. old-row lineFirstAtStartAt (omega arith) j q || has (parts .«line_start») q)) (w - lineFirstAtStartAt) 0)
+          (within (firstAt 0) (firstAt firstGaps) w _ _ _ _ (λ a b. first-words ((w - firstAt 0) / 4) ((w - firstAt 0) % 4) (omega arith))
           (within (recordAt 0) (recordAt maxRules) w _ _ _ _ (λ a b. record-words ((w - recordAt 0) / stride) ((w - recordAt 0) % stride) (omega arith) (omega arith))
-          (within (followAt 0) (followAt maxPositions) w _ _ _ _ (λ a b. follow-words followAt (parts .follow) ((w - followAt 0) / 4) ((w - followAt 0) % 4) (omega arith) (omega arith))
           (within (takersAt 0) (takersAt bytes) w _ _ _ _ (λ a b. takers-words ((w - takersAt 0) / 4) ((w - takersAt 0) % 4) (omega arith))
-          (within (lineFollowAt 0) (lineFollowAt maxPositions) w _ _ _ _ (λ a b. follow-words lineFollowAt (parts .«line_follow») ((w - lineFollowAt 0) / 4) ((w - lineFollowAt 0) % 4) (omega arith) (omega arith))
-          (same-word t u same w h)))))))))
+          (within (followAt 0 0) (followAt followGaps 0) w _ _ _ _
+          (λ a b. follow-words ((w - followAt 0 0) / 1024) ((w - followAt 0 0) % 1024 / 4) ((w - followAt 0 0) % 4) (omega arith) (omega arith) (omega arith))
+          (same-word t u same w h)))))
         where
           header : (r r' p p' x x' : ℕ) → r ≡ r' → p ≡ p' → x ≡ x'
-              → cond (eqb w 1) (r + 1) (cond (eqb w 2) (p + parts .positions) x) ≡ cond (eqb w 1) (r' + 1) (cond (eqb w 2) (p' + parts .positions) x')
-          header r r' p p' x x' e f g = λ j. cond (eqb w 1) (e j + 1) (cond (eqb w 2) (f j + parts .positions) (g j))
+              → cond (eqb w 1) (r + 1) (cond (eqb w 2) (p + parts 0 .positions) x) ≡ cond (eqb w 1) (r' + 1) (cond (eqb w 2) (p' + parts 0 .positions) x')
+          header r r' p p' x x' e f g = λ j. cond (eqb w 1) (e j + 1) (cond (eqb w 2) (f j + parts 0 .positions) (g j))
 
       added-local : take tableWords (added t id flags parts) ≡ take tableWords (added u id flags parts)
       unfolding added
@@ -134,7 +132,7 @@ module _ (t u : List ℕ) (same : take tableWords t ≡ take tableWords u) where
 
 module _ (t u : List ℕ) (same : take tableWords t ≡ take tableWords u) where
   module _ (id flags : ℕ) (s : List ℕ) where
-    -- the answer depends on the first 4,096 words alone
+    -- the answer depends on the first 16,384 words alone
     pub addAnswer-local : addAnswer t id flags s ≡ addAnswer u id flags s
     unfolding addAnswer
     addAnswer-local = go (isTable t) refl
@@ -152,7 +150,7 @@ module _ (t u : List ℕ) (same : take tableWords t ≡ take tableWords u) where
         go true e h = passes t e .rules
         go false e h = absurd (true≢false (sym h ∙ rw e))
 
-    -- so do the first 4,096 words afterwards
+    -- so do the first 16,384 words afterwards
     pub addWords-local : take tableWords (addWords t id flags s) ≡ take tableWords (addWords u id flags s)
     unfolding addWords withRule
     addWords-local =
@@ -164,8 +162,8 @@ module _ (t u : List ℕ) (same : take tableWords t ≡ take tableWords u) where
         go false d few = same
         go true (refused number place) few = same
         go true (tree x) few =
-            added-local t u same (few refl) id flags (partsOf x (positionsOf t))
-            ∙ ap (λ (n : ℕ). take tableWords (added u id flags (partsOf x n))) (positions t u same)
+            added-local t u same (few refl) id flags (partsAt x (positionsOf t))
+            ∙ ap (λ (n : ℕ). take tableWords (added u id flags (partsAt x n))) (positions t u same)
 
 -- "words beyond are never touched"
 pub addWords-beyond : (t : List ℕ) (id flags : ℕ) (s : List ℕ) → drop tableWords (addWords t id flags s) ≡ drop tableWords t
@@ -176,5 +174,5 @@ addWords-beyond t id flags s = go (eqb (addAnswer t id flags s .number) 0) (read
     go false d = refl
     go true (refused number place) = refl
     go true (tree x) =
-        drop-at (wordsOf tableWords (addedWord t id flags (partsOf x (positionsOf t)))) (drop tableWords t) tableWords
-        (length-wordsOf tableWords (addedWord t id flags (partsOf x (positionsOf t))))
+        drop-at (wordsOf tableWords (addedWord t id flags (partsAt x (positionsOf t)))) (drop tableWords t) tableWords
+        (length-wordsOf tableWords (addedWord t id flags (partsAt x (positionsOf t))))

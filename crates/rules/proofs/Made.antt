@@ -1,7 +1,7 @@
 -- The writers make the table with one rule more. Each writer's part is read word by word, and left alone by the others; a list of words is then the defined
 -- one because each of its words is, region by region.
 use mathlib.Core.Path.{_≡_, refl, sym, ap, ap₂, _∙_}
-use mathlib.Core.Bool.{false, _&&_}
+use mathlib.Core.Bool.{cond, _&&_}
 use mathlib.Core.List.{List, [], _∷_}
 use Prim.Native.Nat.{ℕ, zero, suc, _+_, _-_, _*_, _/_, _%_, _≤_, _<_}
 use native.Mathlib.Decide.{decLt}
@@ -10,127 +10,23 @@ use lib.Dec.{ltb}
 use lib.ListN.{length, getD}
 use lib.Seq.{ext-getD}
 use borrow.Author.Tests.{lt-ltb, le-ltb, le-leb, lt-leb, eq-eqb, ne-eqb}
-use Rattle.sets.specs.Set.{setOf, emptySet}
-use Rattle.table.specs.Layout.{tableWords, maxRules, maxPositions, bytes, rulesOf, positionsOf, firstAt, firstAtStartAt, lineFirstAt, lineFirstAtStartAt, stride, recordAt, lastAt, lastAtEndAt, lineLastAt, span, followAt, takersAt, lineFollowAt, rowHas, from-to}
-use Rattle.table.proofs.Over.{from-to-in, from-to-below, from-to-above, length-over, over-in, over-below, over-above}
+use Rattle.sets.specs.Set.{setOf, emptySet, count}
+use Rattle.sets.proofs.Laws.{below-four}
+use Rattle.table.specs.Layout.{tableWords, maxRules, maxPositions, bytes, rulesOf, positionsOf, firstAt, stride, recordAt, lastAt, followAt, takersAt, rowHas}
+use Rattle.table.specs.Gaps.{firstGaps, lastGaps, followGaps}
+use Rattle.table.proofs.Over.{length-over, over-in, over-below, over-above}
 use Rattle.table.proofs.Writes.{copied, movedUp}
+use Rattle.regex.specs.Form.{write, positions}
+use Rattle.nodes.specs.Nodes.{Syntax}
 use Rattle.automaton.specs.declared.Parts.{Parts}
-use Rattle.rules.specs.Words.{wordsOf, oldRow, joinedRow, placeOf, newRecord, oldRecord, recordWords, followWords, newTaker, takersWords, addedWord, added}
-use Rattle.rules.specs.Invariants.{mergedRow, merged, rowsWord, mergedRows, maskedRows, maskedWord, recordsWord, maskedRecords, recordOf, recordAtPlace, recordPut, startsPut, followPut, newTakers, takersPut, partsPut, countsPut}
+use Rattle.rules.specs.Gaps.{holdingAt, partsAt}
+use Rattle.rules.specs.Words.{oldRow, joinedRow, placeOf, newRecord, oldRecord, recordWords, firstWords, followWords, newTaker, takersWords, addedWord, added}
+use Rattle.rules.specs.Invariants.{mergedRow, rowsWord, mergedRows, maskedWord, recordsWord, maskedRecords, smaller, recordOf, recordAtPlace, recordPut, followPut, newTakers, takersPut, gapPut, gapsPut, countsPut}
 use Rattle.rules.proofs.Rows.{merged-same, merged-none, merged-new}
+use Rattle.rules.proofs.Parts.{sized-parts}
 use Rattle.rules.proofs.Place.{place-le}
-use Rattle.rules.proofs.Regions.{getD-wordsOf, word-other, word-first, word-start, word-line-first, word-line-start, word-record, word-follow, word-takers, word-line-follow, length-added, added-word, added-beyond}
-
--- ---- two sets of first positions, one after the other
-
-module _ (at n : ℕ) (first start s : List ℕ) where
-  abbrev one : List ℕ
-  one = merged at n first s
-
-  abbrev both : List ℕ
-  both = startsPut at n first start s
-
-  one-word : (w : ℕ) → at + 8 ≤ length s → at ≤ w → w < at + 4 → getD one w 0 ≡ getD (mergedRow s at n first) (w - at) 0
-  unfolding merged
-  one-word w m h l = over-in at (at + 4) (λ w. getD (mergedRow s at n first) (w - at) 0) s w h l (omega arith)
-
-  one-low : (w : ℕ) → w < at → getD one w 0 ≡ getD s w 0
-  unfolding merged
-  one-low w h = over-below at (at + 4) (λ w. getD (mergedRow s at n first) (w - at) 0) s w h
-
-  one-high : (w : ℕ) → at + 4 ≤ w → getD one w 0 ≡ getD s w 0
-  unfolding merged
-  one-high w h = over-above at (at + 4) (λ w. getD (mergedRow s at n first) (w - at) 0) s w h
-
-  length-one : length one ≡ length s
-  unfolding merged
-  length-one = length-over at (at + 4) (λ w. getD (mergedRow s at n first) (w - at) 0) s
-
-  abbrev second : ℕ → ℕ
-  second w = getD (mergedRow one (at + 4) n start) (w - (at + 4)) 0
-
-  length-starts : length both ≡ length s
-  unfolding startsPut merged
-  length-starts = length-over (at + 4) (at + 4 + 4) second one ∙ length-one
-
-  starts-low : (w : ℕ) → w < at → getD both w 0 ≡ getD s w 0
-  unfolding startsPut merged
-  starts-low w h = over-below (at + 4) (at + 4 + 4) second one w (omega arith) ∙ one-low w h
-
-  starts-high : (w : ℕ) → at + 8 ≤ w → getD both w 0 ≡ getD s w 0
-  unfolding startsPut merged
-  starts-high w h = over-above (at + 4) (at + 4 + 4) second one w (omega arith) ∙ one-high w (omega arith)
-
-  starts-first : at + 8 ≤ length s → (w : ℕ) → at ≤ w → w < at + 4 → getD both w 0 ≡ getD (mergedRow s at n first) (w - at) 0
-  unfolding startsPut merged
-  starts-first m w h l = over-below (at + 4) (at + 4 + 4) second one w l ∙ one-word w m h l
-
-  starts-second : at + 8 ≤ length s → (w : ℕ) → (at + 4) ≤ w → w < at + 8
-      → getD both w 0 ≡ getD (mergedRow s (at + 4) n start) (w - (at + 4)) 0
-  unfolding startsPut merged
-  starts-second m w h l =
-      over-in (at + 4) (at + 4 + 4) second one w h (omega arith) (omega (arith, length-one))
-      ∙ ap (λ (r : List ℕ). getD r (w - (at + 4)) 0) (merged-same one s (at + 4) n start (λ i k. one-high ((at + 4) + i) (omega arith)))
-
--- ---- the follow sets
-
-module _ (at n : ℕ) (follow : List ℕ) (more : ℕ) (s : List ℕ) (room : n + more ≤ maxPositions) where
-  abbrev old : ℕ → ℕ
-  old = rowsWord at n (λ k. emptySet) s
-
-  abbrev kept : List ℕ
-  kept = maskedRows at n n s
-
-  abbrev new : ℕ → ℕ
-  new w = getD follow (w - (at + n * 4)) 0
-
-  abbrev rows : List ℕ
-  rows = followPut at n follow more s
-
-  length-kept : length kept ≡ length s
-  unfolding maskedRows mergedRows
-  length-kept = length-over at (at + n * 4) old s
-
-  kept-low : (w : ℕ) → w < at → getD kept w 0 ≡ getD s w 0
-  unfolding maskedRows mergedRows
-  kept-low w h = over-below at (at + n * 4) old s w h
-
-  kept-high : (w : ℕ) → at + n * 4 ≤ w → getD kept w 0 ≡ getD s w 0
-  unfolding maskedRows mergedRows
-  kept-high w h = over-above at (at + n * 4) old s w (omega arith)
-
-  kept-in : at + 1024 ≤ length s → (w : ℕ) → at ≤ w → w < at + n * 4 → getD kept w 0 ≡ old w
-  unfolding maskedRows mergedRows
-  kept-in m w h l = over-in at (at + n * 4) old s w h (omega arith) (omega arith)
-
-  length-follow : length rows ≡ length s
-  unfolding followPut
-  length-follow = length-over (at + n * 4) (at + n * 4 + more * 4) new kept ∙ length-kept
-
-  follow-low : (w : ℕ) → w < at → getD rows w 0 ≡ getD s w 0
-  unfolding followPut
-  follow-low w h = over-below (at + n * 4) (at + n * 4 + more * 4) new kept w (omega arith) ∙ kept-low w h
-
-  -- rows that no position has stay
-  follow-high : (w : ℕ) → at + (n + more) * 4 ≤ w → getD rows w 0 ≡ getD s w 0
-  unfolding followPut
-  follow-high w h = over-above (at + n * 4) (at + n * 4 + more * 4) new kept w (omega arith) ∙ kept-high w (omega arith)
-
-  follow-old : at + 1024 ≤ length s → (p i : ℕ) → p < n → i < 4 → getD rows (at + p * 4 + i) 0 ≡ getD (setOf (λ q. ltb q n && rowHas s (at + p * 4) q)) i 0
-  unfolding followPut rowsWord
-  follow-old m p i h l =
-      let quot : at + (at + p * 4 + i - at) / 4 * 4 ≡ at + p * 4 = omega arith in
-      let rest : (at + p * 4 + i - at) % 4 ≡ i = omega arith in
-      over-below (at + n * 4) (at + n * 4 + more * 4) new kept (at + p * 4 + i) (omega arith) ∙ kept-in m (at + p * 4 + i) (omega arith) (omega arith)
-      ∙ ap₂ (λ (j k : ℕ). getD (mergedRow s j n emptySet) k 0) quot rest
-      ∙ ap (λ (r : List ℕ). getD r i 0) (merged-none s (at + p * 4) n)
-
-  follow-new : at + 1024 ≤ length s → (p i : ℕ) → n ≤ p → p < n + more → i < 4 → getD rows (at + p * 4 + i) 0 ≡ getD follow ((p - n) * 4 + i) 0
-  unfolding followPut
-  follow-new m p i h k l =
-      let e : at + p * 4 + i - (at + n * 4) ≡ (p - n) * 4 + i = omega arith in
-      over-in (at + n * 4) (at + n * 4 + more * 4) new kept (at + p * 4 + i) (omega arith) (omega arith) (omega (arith, length-kept))
-      ∙ ap (λ (j : ℕ). getD follow j 0) e
+use Rattle.rules.proofs.Regions.{word-other, word-first, word-record, word-takers, word-follow, length-added, added-word, added-beyond}
+use Rattle.rules.proofs.GapSets.{Out, side, split, from-to-out, over-out, follow-high, follow-old, follow-new, Free, withLast, length-last, first-out, last-out, gap-first, gap-last, gap-follow, length-gaps, gaps-out, gaps-at}
 
 -- ---- the takers of each byte
 
@@ -145,13 +41,9 @@ module _ (n : ℕ) (takes : List ℕ) (more : ℕ) (s : List ℕ) where
   unfolding takersPut mergedRows
   length-takers = length-over (takersAt 0) (takersAt bytes) takersWord s
 
-  takers-low : (w : ℕ) → w < takersAt 0 → getD taken w 0 ≡ getD s w 0
+  takers-out : (w : ℕ) → Out (takersAt 0) (takersAt bytes) w → getD taken w 0 ≡ getD s w 0
   unfolding takersPut mergedRows
-  takers-low w h = over-below (takersAt 0) (takersAt bytes) takersWord s w h
-
-  takers-high : (w : ℕ) → takersAt bytes ≤ w → getD taken w 0 ≡ getD s w 0
-  unfolding takersPut mergedRows
-  takers-high w h = over-above (takersAt 0) (takersAt bytes) takersWord s w h
+  takers-out w o = over-out (takersAt 0) (takersAt bytes) takersWord s w o
 
   takers-in : tableWords ≤ length s → (x i : ℕ) → x < bytes → i < 4
       → getD taken (takersAt x + i) 0 ≡ getD (mergedRow s (takersAt x) n (newTakers takes n more x)) i 0
@@ -193,46 +85,25 @@ module _ (rules positions : ℕ) (s : List ℕ) where
 
 -- ---- the records
 
-module _ (t : List ℕ) (id flags : ℕ) (parts : Parts) where
+module _ (t : List ℕ) (id flags : ℕ) (parts : ℕ → Parts) where
   -- a masked record is an old one
-  pub masked-old : (a i : ℕ) → i < stride → maskedWord t (positionsOf t) a i ≡ oldRecord t id flags parts a i
+  masked-old : (a i : ℕ) → maskedWord t (positionsOf t) a i ≡ oldRecord t id flags parts a i
   unfolding maskedWord oldRecord oldRow
-  masked-old a i h = go (decLt i 3) (decLt i 7) (decLt i 11)
-    where
-      row : ℕ → List ℕ
-      row k = mergedRow t (lastAt a + k) (positionsOf t) emptySet
-
-      one : (k : ℕ) → k + 3 ≤ i → i < k + 7 → (i - 3) / 4 * 4 ≡ k
-          → getD (row ((i - 3) / 4 * 4)) ((i - 3) % 4) 0 ≡ getD (setOf (λ q. ltb q (positionsOf t) && rowHas t (lastAt a + k) q)) (i - (k + 3)) 0
-      one k x y e =
-          let rest : (i - 3) % 4 ≡ i - (k + 3) = omega arith in
-          ap₂ (λ (j r : ℕ). getD (row j) r 0) e rest ∙ ap (λ (l : List ℕ). getD l (i - (k + 3)) 0) (merged-none t (lastAt a + k) (positionsOf t))
-
-      -- the sets of a record stand four words apart
-      place : (k m : ℕ) → lastAt a + k ≡ m
-          → getD (setOf (λ q. ltb q (positionsOf t) && rowHas t (lastAt a + k) q)) (i - (k + 3)) 0 ≡ getD (setOf (λ q. ltb q (positionsOf t) && rowHas t m q)) (i - (k + 3)) 0
-      place k m e = ap (λ (m : ℕ). getD (setOf (λ q. ltb q (positionsOf t) && rowHas t m q)) (i - (k + 3)) 0) e
-
-      go : Dec (i < 3) → Dec (i < 7) → Dec (i < 11) → maskedWord t (positionsOf t) a i ≡ oldRecord t id flags parts a i
-      go (yes p) q r = rw (from-to-below 3 15 i p, from-to-below 3 7 i p, from-to-below 7 11 i (omega arith), from-to-below 11 15 i (omega arith))
-      go (no p) (yes q) r =
-          rw (from-to-in 3 15 i (omega arith) (omega arith), from-to-in 3 7 i (omega arith) q) (one 0 (omega arith) q (omega arith) ∙ place 0 (lastAt a) (omega arith))
-      go (no p) (no q) (yes r) =
-          rw (from-to-in 3 15 i (omega arith) (omega arith), from-to-above 3 7 i (omega arith), from-to-in 7 11 i (omega arith) r)
-          (one 4 (omega arith) r (omega arith) ∙ place 4 (lastAtEndAt a) (omega arith))
-      go (no p) (no q) (no r) =
-          rw (from-to-in 3 15 i (omega arith) h, from-to-above 3 7 i (omega arith), from-to-above 7 11 i (omega arith), from-to-in 11 15 i (omega arith) h)
-          (one 8 (omega arith) h (omega arith) ∙ place 8 (lineLastAt a) (omega arith))
+  masked-old a i =
+      ap (λ (r : List ℕ). cond (ltb i 4) (getD t (recordAt a + i) 0) (getD r ((i - 4) % 4) 0)) (merged-none t (lastAt a ((i - 4) / 4)) (positionsOf t))
 
   abbrev theRecord : List ℕ
-  theRecord = recordOf id flags (span (positionsOf t) (positionsOf t + parts .positions)) (parts .last) (parts .«end») (parts .«line_last»)
+  theRecord = recordOf id flags (positionsOf t) (positionsOf t + parts 0 .positions)
 
-  new-record : (i : ℕ) → i < stride → getD theRecord i 0 ≡ newRecord t id flags parts i
-  unfolding newRecord wordsOf
-  new-record i h = ap (λ (l : List ℕ). getD l i 0) whole ∙ getD-wordsOf stride (newRecord t id flags parts) i h
-    where
-      whole : theRecord ≡ wordsOf stride (newRecord t id flags parts)
-      whole = refl
+  -- the new record before its sets are put in
+  new-record : (i : ℕ) → i < 4 → getD theRecord i 0 ≡ newRecord t id flags parts i
+  unfolding newRecord
+  new-record = below-four (λ (i : ℕ). getD theRecord i 0 ≡ newRecord t id flags parts i) refl refl refl refl
+
+  -- and its sets
+  new-set : (i : ℕ) → 4 ≤ i → newRecord t id flags parts i ≡ getD (parts ((i - 4) / 4) .last) ((i - 4) % 4) 0
+  unfolding newRecord
+  new-set i h = rw (ne-eqb i 0 (λ z. omega arith), ne-eqb i 1 (λ z. omega arith), ne-eqb i 2 (λ z. omega arith), ne-eqb i 3 (λ z. omega arith))
 
   -- the words that `put_record` leaves
   module _ (long : tableWords ≤ length t) (few : rulesOf t < maxRules) where
@@ -271,7 +142,7 @@ module _ (t : List ℕ) (id flags : ℕ) (parts : Parts) where
         let e : (recordAt a + i - recordAt 0) / stride ≡ a = omega arith in
         let f : (recordAt a + i - recordAt 0) % stride ≡ i = omega arith in
         over-in (recordAt 0) (recordAt (rulesOf t)) (recordsWord (positionsOf t) t) t (recordAt a + i) (omega arith) (omega arith) (omega arith)
-        ∙ ap₂ (maskedWord t (positionsOf t)) e f ∙ masked-old a i l
+        ∙ ap₂ (maskedWord t (positionsOf t)) e f ∙ masked-old a i
 
     moved-low : (w : ℕ) → w < recordAt k + stride → getD moved w 0 ≡ getD masked w 0
     moved-low w h = over-below (recordAt k + stride) (recordAt k + stride + (rulesOf t - k) * stride) (λ w. getD masked (w - stride) 0) masked w h
@@ -297,7 +168,7 @@ module _ (t : List ℕ) (id flags : ℕ) (parts : Parts) where
     put-low w h =
         ap (λ (l : List ℕ). getD l w 0) put-is ∙ over-below (recordAt k) (recordAt k + stride) (λ w. getD theRecord (w - recordAt k) 0) moved w h ∙ moved-low w (omega arith)
 
-    put-here : (i : ℕ) → i < stride → getD put (recordAt k + i) 0 ≡ newRecord t id flags parts i
+    put-here : (i : ℕ) → i < 4 → getD put (recordAt k + i) 0 ≡ newRecord t id flags parts i
     put-here i h =
         let e : recordAt k + i - recordAt k ≡ i = omega arith in
         ap (λ (l : List ℕ). getD l (recordAt k + i) 0) put-is
@@ -308,22 +179,21 @@ module _ (t : List ℕ) (id flags : ℕ) (parts : Parts) where
     put-high w h = ap (λ (l : List ℕ). getD l w 0) put-is ∙ over-above (recordAt k) (recordAt k + stride) (λ w. getD theRecord (w - recordAt k) 0) moved w h
 
     -- outside the records nothing changes
-    put-before : (w : ℕ) → w < recordAt 0 → getD put w 0 ≡ getD t w 0
-    put-before w h = put-low w (omega arith) ∙ masked-low w h
+    put-out : (w : ℕ) → Out (recordAt 0) (recordAt maxRules) w → getD put w 0 ≡ getD t w 0
+    put-out w o =
+        side (recordAt 0) (recordAt maxRules) w (λ h. put-low w (omega arith) ∙ masked-low w h) (λ x y. absurd (o x y))
+        (λ h. put-high w (omega (arith, k-le)) ∙ moved-high w (omega arith) ∙ masked-high w (omega arith))
 
-    put-after : (w : ℕ) → recordAt maxRules ≤ w → getD put w 0 ≡ getD t w 0
-    put-after w h = put-high w (omega (arith, k-le)) ∙ moved-high w (omega arith) ∙ masked-high w (omega arith)
-
-    -- and the records are the defined ones
-    put-record : (a i : ℕ) → a < maxRules → i < stride → getD put (recordAt a + i) 0 ≡ recordWords t id flags parts a i
+    -- and the records are the defined ones, but for the new sets
+    put-record : (a i : ℕ) → a < maxRules → i < stride → (a ≡ k → i < 4) → getD put (recordAt a + i) 0 ≡ recordWords t id flags parts a i
     unfolding recordWords
-    put-record a i h l = go (decLt a k) (decLt k a) (decLt (rulesOf t) a)
+    put-record a i h l plain = go (decLt a k) (decLt k a) (decLt (rulesOf t) a)
       where
         go : Dec (a < k) → Dec (k < a) → Dec (rulesOf t < a) → getD put (recordAt a + i) 0 ≡ recordWords t id flags parts a i
         go (yes p) q r = rw (lt-ltb a k p) (put-low (recordAt a + i) (omega arith) ∙ masked-in a i (omega (arith, k-le)) l)
         go (no p) (no q) r =
             let e : a ≡ k = omega arith in
-            rw (le-ltb a k (omega arith), eq-eqb a k e) (ap (λ (j : ℕ). getD put (recordAt j + i) 0) e ∙ put-here i l)
+            rw (le-ltb a k (omega arith), eq-eqb a k e) (ap (λ (j : ℕ). getD put (recordAt j + i) 0) e ∙ put-here i (plain e))
         go (no p) (yes q) (no r) =
             let e : recordAt a + i - stride ≡ recordAt (a - 1) + i = omega arith in
             rw (le-ltb a k (omega arith), ne-eqb a k (λ z. omega arith), le-leb a (rulesOf t) (omega arith))
@@ -335,131 +205,181 @@ module _ (t : List ℕ) (id flags : ℕ) (parts : Parts) where
 
 -- ---- follow sets as the definition has them, where the words before were the table's
 
-module _ (t : List ℕ) (id flags : ℕ) (parts : Parts) (room : positionsOf t + parts .positions ≤ maxPositions) (at : ℕ) (new s : List ℕ)
-    (long : at + 1024 ≤ length s) (same : (w : ℕ) → at ≤ w → w < at + 1024 → getD s w 0 ≡ getD t w 0) where
+module _ (t : List ℕ) (id flags : ℕ) (parts : ℕ → Parts) (even : (g : ℕ) → parts g .positions ≡ parts 0 .positions) (room : positionsOf t + parts 0 .positions ≤ maxPositions)
+    (g : ℕ) (low : g < followGaps) (s : List ℕ) (long : tableWords ≤ length s) (same : (w : ℕ) → followAt g 0 ≤ w → w < followAt g 0 + 1024 → getD s w 0 ≡ getD t w 0) where
   abbrev held : ℕ
   held = positionsOf t
 
   abbrev fresh : ℕ
-  fresh = parts .positions
+  fresh = parts g .positions
 
-  follow-made : (p i : ℕ) → p < maxPositions → i < 4
-      → getD (followPut at held new fresh s) (at + p * 4 + i) 0 ≡ followWords t id flags parts (λ p. at + p * 4) new p i
+  abbrev written : List ℕ
+  written = followPut (followAt g 0) held (parts g .follow) fresh s
+
+  fits : held + fresh ≤ maxPositions
+  fits = omega (arith, even g)
+
+  follow-made : (p i : ℕ) → p < maxPositions → i < 4 → getD written (followAt g p + i) 0 ≡ followWords t id flags parts g p i
   unfolding followWords oldRow
-  follow-made p i h l = go (decLt p held) (decLt p (held + fresh))
+  follow-made p i h l = ap (λ (w : ℕ). getD written (w + i) 0) (sym there) ∙ go (decLt p held) (decLt p (held + parts 0 .positions))
     where
-      row : setOf (λ q. ltb q held && rowHas s (at + p * 4) q) ≡ setOf (λ q. ltb q held && rowHas t (at + p * 4) q)
-      row = sym (merged-none s (at + p * 4) held) ∙ merged-same s t (at + p * 4) held emptySet (λ j k. same (at + p * 4 + j) (omega arith) (omega arith)) ∙ merged-none t (at + p * 4) held
+      there : followAt g 0 + p * 4 ≡ followAt g p
+      there = omega arith
 
-      go : Dec (p < held) → Dec (p < held + fresh) → getD (followPut at held new fresh s) (at + p * 4 + i) 0 ≡ followWords t id flags parts (λ p. at + p * 4) new p i
-      go (yes x) y = rw (lt-ltb p held x) (follow-old at held new fresh s room long p i x l ∙ ap (λ (r : List ℕ). getD r i 0) row)
-      go (no x) (yes y) = rw (le-ltb p held (omega arith), lt-ltb p (held + fresh) y) (follow-new at held new fresh s room long p i (omega arith) y l)
+      row : setOf (λ q. ltb q held && rowHas s (followAt g 0 + p * 4) q) ≡ setOf (λ q. ltb q held && rowHas t (followAt g p) q)
+      row =
+          sym (merged-none s (followAt g 0 + p * 4) held)
+          ∙ merged-same s t (followAt g 0 + p * 4) held emptySet (λ j k. same (followAt g 0 + p * 4 + j) (omega arith) (omega arith))
+          ∙ merged-none t (followAt g 0 + p * 4) held
+          ∙ ap (λ (w : ℕ). setOf (λ q. ltb q held && rowHas t w q)) there
+
+      go : Dec (p < held) → Dec (p < held + parts 0 .positions) → getD written (followAt g 0 + p * 4 + i) 0 ≡ followWords t id flags parts g p i
+      go (yes x) y = rw (lt-ltb p held x) (follow-old (followAt g 0) held (parts g .follow) fresh s fits (omega arith) p i x l ∙ ap (λ (r : List ℕ). getD r i 0) row)
+      go (no x) (yes y) =
+          rw (le-ltb p held (omega arith), lt-ltb p (held + parts 0 .positions) y)
+          (follow-new (followAt g 0) held (parts g .follow) fresh s fits (omega arith) p i (omega arith) (omega (arith, even g)) l)
       go (no x) (no y) =
-          rw (le-ltb p held (omega arith), le-ltb p (held + fresh) (omega arith))
-          (follow-high at held new fresh s room (at + p * 4 + i) (omega arith) ∙ same (at + p * 4 + i) (omega arith) (omega arith))
+          rw (le-ltb p held (omega arith), le-ltb p (held + parts 0 .positions) (omega arith))
+          (follow-high (followAt g 0) held (parts g .follow) fresh s fits (followAt g 0 + p * 4 + i) (omega (arith, even g))
+          ∙ same (followAt g 0 + p * 4 + i) (omega arith) (omega arith) ∙ ap (λ (w : ℕ). getD t (w + i) 0) there)
 
 -- ---- all of it
 
-module _ (t : List ℕ) (id flags : ℕ) (parts : Parts) (long : tableWords ≤ length t) (few : rulesOf t < maxRules) (room : positionsOf t + parts .positions ≤ maxPositions) where
+module _ (t : List ℕ) (id flags : ℕ) (parts : ℕ → Parts) (even : (g : ℕ) → parts g .positions ≡ parts 0 .positions)
+    (long : tableWords ≤ length t) (few : rulesOf t < maxRules) (room : positionsOf t + parts 0 .positions ≤ maxPositions) where
   abbrev n : ℕ
   n = positionsOf t
 
   abbrev more : ℕ
-  more = parts .positions
+  more = parts 0 .positions
+
+  abbrev place : ℕ
+  place = placeOf t id
+
+  place-few : place < maxRules
+  place-few = omega (arith, place-le t id)
 
   abbrev s1 : List ℕ
   s1 = recordPut (rulesOf t) n (theRecord t id flags parts) t
 
+  abbrev before : ℕ → List ℕ
+  before g = gapsPut g n place parts s1
+
   abbrev s2 : List ℕ
-  s2 = startsPut firstAt n (parts .first) (parts .start) s1
+  s2 = before firstGaps
 
   abbrev s3 : List ℕ
-  s3 = startsPut lineFirstAt n (parts .«line_first») (parts .«line_start») s2
+  s3 = takersPut n (parts 0 .takes) more s2
 
   abbrev s4 : List ℕ
-  s4 = followPut (followAt 0) n (parts .follow) more s3
+  s4 = countsPut (rulesOf t + 1) (n + more) s3
 
-  abbrev s5 : List ℕ
-  s5 = takersPut n (parts .takes) more s4
-
-  abbrev s6 : List ℕ
-  s6 = followPut (lineFollowAt 0) n (parts .«line_follow») more s5
-
-  abbrev s7 : List ℕ
-  s7 = countsPut (rulesOf t + 1) (n + more) s6
+  rooms : (g : ℕ) → n + parts g .positions ≤ maxPositions
+  rooms g = omega (arith, even g)
 
   length-1 : length s1 ≡ length t
   length-1 = length-put t id flags parts long few
 
-  length-2 : length s2 ≡ length t
-  length-2 = length-starts firstAt n (parts .first) (parts .start) s1 ∙ length-1
+  length-before : (g : ℕ) → length (before g) ≡ length t
+  length-before g = length-gaps n place parts rooms s1 g ∙ length-1
 
   length-3 : length s3 ≡ length t
-  length-3 = length-starts lineFirstAt n (parts .«line_first») (parts .«line_start») s2 ∙ length-2
+  length-3 = length-takers n (parts 0 .takes) more s2 ∙ length-before firstGaps
 
-  length-4 : length s4 ≡ length t
-  length-4 = length-follow (followAt 0) n (parts .follow) more s3 room ∙ length-3
+  -- the regions of the gaps as the later writers leave them
+  after-gaps : (w : ℕ) → 3 ≤ w → Out (takersAt 0) (takersAt bytes) w → getD s4 w 0 ≡ getD s2 w 0
+  after-gaps w h o = counts-high (rulesOf t + 1) (n + more) s3 w h ∙ takers-out n (parts 0 .takes) more s2 w o
 
-  length-5 : length s5 ≡ length t
-  length-5 = length-takers n (parts .takes) more s4 ∙ length-4
+  -- the word of a gap, and what it was before
+  at-gap : (g w : ℕ) → g < firstGaps → ((h : ℕ) → g < h → h < firstGaps → Free n place h w) → getD s2 w 0 ≡ getD (gapPut g n place (parts g) (before g)) w 0
+  at-gap = gaps-at n place parts rooms s1 firstGaps
 
-  length-6 : length s6 ≡ length t
-  length-6 = length-follow (lineFollowAt 0) n (parts .«line_follow») more s5 room ∙ length-5
+  was : (g w : ℕ) → ((h : ℕ) → h < g → Free n place h w) → Out (recordAt 0) (recordAt maxRules) w → getD (before g) w 0 ≡ getD t w 0
+  was g w o p = gaps-out n place parts rooms s1 g w o ∙ put-out t id flags parts long few w p
 
-  -- what the later writers leave alone
-  under-5 : (w : ℕ) → 3 ≤ w → w < lineFollowAt 0 → getD s7 w 0 ≡ getD s5 w 0
-  under-5 w h l = counts-high (rulesOf t + 1) (n + more) s6 w h ∙ follow-low (lineFollowAt 0) n (parts .«line_follow») more s5 room w l
+  -- ---- the sets of first positions
 
-  under-4 : (w : ℕ) → 3 ≤ w → w < takersAt 0 → getD s7 w 0 ≡ getD s4 w 0
-  under-4 w h l = under-5 w h (omega arith) ∙ takers-low n (parts .takes) more s4 w l
+  first-in : (g i : ℕ) → g < firstGaps → i < 4 → getD s2 (firstAt g + i) 0 ≡ firstWords t id flags parts g i
+  unfolding firstWords joinedRow oldRow mergedRow
+  first-in g i h l =
+      at-gap g (firstAt g + i) h (λ j x y. (λ a b. omega arith, λ c a b. omega arith, λ c a b. omega arith))
+      ∙ gap-first n place g (parts g) (rooms g) (before g) (omega (arith, length-before g)) h i l
+      ∙ ap (λ (r : List ℕ). getD r i 0)
+      (merged-same (before g) t (firstAt g) n (parts g .first)
+      (λ j x. was g (firstAt g + j) (λ m y. (λ a b. omega arith, λ c a b. omega arith, λ c a b. omega arith)) (λ a b. omega arith)))
 
-  under-3 : (w : ℕ) → 3 ≤ w → w < followAt 0 → getD s7 w 0 ≡ getD s3 w 0
-  under-3 w h l = under-4 w h (omega arith) ∙ follow-low (followAt 0) n (parts .follow) more s3 room w l
+  -- ---- the records
 
-  -- and what the earlier ones have left alone
-  above-3 : (w : ℕ) → recordAt maxRules ≤ w → getD s3 w 0 ≡ getD t w 0
-  above-3 w h =
-      starts-high lineFirstAt n (parts .«line_first») (parts .«line_start») s2 w (omega arith)
-      ∙ starts-high firstAt n (parts .first) (parts .start) s1 w (omega arith) ∙ put-after t id flags parts long few w h
+  record-in : (a i : ℕ) → a < maxRules → i < stride → getD s2 (recordAt a + i) 0 ≡ recordWords t id flags parts a i
+  unfolding recordWords
+  record-in a i h l = go (decLt a place) (decLt place a) (decLt i 4)
+    where
+      -- no set of a gap is there
+      apart : ((g : ℕ) → g < lastGaps → Out (lastAt place g) (lastAt place g + 4) (recordAt a + i)) → (a ≡ place → i < 4) → getD s2 (recordAt a + i) 0 ≡ recordWords t id flags parts a i
+      apart o p =
+          gaps-out n place parts rooms s1 firstGaps (recordAt a + i) (λ g x. (λ b c. omega arith, o g, λ d b c. omega arith))
+          ∙ put-record t id flags parts long few a i h l p
 
-  above-4 : (w : ℕ) → takersAt 0 ≤ w → getD s4 w 0 ≡ getD t w 0
-  above-4 w h = follow-high (followAt 0) n (parts .follow) more s3 room w (omega arith) ∙ above-3 w (omega arith)
+      go : Dec (a < place) → Dec (place < a) → Dec (i < 4) → getD s2 (recordAt a + i) 0 ≡ recordWords t id flags parts a i
+      go (yes p) q r = apart (λ g x b c. omega arith) (λ e. omega arith)
+      go (no p) (yes q) r = apart (λ g x b c. omega arith) (λ e. omega arith)
+      go (no p) (no q) (yes r) = apart (λ g x b c. omega arith) (λ e. r)
+      go (no p) (no q) (no r) =
+          let g = (i - 4) / 4 in
+          let j = (i - 4) % 4 in
+          let e : recordAt a + i ≡ lastAt place ((i - 4) / 4) + (i - 4) % 4 = omega arith in
+          rw (le-ltb a place (omega arith), eq-eqb a place (omega arith))
+          (ap (λ (w : ℕ). getD s2 w 0) e
+          ∙ at-gap g (lastAt place g + j) (omega arith) (λ m x y. (λ b c. omega arith, λ d b c. omega arith, λ d b c. omega arith))
+          ∙ gap-last n place g (parts g) (rooms g) (before g) (omega (arith, length-before g)) (omega arith) (omega arith) place-few j (omega arith)
+          ∙ sym (new-set t id flags parts i (omega arith)))
 
-  above-5 : (w : ℕ) → lineFollowAt 0 ≤ w → getD s5 w 0 ≡ getD t w 0
-  above-5 w h = takers-high n (parts .takes) more s4 w (omega arith) ∙ above-4 w (omega arith)
+  -- ---- the follow sets
 
-  put-word : (w : ℕ) → recordAt 0 ≤ w → w < recordAt maxRules → getD s1 w 0 ≡ addedWord t id flags parts w
-  put-word w h l =
-      let a = (w - recordAt 0) / stride in
-      let i = (w - recordAt 0) % stride in
+  follow-in : (g p i : ℕ) → g < followGaps → p < maxPositions → i < 4 → getD s2 (followAt g p + i) 0 ≡ followWords t id flags parts g p i
+  follow-in g p i h m l =
+      at-gap g (followAt g p + i) (omega arith) (λ j x y. (λ a b. omega arith, λ c a b. omega (arith, place-few), λ c a b. omega arith))
+      ∙ gap-follow n place g (parts g) (rooms g) (before g) h (followAt g p + i)
+      ∙ follow-made t id flags parts even room g h (withLast n place g (parts g) (rooms g) (before g)) (omega (arith, length-last n place g (parts g) (rooms g) (before g), length-before g))
+      (λ w x y.
+      last-out n place g (parts g) (rooms g) (before g) w (λ c a b. omega (arith, place-few)) ∙ first-out n place g (parts g) (rooms g) (before g) w (λ a b. omega arith)
+      ∙ was g w (λ j z. (λ a b. omega arith, λ c a b. omega (arith, place-few), λ c a b. omega arith)) (λ a b. omega arith)) p i m l
+
+  -- ---- a word by its region
+
+  first-word : (w : ℕ) → firstAt 0 ≤ w → w < firstAt firstGaps → getD s4 w 0 ≡ addedWord t id flags parts w
+  first-word w h l =
+      let e : w ≡ firstAt ((w - firstAt 0) / 4) + (w - firstAt 0) % 4 = omega arith in
+      after-gaps w (omega arith) (λ a b. omega arith) ∙ ap (λ (j : ℕ). getD s2 j 0) e
+      ∙ first-in ((w - firstAt 0) / 4) ((w - firstAt 0) % 4) (omega arith) (omega arith) ∙ sym (word-first t id flags parts w h l)
+
+  record-word : (w : ℕ) → recordAt 0 ≤ w → w < recordAt maxRules → getD s4 w 0 ≡ addedWord t id flags parts w
+  record-word w h l =
       let e : w ≡ recordAt ((w - recordAt 0) / stride) + (w - recordAt 0) % stride = omega arith in
-      ap (λ (j : ℕ). getD s1 j 0) e ∙ put-record t id flags parts long few a i (omega arith) (omega arith) ∙ sym (word-record t id flags parts w h l)
+      after-gaps w (omega arith) (λ a b. omega arith) ∙ ap (λ (j : ℕ). getD s2 j 0) e
+      ∙ record-in ((w - recordAt 0) / stride) ((w - recordAt 0) % stride) (omega arith) (omega arith) ∙ sym (word-record t id flags parts w h l)
 
-  follow-word : (w : ℕ) → followAt 0 ≤ w → w < followAt maxPositions → getD s4 w 0 ≡ addedWord t id flags parts w
+  follow-word : (w : ℕ) → followAt 0 0 ≤ w → w < followAt followGaps 0 → getD s4 w 0 ≡ addedWord t id flags parts w
   follow-word w h l =
-      let p = (w - followAt 0) / 4 in
-      let i = (w - followAt 0) % 4 in
-      let e : w ≡ followAt ((w - followAt 0) / 4) + (w - followAt 0) % 4 = omega arith in
-      ap (λ (j : ℕ). getD s4 j 0) e
-      ∙ follow-made t id flags parts room (followAt 0) (parts .follow) s3 (omega (arith, length-3)) (λ v x y. above-3 v (omega arith)) p i (omega arith) (omega arith)
+      let e : w ≡ followAt ((w - followAt 0 0) / 1024) ((w - followAt 0 0) % 1024 / 4) + (w - followAt 0 0) % 4 = omega arith in
+      after-gaps w (omega arith) (λ a b. omega arith) ∙ ap (λ (j : ℕ). getD s2 j 0) e
+      ∙ follow-in ((w - followAt 0 0) / 1024) ((w - followAt 0 0) % 1024 / 4) ((w - followAt 0 0) % 4) (omega arith) (omega arith) (omega arith)
       ∙ sym (word-follow t id flags parts w h l)
 
-  line-follow-word : (w : ℕ) → lineFollowAt 0 ≤ w → w < lineFollowAt maxPositions → getD s6 w 0 ≡ addedWord t id flags parts w
-  line-follow-word w h l =
-      let p = (w - lineFollowAt 0) / 4 in
-      let i = (w - lineFollowAt 0) % 4 in
-      let e : w ≡ lineFollowAt ((w - lineFollowAt 0) / 4) + (w - lineFollowAt 0) % 4 = omega arith in
-      ap (λ (j : ℕ). getD s6 j 0) e
-      ∙ follow-made t id flags parts room (lineFollowAt 0) (parts .«line_follow») s5 (omega (arith, length-5)) (λ v x y. above-5 v x) p i (omega arith) (omega arith)
-      ∙ sym (word-line-follow t id flags parts w h l)
+  -- a word that no gap and no record has
+  kept-word : (w : ℕ) → Out (firstAt 0) (firstAt firstGaps) w → Out (recordAt 0) (recordAt maxRules) w → Out (followAt 0 0) (followAt followGaps 0) w → getD s2 w 0 ≡ getD t w 0
+  kept-word w f r g =
+      was firstGaps w
+      (λ h x. (λ a b. f (omega arith) (omega arith), λ c a b. r (omega arith) (omega (arith, place-few)), λ c a b. g (omega arith) (omega arith))) r
 
-  takers-word : (w : ℕ) → takersAt 0 ≤ w → w < takersAt bytes → getD s5 w 0 ≡ addedWord t id flags parts w
+  takers-word : (w : ℕ) → takersAt 0 ≤ w → w < takersAt bytes → getD s4 w 0 ≡ addedWord t id flags parts w
   unfolding takersWords newTaker oldRow newTakers
   takers-word w h l =
-      ap (λ (j : ℕ). getD s5 j 0) e
-      ∙ takers-in n (parts .takes) more s4 (omega (arith, length-4)) x i (omega arith) (omega arith)
+      counts-high (rulesOf t + 1) (n + more) s3 w (omega arith) ∙ ap (λ (j : ℕ). getD s3 j 0) e
+      ∙ takers-in n (parts 0 .takes) more s2 (omega (arith, length-before firstGaps)) x i (omega arith) (omega arith)
       ∙ ap (λ (r : List ℕ). getD r i 0)
-      (merged-same s4 t (takersAt x) n (newTakers (parts .takes) n more x) (λ j k. above-4 (takersAt x + j) (omega arith)) ∙ merged-new t (takersAt x) n (newTaker t id flags parts x))
+      (merged-same s2 t (takersAt x) n (newTakers (parts 0 .takes) n more x) (λ j k. kept-word (takersAt x + j) (λ a b. omega arith) (λ a b. omega arith) (λ a b. omega arith))
+      ∙ merged-new t (takersAt x) n (newTaker t id flags parts x))
       ∙ sym (word-takers t id flags parts w h l)
     where
       x : ℕ
@@ -471,122 +391,63 @@ module _ (t : List ℕ) (id flags : ℕ) (parts : Parts) (long : tableWords ≤ 
       e : w ≡ takersAt x + i
       e = omega arith
 
-  header-word : (w : ℕ) → w < 3 → getD s7 w 0 ≡ addedWord t id flags parts w
+  header-word : (w : ℕ) → w < 3 → getD s4 w 0 ≡ addedWord t id flags parts w
   unfolding addedWord
   header-word zero h =
-      counts-low (rulesOf t + 1) (n + more) s6 ∙ follow-low (lineFollowAt 0) n (parts .«line_follow») more s5 room 0 (omega arith) ∙ takers-low n (parts .takes) more s4 0 (omega arith)
-      ∙ follow-low (followAt 0) n (parts .follow) more s3 room 0 (omega arith) ∙ starts-low lineFirstAt n (parts .«line_first») (parts .«line_start») s2 0 (omega arith)
-      ∙ starts-low firstAt n (parts .first) (parts .start) s1 0 (omega arith) ∙ put-before t id flags parts long few 0 (omega arith)
-  header-word (suc zero) h = counts-rules (rulesOf t + 1) (n + more) s6 (omega (arith, length-6))
-  header-word (suc (suc zero)) h = counts-positions (rulesOf t + 1) (n + more) s6 (omega (arith, length-6))
+      counts-low (rulesOf t + 1) (n + more) s3 ∙ takers-out n (parts 0 .takes) more s2 0 (λ a b. omega arith)
+      ∙ kept-word 0 (λ a b. omega arith) (λ a b. omega arith) (λ a b. omega arith)
+  header-word (suc zero) h = counts-rules (rulesOf t + 1) (n + more) s3 (omega (arith, length-3))
+  header-word (suc (suc zero)) h = counts-positions (rulesOf t + 1) (n + more) s3 (omega (arith, length-3))
   header-word (suc (suc (suc w))) h = absurd (omega arith)
 
-  -- a row of the header, from words that are as they were there
-  starts-row : (s : List ℕ) (at : ℕ) (new : List ℕ) → ((w : ℕ) → at ≤ w → w < at + 4 → getD s w 0 ≡ getD t w 0) → mergedRow s at n new ≡ joinedRow t at new
-  unfolding joinedRow oldRow mergedRow
-  starts-row s at new h = merged-same s t at n new (λ j k. h (at + j) (omega arith) (omega arith))
-
-  first-word : (w : ℕ) → firstAt ≤ w → w < firstAt + 4 → getD s7 w 0 ≡ addedWord t id flags parts w
-  first-word w h l =
-      under-3 w (omega arith) (omega arith) ∙ starts-low lineFirstAt n (parts .«line_first») (parts .«line_start») s2 w (omega arith)
-      ∙ starts-first firstAt n (parts .first) (parts .start) s1 (omega (arith, length-1)) w h l
-      ∙ ap (λ (r : List ℕ). getD r (w - firstAt) 0) (starts-row s1 firstAt (parts .first) (λ v x y. put-before t id flags parts long few v (omega arith)))
-      ∙ sym (word-first t id flags parts w h l)
-
-  start-word : (w : ℕ) → firstAtStartAt ≤ w → w < firstAtStartAt + 4 → getD s7 w 0 ≡ addedWord t id flags parts w
-  start-word w h l =
-      under-3 w (omega arith) (omega arith) ∙ starts-low lineFirstAt n (parts .«line_first») (parts .«line_start») s2 w (omega arith)
-      ∙ starts-second firstAt n (parts .first) (parts .start) s1 (omega (arith, length-1)) w h l
-      ∙ ap (λ (r : List ℕ). getD r (w - firstAtStartAt) 0) (starts-row s1 firstAtStartAt (parts .start) (λ v x y. put-before t id flags parts long few v (omega arith)))
-      ∙ sym (word-start t id flags parts w h l)
-
-  -- the words of the header from there on, before the line's sets come
-  header-2 : (w : ℕ) → firstAt + 8 ≤ w → w < recordAt 0 → getD s2 w 0 ≡ getD t w 0
-  header-2 w h l = starts-high firstAt n (parts .first) (parts .start) s1 w h ∙ put-before t id flags parts long few w l
-
-  line-first-word : (w : ℕ) → lineFirstAt ≤ w → w < lineFirstAt + 4 → getD s7 w 0 ≡ addedWord t id flags parts w
-  line-first-word w h l =
-      under-3 w (omega arith) (omega arith) ∙ starts-first lineFirstAt n (parts .«line_first») (parts .«line_start») s2 (omega (arith, length-2)) w h l
-      ∙ ap (λ (r : List ℕ). getD r (w - lineFirstAt) 0) (starts-row s2 lineFirstAt (parts .«line_first») (λ v x y. header-2 v (omega arith) (omega arith)))
-      ∙ sym (word-line-first t id flags parts w h l)
-
-  line-start-word : (w : ℕ) → lineFirstAtStartAt ≤ w → w < lineFirstAtStartAt + 4 → getD s7 w 0 ≡ addedWord t id flags parts w
-  line-start-word w h l =
-      under-3 w (omega arith) (omega arith) ∙ starts-second lineFirstAt n (parts .«line_first») (parts .«line_start») s2 (omega (arith, length-2)) w h l
-      ∙ ap (λ (r : List ℕ). getD r (w - lineFirstAtStartAt) 0) (starts-row s2 lineFirstAtStartAt (parts .«line_start») (λ v x y. header-2 v (omega arith) (omega arith)))
-      ∙ sym (word-line-start t id flags parts w h l)
-
   -- a word of no region stays
-  plain-low : (w : ℕ) → 3 ≤ w → w < firstAt → getD t w 0 ≡ addedWord t id flags parts w
-  plain-low w h l =
-      sym (word-other t id flags parts w (ne-eqb w 1 (λ z. omega arith)) (ne-eqb w 2 (λ z. omega arith))
-      (from-to-below firstAt (firstAt + 4) w (omega arith)) (from-to-below firstAtStartAt (firstAtStartAt + 4) w (omega arith))
-      (from-to-below lineFirstAt (lineFirstAt + 4) w (omega arith)) (from-to-below lineFirstAtStartAt (lineFirstAtStartAt + 4) w (omega arith))
-      (from-to-below (recordAt 0) (recordAt maxRules) w (omega arith)) (from-to-below (followAt 0) (followAt maxPositions) w (omega arith))
-      (from-to-below (takersAt 0) (takersAt bytes) w (omega arith)) (from-to-below (lineFollowAt 0) (lineFollowAt maxPositions) w (omega arith)))
+  no-region : (w : ℕ) → Out 0 3 w → Out (firstAt 0) (firstAt firstGaps) w → Out (recordAt 0) (recordAt maxRules) w → Out (takersAt 0) (takersAt bytes) w
+      → Out (followAt 0 0) (followAt followGaps 0) w → getD t w 0 ≡ addedWord t id flags parts w
+  no-region w h f r k g =
+      sym (word-other t id flags parts w (ne-eqb w 1 (λ z. h (omega arith) (omega arith))) (ne-eqb w 2 (λ z. h (omega arith) (omega arith)))
+      (from-to-out (firstAt 0) (firstAt firstGaps) w f) (from-to-out (recordAt 0) (recordAt maxRules) w r)
+      (from-to-out (takersAt 0) (takersAt bytes) w k) (from-to-out (followAt 0 0) (followAt followGaps 0) w g))
 
-  plain-mid : (w : ℕ) → lineFirstAtStartAt + 4 ≤ w → w < recordAt 0 → getD t w 0 ≡ addedWord t id flags parts w
-  plain-mid w h l =
-      sym (word-other t id flags parts w (ne-eqb w 1 (λ z. omega arith)) (ne-eqb w 2 (λ z. omega arith))
-      (from-to-above firstAt (firstAt + 4) w (omega arith)) (from-to-above firstAtStartAt (firstAtStartAt + 4) w (omega arith))
-      (from-to-above lineFirstAt (lineFirstAt + 4) w (omega arith)) (from-to-above lineFirstAtStartAt (lineFirstAtStartAt + 4) w (omega arith))
-      (from-to-below (recordAt 0) (recordAt maxRules) w (omega arith)) (from-to-below (followAt 0) (followAt maxPositions) w (omega arith))
-      (from-to-below (takersAt 0) (takersAt bytes) w (omega arith)) (from-to-below (lineFollowAt 0) (lineFollowAt maxPositions) w (omega arith)))
+  plain-word : (w : ℕ) → Out 0 3 w → Out (firstAt 0) (firstAt firstGaps) w → Out (recordAt 0) (recordAt maxRules) w → Out (takersAt 0) (takersAt bytes) w
+      → Out (followAt 0 0) (followAt followGaps 0) w → getD s4 w 0 ≡ addedWord t id flags parts w
+  plain-word w h f r k g = side 0 3 w (λ a. absurd (omega arith)) (λ a b. absurd (h a b)) (λ a. after-gaps w a k) ∙ kept-word w f r g ∙ no-region w h f r k g
 
-  plain-past : (w : ℕ) → tableWords ≤ w → getD t w 0 ≡ addedWord t id flags parts w
-  plain-past w h =
-      sym (word-other t id flags parts w (ne-eqb w 1 (λ z. omega arith)) (ne-eqb w 2 (λ z. omega arith))
-      (from-to-above firstAt (firstAt + 4) w (omega arith)) (from-to-above firstAtStartAt (firstAtStartAt + 4) w (omega arith))
-      (from-to-above lineFirstAt (lineFirstAt + 4) w (omega arith)) (from-to-above lineFirstAtStartAt (lineFirstAtStartAt + 4) w (omega arith))
-      (from-to-above (recordAt 0) (recordAt maxRules) w (omega arith)) (from-to-above (followAt 0) (followAt maxPositions) w (omega arith))
-      (from-to-above (takersAt 0) (takersAt bytes) w (omega arith)) (from-to-above (lineFollowAt 0) (lineFollowAt maxPositions) w (omega arith)))
+  word-is : (w : ℕ) → getD s4 w 0 ≡ addedWord t id flags parts w
+  word-is w =
+      split 0 3 w (λ a b. header-word w b)
+      (λ h. split (firstAt 0) (firstAt firstGaps) w (first-word w)
+      (λ f. split (recordAt 0) (recordAt maxRules) w (record-word w)
+      (λ r. split (takersAt 0) (takersAt bytes) w (takers-word w)
+      (λ k. split (followAt 0 0) (followAt followGaps 0) w (follow-word w)
+      (plain-word w h f r k)))))
 
-  -- the header and the words behind it ..
-  word-before : (w : ℕ) → w < recordAt 0 → getD s7 w 0 ≡ addedWord t id flags parts w
-  word-before w under = go (decLt w 3) (decLt w firstAt) (decLt w (firstAt + 4)) (decLt w (firstAtStartAt + 4)) (decLt w (lineFirstAt + 4)) (decLt w (lineFirstAtStartAt + 4))
-    where
-      go : Dec (w < 3) → Dec (w < firstAt) → Dec (w < firstAt + 4) → Dec (w < firstAtStartAt + 4) → Dec (w < lineFirstAt + 4) → Dec (w < lineFirstAtStartAt + 4)
-          → getD s7 w 0 ≡ addedWord t id flags parts w
-      go (yes a) _ _ _ _ _ = header-word w a
-      go (no a) (yes b) _ _ _ _ =
-          under-3 w (omega arith) (omega arith) ∙ starts-low lineFirstAt n (parts .«line_first») (parts .«line_start») s2 w (omega arith)
-          ∙ starts-low firstAt n (parts .first) (parts .start) s1 w b ∙ put-before t id flags parts long few w under ∙ plain-low w (omega arith) b
-      go (no a) (no b) (yes c) _ _ _ = first-word w (omega arith) c
-      go (no a) (no b) (no c) (yes d) _ _ = start-word w (omega arith) d
-      go (no a) (no b) (no c) (no d) (yes e) _ = line-first-word w (omega arith) e
-      go (no a) (no b) (no c) (no d) (no e) (yes f) = line-start-word w (omega arith) f
-      go (no a) (no b) (no c) (no d) (no e) (no f) =
-          under-3 w (omega arith) (omega arith) ∙ starts-high lineFirstAt n (parts .«line_first») (parts .«line_start») s2 w (omega arith)
-          ∙ header-2 w (omega arith) under ∙ plain-mid w (omega arith) under
-
-  -- .. and the regions from the records on
-  word-is : (w : ℕ) → getD s7 w 0 ≡ addedWord t id flags parts w
-  word-is w = go (decLt w (recordAt 0)) (decLt w (recordAt maxRules)) (decLt w (takersAt 0)) (decLt w (lineFollowAt 0)) (decLt w (lineFollowAt maxPositions))
-    where
-      go : Dec (w < recordAt 0) → Dec (w < recordAt maxRules) → Dec (w < takersAt 0) → Dec (w < lineFollowAt 0) → Dec (w < lineFollowAt maxPositions)
-          → getD s7 w 0 ≡ addedWord t id flags parts w
-      go (yes a) _ _ _ _ = word-before w a
-      go (no a) (yes b) _ _ _ =
-          under-3 w (omega arith) (omega arith) ∙ starts-high lineFirstAt n (parts .«line_first») (parts .«line_start») s2 w (omega arith)
-          ∙ starts-high firstAt n (parts .first) (parts .start) s1 w (omega arith) ∙ put-word w (omega arith) b
-      go (no a) (no b) (yes c) _ _ = under-4 w (omega arith) c ∙ follow-word w (omega arith) c
-      go (no a) (no b) (no c) (yes d) _ = under-5 w (omega arith) d ∙ takers-word w (omega arith) d
-      go (no a) (no b) (no c) (no d) (yes e) = counts-high (rulesOf t + 1) (n + more) s6 w (omega arith) ∙ line-follow-word w (omega arith) e
-      go (no a) (no b) (no c) (no d) (no e) =
-          counts-high (rulesOf t + 1) (n + more) s6 w (omega arith) ∙ follow-high (lineFollowAt 0) n (parts .«line_follow») more s5 room w (omega arith)
-          ∙ above-5 w (omega arith) ∙ plain-past w (omega arith)
-
-  made : s7 ≡ added t id flags parts
+  made : s4 ≡ added t id flags parts
   made =
-      ext-getD 0 s7 (added t id flags parts) (length-counts (rulesOf t + 1) (n + more) s6 ∙ length-6 ∙ sym (length-added t id flags parts long)) (λ w h. go w (decLt w tableWords))
+      ext-getD 0 s4 (added t id flags parts) (length-counts (rulesOf t + 1) (n + more) s3 ∙ length-3 ∙ sym (length-added t id flags parts long)) (λ w h. go w (decLt w tableWords))
     where
-      go : (w : ℕ) → Dec (w < tableWords) → getD s7 w 0 ≡ getD (added t id flags parts) w 0
+      go : (w : ℕ) → Dec (w < tableWords) → getD s4 w 0 ≡ getD (added t id flags parts) w 0
       go w (yes h) = word-is w ∙ sym (added-word t id flags parts long w h)
-      go w (no h) = word-is w ∙ sym (plain-past w (omega arith)) ∙ sym (added-beyond t id flags parts long w (omega arith))
+      go w (no h) =
+          word-is w ∙ sym (no-region w (λ a b. omega arith) (λ a b. omega arith) (λ a b. omega arith) (λ a b. omega arith) (λ a b. omega arith))
+          ∙ sym (added-beyond t id flags parts long w (omega arith))
 
-  -- what `add_rule` leaves, call by call
-  pub added-is : (r a b c : List ℕ) → r ≡ theRecord t id flags parts → a ≡ recordPut (rulesOf t) n r t → b ≡ partsPut n parts a → c ≡ countsPut (rulesOf t + 1) (n + more) b
-      → c ≡ added t id flags parts
-  unfolding partsPut
-  added-is r a b c x y z w =
-      w ∙ ap (countsPut (rulesOf t + 1) (n + more)) (z ∙ ap (partsPut n parts) (y ∙ ap (λ (l : List ℕ). recordPut (rulesOf t) n l t) x)) ∙ made
+-- what `add_rule` leaves, call by call
+module _ (t : List ℕ) (id flags : ℕ) (x : Syntax) (long : tableWords ≤ length t) (few : rulesOf t < maxRules) (room : positionsOf t + positions (write x) ≤ maxPositions) where
+  abbrev parts : ℕ → Parts
+  parts = partsAt x (positionsOf t)
+
+  sizes : (g : ℕ) → parts g .positions ≡ positions (write x)
+  sizes g = sized-parts x (positionsOf t) (holdingAt g) room
+
+  pub added-is : (p : Parts) → p ≡ partsAt x (positionsOf t) 0 → (r a b c d : List ℕ) (k : ℕ) → r ≡ recordOf id flags (positionsOf t) (positionsOf t + p .positions)
+      → k ≡ count (rulesOf t) (smaller t (getD r 0 0)) → a ≡ recordPut (rulesOf t) (positionsOf t) r t → b ≡ gapsPut firstGaps (positionsOf t) k (partsAt x (positionsOf t)) a
+      → c ≡ takersPut (positionsOf t) (p .takes) (p .positions) b → d ≡ countsPut (rulesOf t + 1) (positionsOf t + p .positions) c
+      → d ≡ added t id flags (partsAt x (positionsOf t))
+  unfolding placeOf
+  added-is p is r a b c d k e place f g h i =
+      let new : r ≡ theRecord t id flags parts = e ∙ ap (λ (q : Parts). recordOf id flags (positionsOf t) (positionsOf t + q .positions)) is in
+      let here : k ≡ placeOf t id = place ∙ ap (λ (l : List ℕ). count (rulesOf t) (smaller t (getD l 0 0))) new in
+      i ∙ ap₂ (λ (q : Parts) (l : List ℕ). countsPut (rulesOf t + 1) (positionsOf t + q .positions) l) is
+      (h ∙ ap₂ (λ (q : Parts) (l : List ℕ). takersPut (positionsOf t) (q .takes) (q .positions) l) is
+      (g ∙ ap₂ (λ (j : ℕ) (l : List ℕ). gapsPut firstGaps (positionsOf t) j parts l) here (f ∙ ap (λ (l : List ℕ). recordPut (rulesOf t) (positionsOf t) l t) new)))
+      ∙ made t id flags parts (λ g. sizes g ∙ sym (sizes 0)) long few (omega (arith, sizes 0))

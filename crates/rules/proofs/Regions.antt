@@ -1,4 +1,5 @@
--- The table with one rule more, read region by region: the header, the sets of first positions, the records, the follow sets, the takers of each byte.
+-- The table with one rule more, read region by region: the header, the sets of first positions at each gap, the records, the takers of each byte, the follow sets
+-- at each gap.
 -- Each word lies in one region, so the tests of the others fail.
 use mathlib.Core.Path.{_≡_, refl, sym, ap, ap₂, _∙_}
 use mathlib.Core.Bool.{false}
@@ -12,10 +13,11 @@ use lib.Dec.{eqb}
 use lib.ListN.{length, getD, drop, length-append, length-drop, List·getD-append}
 use lib.Seq.{getD-append-add, getD-drop, getD-at}
 use borrow.Author.Tests.{ne-eqb}
-use Rattle.table.specs.Layout.{tableWords, maxRules, maxPositions, bytes, rulesOf, positionsOf, firstAt, firstAtStartAt, lineFirstAt, lineFirstAtStartAt, stride, recordAt, followAt, takersAt, lineFollowAt, from-to}
+use Rattle.table.specs.Layout.{tableWords, maxRules, maxPositions, bytes, rulesOf, positionsOf, firstAt, stride, recordAt, followAt, takersAt, from-to}
+use Rattle.table.specs.Gaps.{firstGaps, followGaps}
 use Rattle.table.proofs.Over.{from-to-in, from-to-above}
 use Rattle.automaton.specs.declared.Parts.{Parts}
-use Rattle.rules.specs.Words.{wordsOf, joinedRow, recordWords, followWords, takersWords, addedWord, added}
+use Rattle.rules.specs.Words.{wordsOf, recordWords, firstWords, followWords, takersWords, addedWord, added}
 
 -- ---- words by their index
 
@@ -37,53 +39,34 @@ getD-wordsOf (suc n) f w h = go (getD-wordsOf n f w) (decLt w n)
 
 -- ---- the table with one rule more
 
-module _ (t : List ℕ) (id flags : ℕ) (parts : Parts) where
+module _ (t : List ℕ) (id flags : ℕ) (parts : ℕ → Parts) where
   -- ---- a word by the region it lies in
 
   pub word-other : (w : ℕ) → eqb w 1 ≡ false → eqb w 2 ≡ false
-      → from-to firstAt (firstAt + 4) w ≡ false
-      → from-to firstAtStartAt (firstAtStartAt + 4) w ≡ false
-      → from-to lineFirstAt (lineFirstAt + 4) w ≡ false
-      → from-to lineFirstAtStartAt (lineFirstAtStartAt + 4) w ≡ false
+      → from-to (firstAt 0) (firstAt firstGaps) w ≡ false
       → from-to (recordAt 0) (recordAt maxRules) w ≡ false
-      → from-to (followAt 0) (followAt maxPositions) w ≡ false
       → from-to (takersAt 0) (takersAt bytes) w ≡ false
-      → from-to (lineFollowAt 0) (lineFollowAt maxPositions) w ≡ false
+      → from-to (followAt 0 0) (followAt followGaps 0) w ≡ false
       → addedWord t id flags parts w ≡ getD t w 0
   unfolding addedWord
-  word-other w a b c d e f g h i j = rw (a, b, c, d, e, f, g, h, i, j)
+  word-other w a b c d e f = rw (a, b, c, d, e, f)
 
-  pub word-first : (w : ℕ) → firstAt ≤ w → w < firstAt + 4 → addedWord t id flags parts w ≡ getD (joinedRow t firstAt (parts .first)) (w - firstAt) 0
+  pub word-first : (w : ℕ) → firstAt 0 ≤ w → w < firstAt firstGaps → addedWord t id flags parts w ≡ firstWords t id flags parts ((w - firstAt 0) / 4) ((w - firstAt 0) % 4)
   unfolding addedWord
-  word-first w h l = rw (ne-eqb w 1 (λ z. omega arith), ne-eqb w 2 (λ z. omega arith), from-to-in firstAt (firstAt + 4) w h l)
-
-  pub word-start : (w : ℕ) → firstAtStartAt ≤ w → w < firstAtStartAt + 4 → addedWord t id flags parts w ≡ getD (joinedRow t firstAtStartAt (parts .start)) (w - firstAtStartAt) 0
-  unfolding addedWord
-  word-start w h l = rw (ne-eqb w 1 (λ z. omega arith), ne-eqb w 2 (λ z. omega arith), from-to-above firstAt (firstAt + 4) w (omega arith), from-to-in firstAtStartAt (firstAtStartAt + 4) w h l)
-
-  pub word-line-first : (w : ℕ) → lineFirstAt ≤ w → w < lineFirstAt + 4 → addedWord t id flags parts w ≡ getD (joinedRow t lineFirstAt (parts .«line_first»)) (w - lineFirstAt) 0
-  unfolding addedWord
-  word-line-first w h l = rw (ne-eqb w 1 (λ z. omega arith), ne-eqb w 2 (λ z. omega arith), from-to-above firstAt (firstAt + 4) w (omega arith), from-to-above firstAtStartAt (firstAtStartAt + 4) w (omega arith), from-to-in lineFirstAt (lineFirstAt + 4) w h l)
-
-  pub word-line-start : (w : ℕ) → lineFirstAtStartAt ≤ w → w < lineFirstAtStartAt + 4 → addedWord t id flags parts w ≡ getD (joinedRow t lineFirstAtStartAt (parts .«line_start»)) (w - lineFirstAtStartAt) 0
-  unfolding addedWord
-  word-line-start w h l = rw (ne-eqb w 1 (λ z. omega arith), ne-eqb w 2 (λ z. omega arith), from-to-above firstAt (firstAt + 4) w (omega arith), from-to-above firstAtStartAt (firstAtStartAt + 4) w (omega arith), from-to-above lineFirstAt (lineFirstAt + 4) w (omega arith), from-to-in lineFirstAtStartAt (lineFirstAtStartAt + 4) w h l)
+  word-first w h l = rw (ne-eqb w 1 (λ z. omega arith), ne-eqb w 2 (λ z. omega arith), from-to-in (firstAt 0) (firstAt firstGaps) w h l)
 
   pub word-record : (w : ℕ) → recordAt 0 ≤ w → w < recordAt maxRules → addedWord t id flags parts w ≡ recordWords t id flags parts ((w - recordAt 0) / stride) ((w - recordAt 0) % stride)
   unfolding addedWord
-  word-record w h l = rw (ne-eqb w 1 (λ z. omega arith), ne-eqb w 2 (λ z. omega arith), from-to-above firstAt (firstAt + 4) w (omega arith), from-to-above firstAtStartAt (firstAtStartAt + 4) w (omega arith), from-to-above lineFirstAt (lineFirstAt + 4) w (omega arith), from-to-above lineFirstAtStartAt (lineFirstAtStartAt + 4) w (omega arith), from-to-in (recordAt 0) (recordAt maxRules) w h l)
-
-  pub word-follow : (w : ℕ) → followAt 0 ≤ w → w < followAt maxPositions → addedWord t id flags parts w ≡ followWords t id flags parts followAt (parts .follow) ((w - followAt 0) / 4) ((w - followAt 0) % 4)
-  unfolding addedWord
-  word-follow w h l = rw (ne-eqb w 1 (λ z. omega arith), ne-eqb w 2 (λ z. omega arith), from-to-above firstAt (firstAt + 4) w (omega arith), from-to-above firstAtStartAt (firstAtStartAt + 4) w (omega arith), from-to-above lineFirstAt (lineFirstAt + 4) w (omega arith), from-to-above lineFirstAtStartAt (lineFirstAtStartAt + 4) w (omega arith), from-to-above (recordAt 0) (recordAt maxRules) w (omega arith), from-to-in (followAt 0) (followAt maxPositions) w h l)
+  word-record w h l = rw (ne-eqb w 1 (λ z. omega arith), ne-eqb w 2 (λ z. omega arith), from-to-above (firstAt 0) (firstAt firstGaps) w (omega arith), from-to-in (recordAt 0) (recordAt maxRules) w h l)
 
   pub word-takers : (w : ℕ) → takersAt 0 ≤ w → w < takersAt bytes → addedWord t id flags parts w ≡ takersWords t id flags parts ((w - takersAt 0) / 4) ((w - takersAt 0) % 4)
   unfolding addedWord
-  word-takers w h l = rw (ne-eqb w 1 (λ z. omega arith), ne-eqb w 2 (λ z. omega arith), from-to-above firstAt (firstAt + 4) w (omega arith), from-to-above firstAtStartAt (firstAtStartAt + 4) w (omega arith), from-to-above lineFirstAt (lineFirstAt + 4) w (omega arith), from-to-above lineFirstAtStartAt (lineFirstAtStartAt + 4) w (omega arith), from-to-above (recordAt 0) (recordAt maxRules) w (omega arith), from-to-above (followAt 0) (followAt maxPositions) w (omega arith), from-to-in (takersAt 0) (takersAt bytes) w h l)
+  word-takers w h l = rw (ne-eqb w 1 (λ z. omega arith), ne-eqb w 2 (λ z. omega arith), from-to-above (firstAt 0) (firstAt firstGaps) w (omega arith), from-to-above (recordAt 0) (recordAt maxRules) w (omega arith), from-to-in (takersAt 0) (takersAt bytes) w h l)
 
-  pub word-line-follow : (w : ℕ) → lineFollowAt 0 ≤ w → w < lineFollowAt maxPositions → addedWord t id flags parts w ≡ followWords t id flags parts lineFollowAt (parts .«line_follow») ((w - lineFollowAt 0) / 4) ((w - lineFollowAt 0) % 4)
+  pub word-follow : (w : ℕ) → followAt 0 0 ≤ w → w < followAt followGaps 0
+      → addedWord t id flags parts w ≡ followWords t id flags parts ((w - followAt 0 0) / 1024) ((w - followAt 0 0) % 1024 / 4) ((w - followAt 0 0) % 4)
   unfolding addedWord
-  word-line-follow w h l = rw (ne-eqb w 1 (λ z. omega arith), ne-eqb w 2 (λ z. omega arith), from-to-above firstAt (firstAt + 4) w (omega arith), from-to-above firstAtStartAt (firstAtStartAt + 4) w (omega arith), from-to-above lineFirstAt (lineFirstAt + 4) w (omega arith), from-to-above lineFirstAtStartAt (lineFirstAtStartAt + 4) w (omega arith), from-to-above (recordAt 0) (recordAt maxRules) w (omega arith), from-to-above (followAt 0) (followAt maxPositions) w (omega arith), from-to-above (takersAt 0) (takersAt bytes) w (omega arith), from-to-in (lineFollowAt 0) (lineFollowAt maxPositions) w h l)
+  word-follow w h l = rw (ne-eqb w 1 (λ z. omega arith), ne-eqb w 2 (λ z. omega arith), from-to-above (firstAt 0) (firstAt firstGaps) w (omega arith), from-to-above (recordAt 0) (recordAt maxRules) w (omega arith), from-to-above (takersAt 0) (takersAt bytes) w (omega arith), from-to-in (followAt 0 0) (followAt followGaps 0) w h l)
 
   module _ (long : tableWords ≤ length t) where
     -- ---- the list of words
@@ -116,39 +99,21 @@ module _ (t : List ℕ) (id flags : ℕ) (parts : Parts) where
     -- ---- the regions
 
     pub added-format : getD (added t id flags parts) 0 0 ≡ getD t 0 0
-    added-format = added-word 0 (omega arith) ∙ word-other 0 refl refl refl refl refl refl refl refl refl refl
+    added-format = added-word 0 (omega arith) ∙ word-other 0 refl refl refl refl refl refl
 
     pub added-rules : rulesOf (added t id flags parts) ≡ rulesOf t + 1
     unfolding addedWord
     added-rules = added-word 1 (omega arith)
 
-    pub added-positions : positionsOf (added t id flags parts) ≡ positionsOf t + parts .positions
+    pub added-positions : positionsOf (added t id flags parts) ≡ positionsOf t + parts 0 .positions
     unfolding addedWord
     added-positions = added-word 2 (omega arith)
 
-    pub added-first : (i : ℕ) → i < 4 → getD (added t id flags parts) (firstAt + i) 0 ≡ getD (joinedRow t firstAt (parts .first)) i 0
-    added-first i h =
-        let e : firstAt + i - firstAt ≡ i = omega arith in
-        added-word (firstAt + i) (omega arith) ∙ word-first (firstAt + i) (omega arith) (omega arith) ∙ ap (λ (j : ℕ). getD (joinedRow t firstAt (parts .first)) j 0) e
-
-    pub added-start : (i : ℕ) → i < 4 → getD (added t id flags parts) (firstAtStartAt + i) 0 ≡ getD (joinedRow t firstAtStartAt (parts .start)) i 0
-    added-start i h =
-        let e : firstAtStartAt + i - firstAtStartAt ≡ i = omega arith in
-        added-word (firstAtStartAt + i) (omega arith) ∙ word-start (firstAtStartAt + i) (omega arith) (omega arith)
-        ∙ ap (λ (j : ℕ). getD (joinedRow t firstAtStartAt (parts .start)) j 0) e
-
-    pub added-line-first : (i : ℕ) → i < 4 → getD (added t id flags parts) (lineFirstAt + i) 0 ≡ getD (joinedRow t lineFirstAt (parts .«line_first»)) i 0
-    added-line-first i h =
-        let e : lineFirstAt + i - lineFirstAt ≡ i = omega arith in
-        added-word (lineFirstAt + i) (omega arith) ∙ word-line-first (lineFirstAt + i) (omega arith) (omega arith)
-        ∙ ap (λ (j : ℕ). getD (joinedRow t lineFirstAt (parts .«line_first»)) j 0) e
-
-    pub added-line-start : (i : ℕ) → i < 4
-        → getD (added t id flags parts) (lineFirstAtStartAt + i) 0 ≡ getD (joinedRow t lineFirstAtStartAt (parts .«line_start»)) i 0
-    added-line-start i h =
-        let e : lineFirstAtStartAt + i - lineFirstAtStartAt ≡ i = omega arith in
-        added-word (lineFirstAtStartAt + i) (omega arith) ∙ word-line-start (lineFirstAtStartAt + i) (omega arith) (omega arith)
-        ∙ ap (λ (j : ℕ). getD (joinedRow t lineFirstAtStartAt (parts .«line_start»)) j 0) e
+    pub added-first : (g i : ℕ) → g < firstGaps → i < 4 → getD (added t id flags parts) (firstAt g + i) 0 ≡ firstWords t id flags parts g i
+    added-first g i h l =
+        let e : (firstAt g + i - firstAt 0) / 4 ≡ g = omega arith in
+        let f : (firstAt g + i - firstAt 0) % 4 ≡ i = omega arith in
+        added-word (firstAt g + i) (omega arith) ∙ word-first (firstAt g + i) (omega arith) (omega arith) ∙ ap₂ (firstWords t id flags parts) e f
 
     pub added-record : (a i : ℕ) → a < maxRules → i < stride → getD (added t id flags parts) (recordAt a + i) 0 ≡ recordWords t id flags parts a i
     added-record a i h l =
@@ -156,22 +121,15 @@ module _ (t : List ℕ) (id flags : ℕ) (parts : Parts) where
         let f : (recordAt a + i - recordAt 0) % stride ≡ i = omega arith in
         added-word (recordAt a + i) (omega arith) ∙ word-record (recordAt a + i) (omega arith) (omega arith) ∙ ap₂ (recordWords t id flags parts) e f
 
-    pub added-follow : (p i : ℕ) → p < maxPositions → i < 4 → getD (added t id flags parts) (followAt p + i) 0 ≡ followWords t id flags parts followAt (parts .follow) p i
-    added-follow p i h l =
-        let e : (followAt p + i - followAt 0) / 4 ≡ p = omega arith in
-        let f : (followAt p + i - followAt 0) % 4 ≡ i = omega arith in
-        added-word (followAt p + i) (omega arith) ∙ word-follow (followAt p + i) (omega arith) (omega arith) ∙ ap₂ (followWords t id flags parts followAt (parts .follow)) e f
-
     pub added-takers : (x i : ℕ) → x < bytes → i < 4 → getD (added t id flags parts) (takersAt x + i) 0 ≡ takersWords t id flags parts x i
     added-takers x i h l =
         let e : (takersAt x + i - takersAt 0) / 4 ≡ x = omega arith in
         let f : (takersAt x + i - takersAt 0) % 4 ≡ i = omega arith in
         added-word (takersAt x + i) (omega arith) ∙ word-takers (takersAt x + i) (omega arith) (omega arith) ∙ ap₂ (takersWords t id flags parts) e f
 
-    pub added-line-follow : (p i : ℕ) → p < maxPositions → i < 4
-        → getD (added t id flags parts) (lineFollowAt p + i) 0 ≡ followWords t id flags parts lineFollowAt (parts .«line_follow») p i
-    added-line-follow p i h l =
-        let e : (lineFollowAt p + i - lineFollowAt 0) / 4 ≡ p = omega arith in
-        let f : (lineFollowAt p + i - lineFollowAt 0) % 4 ≡ i = omega arith in
-        added-word (lineFollowAt p + i) (omega arith) ∙ word-line-follow (lineFollowAt p + i) (omega arith) (omega arith)
-        ∙ ap₂ (followWords t id flags parts lineFollowAt (parts .«line_follow»)) e f
+    pub added-follow : (g p i : ℕ) → g < followGaps → p < maxPositions → i < 4 → getD (added t id flags parts) (followAt g p + i) 0 ≡ followWords t id flags parts g p i
+    added-follow g p i k h l =
+        let d : (followAt g p + i - followAt 0 0) / 1024 ≡ g = omega arith in
+        let e : (followAt g p + i - followAt 0 0) % 1024 / 4 ≡ p = omega arith in
+        let f : (followAt g p + i - followAt 0 0) % 4 ≡ i = omega arith in
+        added-word (followAt g p + i) (omega arith) ∙ word-follow (followAt g p + i) (omega arith) (omega arith) ∙ (λ j. followWords t id flags parts (d j) (e j) (f j))

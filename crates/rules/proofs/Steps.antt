@@ -12,10 +12,12 @@ use lib.ListN.{length, getD}
 use borrow.Author.Tests.{lt-ltb, le-ltb, eq-eqb, ne-eqb}
 use Rattle.sets.specs.Set.{setOf, emptySet, inserted, unionOf, keptBelow, count, asOne}
 use Rattle.sets.proofs.Laws.{setOf-ext, inserted-setOf}
-use Rattle.table.specs.Layout.{tableWords, maxRules, stride, recordAt, lastAt, recordWord, rowHas, from-to}
+use Rattle.table.specs.Layout.{tableWords, maxRules, firstAt, stride, recordAt, lastAt, followAt, recordWord, rowHas, from-to}
+use Rattle.table.specs.Gaps.{lastGaps, followGaps}
 use Rattle.table.proofs.Over.{from-to-in, from-to-below, from-to-above, over, length-over, over-in, over-below, over-above, over-is, Written, written-none, written-above, written-block, written-all}
 use Rattle.table.proofs.Writes.{copied, movedUp}
-use Rattle.rules.specs.Invariants.{merged, mergedRow, rowsWord, mergedRows, maskedRows, maskedWord, recordsWord, maskedRecords, smaller, newTakers, recordAtPlace, recordPut}
+use Rattle.automaton.specs.declared.Parts.{Parts}
+use Rattle.rules.specs.Invariants.{merged, mergedRow, rowsWord, mergedRows, maskedRows, maskedWord, recordsWord, maskedRecords, smaller, newTakers, recordAtPlace, recordPut, followPut, gapPut, gapsPut}
 use Rattle.rules.proofs.Rows.{merged-words, merged-same}
 
 -- ---- one row
@@ -62,66 +64,61 @@ MaskedTo a n t s = Written (recordAt 0) (recordAt a) (recordsWord n t) t s
 pub records-none : (n : ℕ) (t : List ℕ) → MaskedTo 0 n t t
 records-none n t = written-none (omega arith)
 
-pub records-turn : (a n : ℕ) (t s s' : List ℕ) → a < maxRules → tableWords ≤ length t → MaskedTo a n t s → s' ≡ maskedRows (recordAt a + 3) 3 n s → MaskedTo (a + 1) n t s'
+pub records-turn : (a n : ℕ) (t s s' : List ℕ) → a < maxRules → tableWords ≤ length t → MaskedTo a n t s → s' ≡ maskedRows (recordAt a + 4) lastGaps n s → MaskedTo (a + 1) n t s'
 unfolding maskedRows mergedRows rowsWord maskedWord recordsWord
 records-turn a n t s s' few long r e =
     subst (λ (l : List ℕ). Written (recordAt 0) (recordAt (a + 1)) (recordsWord n t) t l) (sym whole)
     (written-block r (omega arith) (omega arith) same)
   where
     at : ℕ
-    at = recordAt a + 3
+    at = recordAt a + 4
+
+    end : ℕ
+    end = at + lastGaps * 4
 
     g : ℕ → ℕ
     g w = getD (mergedRow s (at + (w - at) / 4 * 4) n emptySet) ((w - at) % 4) 0
 
     low : (w : ℕ) → w < at → getD s' w 0 ≡ getD s w 0
-    low w h = ap (λ (l : List ℕ). getD l w 0) e ∙ over-below at (at + 3 * 4) g s w h
+    low w h = ap (λ (l : List ℕ). getD l w 0) e ∙ over-below at end g s w h
 
-    high : (w : ℕ) → at + 12 ≤ w → getD s' w 0 ≡ getD s w 0
-    high w h = ap (λ (l : List ℕ). getD l w 0) e ∙ over-above at (at + 3 * 4) g s w h
-
-    mid : (w : ℕ) → at ≤ w → w < at + 12 → getD s' w 0 ≡ g w
-    mid w h l = ap (λ (l : List ℕ). getD l w 0) e ∙ over-in at (at + 3 * 4) g s w h l (omega (arith, r .long))
+    sets : (w : ℕ) → at ≤ w → w < recordAt (a + 1) → getD s' w 0 ≡ g w
+    sets w h l = ap (λ (l : List ℕ). getD l w 0) e ∙ over-in at end g s w h (omega arith) (omega (arith, r .long))
 
     whole : s' ≡ over (recordAt a) (recordAt (a + 1)) (λ w. getD s' w 0) s
     whole =
-        over-is (recordAt a) (recordAt (a + 1)) (λ w. getD s' w 0) s s' (ap length e ∙ length-over at (at + 3 * 4) g s)
-        (λ w x y l. refl) (λ w x. low w (omega arith)) (λ w x. high w (omega arith))
+        over-is (recordAt a) (recordAt (a + 1)) (λ w. getD s' w 0) s s' (ap length e ∙ length-over at end g s)
+        (λ w x y l. refl) (λ w x. low w (omega arith)) (λ w x. ap (λ (l : List ℕ). getD l w 0) e ∙ over-above at end g s w (omega arith))
 
     old : (w : ℕ) → recordAt a ≤ w → getD s w 0 ≡ getD t w 0
     old w h = written-above r w h
 
     same : (w : ℕ) → recordAt a ≤ w → w < recordAt (a + 1) → w < length t → getD s' w 0 ≡ recordsWord n t w
-    same w x y l = go (decLt w at) (decLt w (at + 12))
+    same w x y l = go (decLt w at)
       where
-        quot : (w - recordAt 0) / stride ≡ a
-        quot = omega arith
+        i : ℕ
+        i = w - recordAt a
 
-        rest : (w - recordAt 0) % stride ≡ w - recordAt a
-        rest = omega arith
+        row : ℕ
+        row = getD (mergedRow t (lastAt a ((i - 4) / 4)) n emptySet) ((i - 4) % 4) 0
 
-        word : maskedWord t n a (w - recordAt a) ≡ recordsWord n t w
-        word = ap₂ (λ (i j : ℕ). maskedWord t n i j) (sym quot) (sym rest)
+        word : maskedWord t n a i ≡ recordsWord n t w
+        word =
+            let quot : a ≡ (w - recordAt 0) / stride = omega arith in
+            let rest : i ≡ (w - recordAt 0) % stride = omega arith in
+            ap₂ (maskedWord t n) quot rest
 
-        back : recordWord t a (w - recordAt a) ≡ getD t w 0
-        back = let z : recordAt a + (w - recordAt a) ≡ w = omega arith in ap (λ (i : ℕ). getD t i 0) z
-
-        go : Dec (w < at) → Dec (w < at + 12) → getD s' w 0 ≡ recordsWord n t w
-        go (yes p) q =
-            low w p ∙ old w x ∙ sym back
-            ∙ sym (ap (λ (b : Bool). cond b (getD (mergedRow t (lastAt a + (w - recordAt a - 3) / 4 * 4) n emptySet) ((w - recordAt a - 3) % 4) 0) (recordWord t a (w - recordAt a))) (from-to-below 3 15 (w - recordAt a) (omega arith)))
-            ∙ word
-        go (no p) (yes q) =
-            let z : at + (w - at) / 4 * 4 ≡ lastAt a + (w - recordAt a - 3) / 4 * 4 = omega arith in
-            let m : (w - at) % 4 ≡ (w - recordAt a - 3) % 4 = omega arith in
-            mid w (omega arith) q
-            ∙ ap₂ (λ (l : List ℕ) (i : ℕ). getD l i 0) (merged-same s t (at + (w - at) / 4 * 4) n emptySet (λ i h. old (at + (w - at) / 4 * 4 + i) (omega arith)) ∙ ap (λ (i : ℕ). mergedRow t i n emptySet) z) m
-            ∙ sym (ap (λ (b : Bool). cond b (getD (mergedRow t (lastAt a + (w - recordAt a - 3) / 4 * 4) n emptySet) ((w - recordAt a - 3) % 4) 0) (recordWord t a (w - recordAt a))) (from-to-in 3 15 (w - recordAt a) (omega arith) (omega arith)))
-            ∙ word
-        go (no p) (no q) =
-            high w (omega arith) ∙ old w x ∙ sym back
-            ∙ sym (ap (λ (b : Bool). cond b (getD (mergedRow t (lastAt a + (w - recordAt a - 3) / 4 * 4) n emptySet) ((w - recordAt a - 3) % 4) 0) (recordWord t a (w - recordAt a))) (from-to-above 3 15 (w - recordAt a) (omega arith)))
-            ∙ word
+        go : Dec (w < at) → getD s' w 0 ≡ recordsWord n t w
+        go (yes p) =
+            let z : w ≡ recordAt a + i = omega arith in
+            low w p ∙ old w x ∙ ap (λ (j : ℕ). getD t j 0) z
+            ∙ sym (ap (λ (b : Bool). cond b (recordWord t a i) row) (lt-ltb i 4 (omega arith))) ∙ word
+        go (no p) =
+            let z : at + (w - at) / 4 * 4 ≡ lastAt a ((i - 4) / 4) = omega arith in
+            let m : (w - at) % 4 ≡ (i - 4) % 4 = omega arith in
+            sets w (omega arith) y
+            ∙ ap₂ (λ (l : List ℕ) (j : ℕ). getD l j 0) (merged-same s t (at + (w - at) / 4 * 4) n emptySet (λ j h. old (at + (w - at) / 4 * 4 + j) (omega arith)) ∙ ap (λ (j : ℕ). mergedRow t j n emptySet) z) m
+            ∙ sym (ap (λ (b : Bool). cond b (recordWord t a i) row) (le-ltb i 4 (omega arith))) ∙ word
 
 pub records-whole : (a rules n : ℕ) (t s : List ℕ) → MaskedTo a n t s → a ≡ rules → s ≡ maskedRecords rules n t
 unfolding maskedRecords
@@ -196,3 +193,32 @@ pub record-is : (rules n k : ℕ) (r t s1 s2 s3 : List ℕ) → k ≡ count rule
 unfolding recordPut recordAtPlace
 record-is rules n k r t s1 s2 s3 place a b c =
     c ∙ ap (copied (recordAt k) stride r) (b ∙ ap (movedUp (recordAt k) ((rules - k) * stride)) a) ∙ ap (λ (j : ℕ). recordAtPlace rules n j r t) place
+
+-- ---- the sets of a gap
+
+module _ (g n k : ℕ) (parts : Parts) (t s1 : List ℕ) (a : s1 ≡ merged (firstAt g) n (parts .first) t) where
+  -- a match can start at it alone
+  pub gap-start : lastGaps ≤ g → s1 ≡ gapPut g n k parts t
+  unfolding gapPut
+  gap-start h = rw (le-ltb g lastGaps h, le-ltb g followGaps (omega arith)) a
+
+  module _ (s2 : List ℕ) (b : s2 ≡ copied (lastAt k g) 4 (parts .last) s1) where
+    -- or end at it
+    pub gap-end : g < lastGaps → followGaps ≤ g → s2 ≡ gapPut g n k parts t
+    unfolding gapPut
+    gap-end l h = rw (lt-ltb g lastGaps l, le-ltb g followGaps h) (b ∙ ap (copied (lastAt k g) 4 (parts .last)) a)
+
+    -- or go on
+    pub gap-inside : g < followGaps → (s3 : List ℕ) → s3 ≡ followPut (followAt g 0) n (parts .follow) (parts .positions) s2 → s3 ≡ gapPut g n k parts t
+    unfolding gapPut
+    gap-inside l s3 c =
+        rw (lt-ltb g lastGaps (omega arith), lt-ltb g followGaps l)
+        (c ∙ ap (followPut (followAt g 0) n (parts .follow) (parts .positions)) (b ∙ ap (copied (lastAt k g) 4 (parts .last)) a))
+
+pub gaps-none : (n k : ℕ) (parts : ℕ → Parts) (t : List ℕ) → t ≡ gapsPut 0 n k parts t
+unfolding gapsPut
+gaps-none n k parts t = refl
+
+pub gaps-turn : (g n k : ℕ) (parts : ℕ → Parts) (p : Parts) (t s s' : List ℕ) → s ≡ gapsPut g n k parts t → p ≡ parts g → s' ≡ gapPut g n k p s → s' ≡ gapsPut (g + 1) n k parts t
+unfolding gapsPut
+gaps-turn g n k parts p t s s' a b c = c ∙ ap₂ (gapPut g n k) b a ∙ ap (λ (m : ℕ). gapsPut m n k parts t) (sym (add-one g))

@@ -12,7 +12,7 @@ use Rattle.regex.specs.Form.{write, positions}
 use Rattle.regex.specs.Count.{limit}
 use Rattle.pattern.specs.Walk.{Read, tree, refused}
 use Rattle.pattern.specs.Read.{readOf, optionsOf}
-use Rattle.automaton.specs.Parts.{partsOf}
+use Rattle.rules.specs.Gaps.{partsAt}
 use Rattle.rules.specs.Words.{added}
 use Rattle.rules.specs.declared.Added.{Added}
 
@@ -20,7 +20,7 @@ use Rattle.rules.specs.declared.Added.{Added}
 abbrev pub answer : (number place : ℕ) → Added
 answer number place = record { number = number; place = place }
 
--- 2: "a flag bit other than 1, 2, 8"; 3: "id already in the table"; 4: "Raise the rules in a table to 64 .. refusals 4 and 5 move with
+-- 2: "a flag bit other than 1, 2, 8", and "Refusal 2 lets 4 through"; 3: "id already in the table"; 4: "Raise the rules in a table to 64 .. refusals 4 and 5 move with
 -- them"
 unfoldable pub unknownFlag : ℕ → Bool
 unknownFlag flags = not (eqb (bitAnd flags knownFlags) flags)
@@ -46,7 +46,7 @@ addAnswer t id flags pattern =
 -- the words with an accepted rule
 unfoldable pub withRule : List ℕ → (id flags : ℕ) → Read → List ℕ
 withRule t id flags (refused number place) = t
-withRule t id flags (tree x) = added t id flags (partsOf x (positionsOf t))
+withRule t id flags (tree x) = added t id flags (partsAt x (positionsOf t))
 
 -- "A refused addition .. leaves the table as it was." An accepted one puts in what its pattern reads as.
 unfoldable pub addWords : List ℕ → (id flags : ℕ) → List ℕ → List ℕ

@@ -2,7 +2,7 @@
 use mathlib.Core.List.{List, [], _∷_}
 use Prim.Native.Nat.{ℕ}
 use Rattle.table.specs.Layout.{positionsOf}
-use Rattle.automaton.specs.Parts.{partsOf}
+use Rattle.rules.specs.Gaps.{partsAt}
 use Rattle.rules.specs.Words.{added}
 use Rattle.rules.specs.Add.{addWords}
 use Rattle.rules.specs.Additions.{Addition, Accepted}
@@ -15,4 +15,4 @@ addAll t (a ∷ l) = addAll (addWords t (a .id) (a .flags) (a .pattern)) l
 -- the words of some rules, each added to those before it
 unfoldable pub encode : List ℕ → List Accepted → List ℕ
 encode t [] = t
-encode t (r ∷ rs) = encode (added t (r .id) (r .flags) (partsOf (r .tree) (positionsOf t))) rs
+encode t (r ∷ rs) = encode (added t (r .id) (r .flags) (partsAt (r .tree) (positionsOf t))) rs

@@ -1,11 +1,12 @@
 -- What the private functions promise one another: the first checks, and the words with a part of them written anew. No public contract cites it.
 use mathlib.Core.Bool.{Bool, cond, _&&_, _||_}
 use mathlib.Core.List.{List, [], _∷_}
-use Prim.Native.Nat.{ℕ, _+_, _-_, _*_, _/_, _%_}
+use Prim.Native.Nat.{ℕ, zero, suc, _+_, _-_, _*_, _/_, _%_}
 use lib.Dec.{leb, ltb}
-use lib.ListN.{getD}
+use lib.ListN.{getD, replicate}
 use Rattle.sets.specs.Set.{has, setOf, emptySet, count}
-use Rattle.table.specs.Layout.{maxRules, bytes, rulesOf, firstAt, lineFirstAt, stride, recordAt, lastAt, followAt, takersAt, lineFollowAt, recordWord, rowHas, from-to}
+use Rattle.table.specs.Layout.{maxRules, bytes, rulesOf, firstAt, stride, recordAt, lastAt, followAt, takersAt, recordWord, rowHas, from-to}
+use Rattle.table.specs.Gaps.{lastGaps, followGaps}
 use Rattle.table.specs.Table.{isTable}
 use Rattle.table.specs.Invariants.{over, copied, movedUp}
 use Rattle.automaton.specs.declared.Parts.{Parts}
@@ -36,10 +37,10 @@ mergedRows at rows n new t = over at (at + rows * 4) (rowsWord at n new t) t
 unfoldable pub maskedRows : (at rows n : ℕ) → List ℕ → List ℕ
 maskedRows at rows n t = mergedRows at rows n (λ k. emptySet) t
 
--- word i of record a, with its three sets kept to the positions below n
+-- word i of record a, with its sets kept to the positions below n
 unfoldable pub maskedWord : List ℕ → (n a i : ℕ) → ℕ
 maskedWord t n a i =
-    cond (from-to 3 15 i) (getD (mergedRow t (lastAt a + (i - 3) / 4 * 4) n emptySet) ((i - 3) % 4) 0) (recordWord t a i)
+    cond (ltb i 4) (recordWord t a i) (getD (mergedRow t (lastAt a ((i - 4) / 4)) n emptySet) ((i - 4) % 4) 0)
 
 unfoldable pub recordsWord : ℕ → List ℕ → ℕ → ℕ
 recordsWord n t w = maskedWord t n ((w - recordAt 0) / stride) ((w - recordAt 0) % stride)
@@ -51,13 +52,9 @@ maskedRecords rules n t = over (recordAt 0) (recordAt rules) (recordsWord n t) t
 abbrev pub smaller : List ℕ → (id a : ℕ) → Bool
 smaller t id a = ltb (recordWord t a 0) id
 
--- the words of a rule's record
-abbrev pub recordOf : (id flags positions : ℕ) → (last lastAtEnd lineLast : List ℕ) → List ℕ
-recordOf id flags positions last lastAtEnd lineLast =
-    id ∷ flags ∷ positions
-    ∷ getD last 0 0 ∷ getD last 1 0 ∷ getD last 2 0 ∷ getD last 3 0
-    ∷ getD lastAtEnd 0 0 ∷ getD lastAtEnd 1 0 ∷ getD lastAtEnd 2 0 ∷ getD lastAtEnd 3 0
-    ∷ getD lineLast 0 0 ∷ getD lineLast 1 0 ∷ getD lineLast 2 0 ∷ getD lineLast 3 0 ∷ []
+-- the words of a rule's record, its sets empty
+abbrev pub recordOf : (id flags from to : ℕ) → List ℕ
+recordOf id flags from to = id ∷ flags ∷ from ∷ to ∷ replicate 52 0
 
 -- a record at place k, with those from there on one up
 unfoldable pub recordAtPlace : (rules n k : ℕ) → List ℕ → List ℕ → List ℕ
@@ -65,10 +62,6 @@ recordAtPlace rules n k r t = copied (recordAt k) stride r (movedUp (recordAt k)
 
 unfoldable pub recordPut : (rules n : ℕ) → List ℕ → List ℕ → List ℕ
 recordPut rules n r t = recordAtPlace rules n (count rules (smaller t (getD r 0 0))) r t
-
--- two sets of first positions, one after the other at `at`
-unfoldable pub startsPut : (at n : ℕ) → List ℕ → List ℕ → List ℕ → List ℕ
-startsPut at n first start t = merged (at + 4) n start (merged at n first t)
 
 -- follow sets from `at` on: those of the n old positions, and after them the new ones
 unfoldable pub followPut : (at n : ℕ) → List ℕ → ℕ → List ℕ → List ℕ
@@ -81,14 +74,17 @@ newTakers takes n more x = setOf (λ q. from-to n (n + more) q && rowHas takes (
 unfoldable pub takersPut : ℕ → List ℕ → ℕ → List ℕ → List ℕ
 takersPut n takes more t = mergedRows (takersAt 0) bytes n (newTakers takes n more) t
 
--- the sets of the parts, but for those of the record
-unfoldable pub partsPut : ℕ → Parts → List ℕ → List ℕ
-partsPut n parts t =
-    followPut (lineFollowAt 0) n (parts .«line_follow») (parts .positions)
-    (takersPut n (parts .takes) (parts .positions)
-    (followPut (followAt 0) n (parts .follow) (parts .positions)
-    (startsPut lineFirstAt n (parts .«line_first») (parts .«line_start»)
-    (startsPut firstAt n (parts .first) (parts .start) t))))
+-- the sets of the parts at one gap, with the rule in place k: the first positions, those that can end a match, and what follows each
+unfoldable pub gapPut : (gap n k : ℕ) → Parts → List ℕ → List ℕ
+gapPut g n k parts t =
+    let first : List ℕ = merged (firstAt g) n (parts .first) t in
+    let last : List ℕ = cond (ltb g lastGaps) (copied (lastAt k g) 4 (parts .last) first) first in
+    cond (ltb g followGaps) (followPut (followAt g 0) n (parts .follow) (parts .positions) last) last
+
+-- and at the first m gaps
+unfoldable pub gapsPut : (m n k : ℕ) → (ℕ → Parts) → List ℕ → List ℕ
+gapsPut zero n k parts t = t
+gapsPut (suc m) n k parts t = gapPut m n k (parts m) (gapsPut m n k parts t)
 
 unfoldable pub countsPut : (rules positions : ℕ) → List ℕ → List ℕ
 countsPut rules positions t = copied 1 2 (rules ∷ positions ∷ []) t

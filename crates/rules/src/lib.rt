@@ -75,9 +75,14 @@ pub fn add(words: &mut [u64], id: u32, flags: u32, pattern: &[u8]) -> Added
         };
     }
     let nodes = reading.nodes;
-    let parts = automaton::build(&nodes, reading.root, words[POSITIONS_AT] as usize);
+    let parts = automaton::build(
+        &nodes,
+        reading.root,
+        words[POSITIONS_AT] as usize,
+        write::holding(0),
+    );
     if parts.fits {
-        write::add_rule(words, id, flags, parts);
+        write::add_rule(words, id, flags, &nodes, reading.root, parts);
         return Added {
             number: 0,
             place: 0,

@@ -12,7 +12,8 @@ use denote.Array.{Array}
 use borrow.Author.Needs.{needs}
 use borrow.Kind.Array.{eInt, good-length}
 use Rattle.sets.proofs.Laws.{Words, words-owned}
-use Rattle.table.specs.Layout.{tableWords, maxRules, stride, recordAt}
+use Rattle.table.specs.Layout.{tableWords, maxRules, stride, recordAt, firstAt}
+use Rattle.table.specs.Gaps.{innerGaps, lastGaps, firstGaps, followGaps}
 
 -- a place is one more, or has reached the end
 pub up : (a n : ℕ) → a < n → a + 1 ≤ n
@@ -41,21 +42,62 @@ module _ (a : ℕ) (h : a < maxRules) where
   pub record-fits : Fits w64 (recordAt a)
   record-fits = record { fits = omega arith }
 
-  pub field-fits : (i : ℕ) → i ≤ 11 → Fits w64 (recordAt a + i)
+  pub field-fits : (i : ℕ) → i ≤ 52 → Fits w64 (recordAt a + i)
   field-fits i l = record { fits = omega arith }
 
-  pub field-bytes-fit : (i : ℕ) → i ≤ 11 → Fits w64 ((recordAt a + i) * 8)
+  pub field-bytes-fit : (i : ℕ) → i ≤ 52 → Fits w64 ((recordAt a + i) * 8)
   field-bytes-fit i l = record { fits = omega arith }
 
   -- a word of the record is inside a table, and so are four
-  pub field-inside : (i n : ℕ) → i ≤ 11 → tableWords ≤ n → recordAt a + i < n
+  pub field-inside : (i n : ℕ) → i ≤ 52 → tableWords ≤ n → recordAt a + i < n
   field-inside i n l m = omega arith
 
-  pub set-inside : (i n : ℕ) → i ≤ 11 → tableWords ≤ n → recordAt a + i + 4 ≤ n
+  pub set-inside : (i n : ℕ) → i ≤ 52 → tableWords ≤ n → recordAt a + i + 4 ≤ n
   set-inside i n l m = omega arith
 
   pub next-place-fits : Fits w64 (a + 1)
   next-place-fits = record { fits = omega arith }
+
+-- ---- the sets of a gap
+
+pub next-gap-fits : (g : ℕ) → g < innerGaps → Fits w64 (g + 1)
+next-gap-fits g h = record { fits = omega arith }
+
+module _ (g : ℕ) (h : g < lastGaps) where
+  pub last-offset-fits : Fits w64 (g * 4)
+  last-offset-fits = record { fits = omega arith }
+
+  pub last-field-fits : Fits w64 (4 + g * 4)
+  last-field-fits = record { fits = omega arith }
+
+  -- the last set at a gap is inside its record
+  pub last-field : 4 + g * 4 ≤ 52
+  last-field = omega arith
+
+module _ (g : ℕ) (h : g < firstGaps) where
+  pub first-offset-fits : Fits w64 (g * 4)
+  first-offset-fits = record { fits = omega arith }
+
+  pub first-fits : Fits w64 (firstAt g)
+  first-fits = record { fits = omega arith }
+
+  pub first-inside : (n : ℕ) → tableWords ≤ n → firstAt g + 4 ≤ n
+  first-inside n l = omega arith
+
+-- where the rows of what follows a position begin
+abbrev pub followRows : ℕ → ℕ
+followRows g = 5120 + g * 1024
+
+module _ (g : ℕ) (h : g < followGaps) where
+  pub follow-offset-fits : Fits w64 (g * 1024)
+  follow-offset-fits = record { fits = omega arith }
+
+  pub follow-fits : Fits w64 (followRows g)
+  follow-fits = record { fits = omega arith }
+
+  -- the rows of a gap's 256 positions are inside a table
+  pub follow-inside : followRows g ≤ 14336
+  follow-inside = omega arith
 
 -- ---- a set's four words
 

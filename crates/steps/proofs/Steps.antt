@@ -1,50 +1,23 @@
 -- One byte's step in words: the first positions joined with the follow row of each live one, met with the byte's row and kept below the count, are
 -- `stepped`.
 use mathlib.Core.Path.{_≡_, refl, sym, ap, ap₂, _∙_}
-use mathlib.Core.Bool.{Bool, true, false, cond, _||_, _&&_, or-false, or-assoc, and-comm}
+use mathlib.Core.Bool.{Bool, true, false, cond, _||_, _&&_, or-false, or-assoc, and-comm, and-false}
 use mathlib.Core.List.{List}
 use Prim.Native.Nat.{ℕ, zero, suc, _+_, _-_, _*_, _<_, _≤_}
 use native.Mathlib.Nat.{add-zero, add-suc}
 use native.Mathlib.Numerals.{add-one}
 use native.Mathlib.Omega.{arith}
-use lib.Dec.{eqb, ltb}
-use borrow.Author.Tests.{lt-ltb, eq-eqb, ne-eqb}
+use lib.Dec.{ltb}
+use borrow.Author.Tests.{lt-ltb, ne-eqb}
+use Rattle.kinds.specs.declared.Side.{Side}
 use Rattle.sets.specs.Set.{has, setOf, any, unionOf, intersectionOf, keptBelow, emptySet}
 use Rattle.sets.proofs.Laws.{has-setOf, has-empty, has-below, setOf-ext, union-setOf, intersection-setOf, below-setOf, any-none, any-ext, any-never}
-use Rattle.table.specs.Layout.{maxPositions, bytes, firstAt, firstAtStartAt, lineFirstAt, lineFirstAtStartAt, followAt, takersAt, lineFollowAt, rowHas}
-use Rattle.table.specs.Automaton.{Automaton, automaton, firstIn, startIn, followIn}
-use Rattle.steps.specs.Step.{starts, stepped}
-use Rattle.steps.specs.Invariants.{followRows}
-
--- ---- the first positions
-
--- where they stand
-abbrev pub firstRow : Bool → ℕ
-firstRow true = lineFirstAt
-firstRow false = firstAt
-
-abbrev pub startRow : Bool → ℕ
-startRow true = lineFirstAtStartAt
-startRow false = firstAtStartAt
-
-pub first-in : (t : List ℕ) (line : Bool) → setOf (rowHas t (firstRow line)) ≡ setOf (firstIn (automaton t) line)
-unfolding automaton
-first-in t true = refl
-first-in t false = refl
-
-pub start-in : (t : List ℕ) (line : Bool) → setOf (rowHas t (startRow line)) ≡ setOf (startIn (automaton t) line)
-unfolding automaton
-start-in t true = refl
-start-in t false = refl
-
-module _ (t : List ℕ) (line : Bool) (taken : ℕ) where
-  pub starts-first : taken ≡ 0 → setOf (startIn (automaton t) line) ≡ setOf (starts (automaton t) line taken)
-  unfolding starts
-  starts-first e = ap (λ (b : Bool). setOf (λ q. cond b (startIn (automaton t) line q) (firstIn (automaton t) line q))) (sym (eq-eqb taken 0 e))
-
-  pub starts-later : (taken ≡ 0 → ⊥) → setOf (firstIn (automaton t) line) ≡ setOf (starts (automaton t) line taken)
-  unfolding starts
-  starts-later e = ap (λ (b : Bool). setOf (λ q. cond b (startIn (automaton t) line q) (firstIn (automaton t) line q))) (sym (ne-eqb taken 0 e))
+use Rattle.table.specs.Layout.{maxPositions, bytes, firstAt, followAt, takersAt, rowHas}
+use Rattle.table.specs.Gaps.{firstGaps, followGaps, innerGaps, between, gapOf, firstGap}
+use Rattle.table.specs.Automaton.{Automaton, automaton}
+use Rattle.table.proofs.GapBounds.{between-inner, gapOf-follow}
+use Rattle.steps.specs.Step.{stepped, firstsOf}
+use Rattle.steps.proofs.Bounds.{followRows}
 
 -- ---- the live positions are asked one a turn
 
@@ -90,82 +63,104 @@ module _ (t : List ℕ) (rows : ℕ) (live : List ℕ) (from : ℕ → Bool) whe
 
 -- ---- the step
 
--- the row of a position
-follow-row : (t : List ℕ) (line : Bool) (p q : ℕ) → p < maxPositions → rowHas t (followRows line + p * 4) q ≡ followIn (automaton t) line p q
-unfolding automaton
-follow-row t true p q l = ap (λ (b : Bool). b && rowHas t (lineFollowAt p) q) (sym (lt-ltb p maxPositions l))
-follow-row t false p q l = ap (λ (b : Bool). b && rowHas t (followAt p) q) (sym (lt-ltb p maxPositions l))
+module _ (t : List ℕ) where
+  -- the row of the first positions after a gap
+  pub first-row : (g : ℕ) → g < firstGaps → setOf (rowHas t (firstAt g)) ≡ setOf (automaton t .first g)
+  unfolding automaton
+  first-row g h = ap (λ (b : Bool). setOf (λ q. b && rowHas t (firstAt g) q)) (sym (lt-ltb g firstGaps h))
 
-module _ (t : List ℕ) (line : Bool) (live : List ℕ) (taken : ℕ) where
+  -- a byte's row
+  pub takers-row : (x : ℕ) → x < bytes → setOf (rowHas t (takersAt x)) ≡ setOf (automaton t .takes x)
+  unfolding automaton
+  takers-row x h = ap (λ (b : Bool). setOf (λ q. b && rowHas t (takersAt x) q)) (sym (lt-ltb x bytes h))
+
+  -- the row of a position
+  follow-row : (g p q : ℕ) → g < followGaps → p < maxPositions → rowHas t (followAt g p) q ≡ automaton t .follow g p q
+  unfolding automaton
+  follow-row g p q h l = ap₂ (λ (b c : Bool). b && (c && rowHas t (followAt g p) q)) (sym (lt-ltb g followGaps h)) (sym (lt-ltb p maxPositions l))
+
+module _ (t : List ℕ) (line : Bool) (before after : Side) (live : List ℕ) (taken : ℕ) where
+  abbrev gap : ℕ
+  gap = gapOf line before after
+
+  abbrev starts : ℕ → Bool
+  starts = automaton t .first (firstGap line taken before after)
+
   -- from the set of the first positions
-  pub reached-starts : (first : List ℕ) → first ≡ setOf (starts (automaton t) line taken)
-      → reached t (followRows line) live (has first) maxPositions ≡ reached t (followRows line) live (starts (automaton t) line taken) maxPositions
-  unfolding starts
-  reached-starts first e =
-      setOf-ext (λ q. has first q || follows q) (λ q. starts (automaton t) line taken q || follows q)
-      (λ q h. ap (λ (b : Bool). b || follows q) (ap (λ (s : List ℕ). has s q) e ∙ has-setOf (starts (automaton t) line taken) q h))
+  pub reached-starts : (first : List ℕ) (rows : ℕ) → first ≡ setOf (automaton t .first (firstGap line taken before after)) → rows ≡ followRows (gapOf line before after)
+      → reached t rows live (has first) maxPositions ≡ setOf (λ q. starts q || any maxPositions (λ p. has live p && automaton t .follow gap p q))
+  reached-starts first rows ef er =
+      ap₂ (λ (s : List ℕ) (n : ℕ). reached t n live (has s) maxPositions) ef er
+      ∙ setOf-ext (λ q. has (setOf starts) q || any maxPositions (λ p. has live p && rowHas t (followRows gap + p * 4) q))
+      (λ q. starts q || any maxPositions (λ p. has live p && automaton t .follow gap p q))
+      (λ q h. ap₂ (λ (b c : Bool). b || c) (has-setOf starts q h) (follows q))
     where
-      follows : ℕ → Bool
-      follows q = any maxPositions (λ p. has live p && rowHas t (followRows line + p * 4) q)
+      follows : (q : ℕ) → any maxPositions (λ p. has live p && rowHas t (followRows gap + p * 4) q) ≡ any maxPositions (λ p. has live p && automaton t .follow gap p q)
+      follows q =
+          any-ext maxPositions (λ p. has live p && rowHas t (followRows gap + p * 4) q) (λ p. has live p && automaton t .follow gap p q)
+          (λ p l. ap (λ (b : Bool). has live p && b) (follow-row t gap p q (gapOf-follow line before after) l))
 
   -- met with the byte's row and kept below the count
-  pub next-words : (n x : ℕ)
-      → keptBelow (intersectionOf (reached t (followRows line) live (starts (automaton t) line taken) maxPositions) (setOf (automaton t .takes x))) n ≡ stepped (automaton t) line n live taken x
-  unfolding stepped automaton
-  next-words n x =
-      ap (λ (s : List ℕ). keptBelow s n) (intersection-setOf from takes)
+  pub next-words : (first : List ℕ) (rows n x : ℕ) → first ≡ setOf (automaton t .first (firstGap line taken before after)) → rows ≡ followRows (gapOf line before after)
+      → keptBelow (intersectionOf (reached t rows live (has first) maxPositions) (setOf (automaton t .takes x))) n ≡ stepped (automaton t) line before after n live taken x
+  unfolding stepped
+  next-words first rows n x ef er =
+      ap (λ (s : List ℕ). keptBelow (intersectionOf s (setOf takes)) n) (reached-starts first rows ef er)
+      ∙ ap (λ (s : List ℕ). keptBelow s n) (intersection-setOf from takes)
       ∙ below-setOf (λ q. from q && takes q) n
-      ∙ setOf-ext (λ q. (from q && takes q) && ltb q n) (λ q. ltb q n && (takes q && from′ q))
-      (λ q l. and-comm (from q && takes q) (ltb q n)
-      ∙ ap (λ (b : Bool). ltb q n && b)
-      (and-comm (from q) (takes q) ∙ ap (λ (b : Bool). takes q && (starts (automaton t) line taken q || b)) (follows q)))
+      ∙ setOf-ext (λ q. (from q && takes q) && ltb q n) (λ q. ltb q n && (takes q && from q))
+      (λ q l. and-comm (from q && takes q) (ltb q n) ∙ ap (λ (b : Bool). ltb q n && b) (and-comm (from q) (takes q)))
     where
       from : ℕ → Bool
-      from q = starts (automaton t) line taken q || any maxPositions (λ p. has live p && rowHas t (followRows line + p * 4) q)
-
-      from′ : ℕ → Bool
-      from′ q = starts (automaton t) line taken q || any maxPositions (λ p. has live p && followIn (automaton t) line p q)
+      from q = starts q || any maxPositions (λ p. has live p && automaton t .follow gap p q)
 
       takes : ℕ → Bool
       takes q = automaton t .takes x q
 
-      follows : (q : ℕ) → any maxPositions (λ p. has live p && rowHas t (followRows line + p * 4) q) ≡ any maxPositions (λ p. has live p && followIn (automaton t) line p q)
-      follows q =
-          any-ext maxPositions (λ p. has live p && rowHas t (followRows line + p * 4) q) (λ p. has live p && followIn (automaton t) line p q)
-          (λ p l. ap (λ (b : Bool). has live p && b) (follow-row t line p q l))
-
--- a byte's row
-pub takers-row : (t : List ℕ) (x : ℕ) → x < bytes → setOf (rowHas t (takersAt x)) ≡ setOf (automaton t .takes x)
-unfolding automaton
-takers-row t x h = ap (λ (b : Bool). setOf (λ q. b && rowHas t (takersAt x) q)) (sym (lt-ltb x bytes h))
-
 -- ---- a byte that starts nothing
 
--- inside the stream, an empty live set stays empty where no first position below the count takes the byte
-pub next-quiet : (w : Automaton) (line : Bool) (n taken x : ℕ) → 0 < taken
-    → any maxPositions (λ q. has (keptBelow (setOf (firstIn w line)) n) q && has (setOf (w .takes x)) q) ≡ false
-    → stepped w line n emptySet taken x ≡ emptySet
-unfolding stepped starts emptySet
-next-quiet w line n taken x h e =
-    setOf-ext (λ q. ltb q n && (w .takes x q && (first q || any maxPositions (follows q)))) (λ q. false)
+-- a position that is first after a gap between two bytes is one that can be first inside the stream
+first-inside : (w : Automaton) (g q : ℕ) → g < innerGaps → q < maxPositions → has (firstsOf w) q ≡ false → w .first g q ≡ false
+unfolding firstsOf
+first-inside w g q h m e = any-none innerGaps (λ g. w .first g q) (sym (has-setOf (λ q. any innerGaps (λ g. w .first g q)) q m) ∙ e) g h
+
+-- inside the stream, an empty live set stays empty where no position below the count that can be first takes the byte
+pub next-quiet : (w : Automaton) (before after : Side) (n taken x : ℕ) → 0 < taken
+    → any maxPositions (λ q. has (keptBelow (firstsOf w) n) q && has (setOf (w .takes x)) q) ≡ false
+    → stepped w false before after n emptySet taken x ≡ emptySet
+unfolding stepped emptySet gapOf firstGap
+next-quiet w before after n taken x h e =
+    setOf-ext (λ q. ltb q n && (w .takes x q && (w .first (firstGap false taken before after) q || any maxPositions (follows q)))) (λ q. false)
     (λ q m.
-    ap₂ (λ (b c : Bool). ltb q n && (w .takes x q && (cond b (startIn w line q) (firstIn w line q) || c))) (ne-eqb taken 0 (λ z. omega arith)) (any-never maxPositions (follows q) (none q))
-    ∙ turned (firstIn w line q) (ltb q n) (w .takes x q)
-    (sym (ap₂ (λ (b c : Bool). b && c) (has-below (setOf (firstIn w line)) n q m ∙ ap (λ (b : Bool). b && ltb q n) (has-setOf (firstIn w line) q m)) (has-setOf (w .takes x) q m))
-    ∙ any-none maxPositions (λ q. has (keptBelow (setOf (firstIn w line)) n) q && has (setOf (w .takes x)) q) e q m))
+    ap₂ (λ (g : ℕ) (c : Bool). ltb q n && (w .takes x q && (w .first g q || c))) later (any-never maxPositions (follows q) (none q))
+    ∙ quiet q m (has (firstsOf w) q) refl)
   where
-    first : ℕ → Bool
-    first q = cond (eqb taken 0) (startIn w line q) (firstIn w line q)
+    gap : ℕ
+    gap = between before after
+
+    later : firstGap false taken before after ≡ gap
+    later = ap (λ (b : Bool). cond b (firstGap false 0 before after) (between before after)) (ne-eqb taken 0 (λ z. omega arith))
 
     follows : ℕ → ℕ → Bool
-    follows q p = has emptySet p && followIn w line p q
+    follows q p = has emptySet p && w .follow (gapOf false before after) p q
 
     none : (q p : ℕ) → p < maxPositions → follows q p ≡ false
-    none q p h = ap (λ (b : Bool). b && followIn w line p q) (has-empty p h)
+    none q p h = ap (λ (b : Bool). b && w .follow (gapOf false before after) p q) (has-empty p h)
 
-    turned : (a b c : Bool) → ((a && b) && c) ≡ false → (b && (c && (a || false))) ≡ false
-    turned true true c f = ap (λ (b : Bool). b && true) f
-    turned true false c f = refl
-    turned false true true f = refl
-    turned false true false f = refl
-    turned false false c f = refl
+    -- where q can be first, it does not take the byte or is not below the count
+    untaken : (q : ℕ) → q < maxPositions → has (firstsOf w) q ≡ true → (ltb q n && w .takes x q) ≡ false
+    untaken q m f =
+        sym (ap₂ (λ (b c : Bool). b && c) (has-below (firstsOf w) n q m ∙ ap (λ (b : Bool). b && ltb q n) f) (has-setOf (w .takes x) q m))
+        ∙ any-none maxPositions (λ q. has (keptBelow (firstsOf w) n) q && has (setOf (w .takes x)) q) e q m
+
+    turned : (a b c : Bool) → (b && c) ≡ false → (b && (c && (a || false))) ≡ false
+    turned a true true f = ap (λ (b : Bool). b && (a || false)) f
+    turned a true false f = refl
+    turned a false c f = refl
+
+    unstarted : (a b c : Bool) → a ≡ false → (b && (c && (a || false))) ≡ false
+    unstarted a b c f = ap (λ (x : Bool). b && (c && (x || false))) f ∙ ap (λ (x : Bool). b && x) (and-false c) ∙ and-false b
+
+    quiet : (q : ℕ) → q < maxPositions → (b : Bool) → has (firstsOf w) q ≡ b → (ltb q n && (w .takes x q && (w .first gap q || false))) ≡ false
+    quiet q m true f = turned (w .first gap q) (ltb q n) (w .takes x q) (untaken q m f)
+    quiet q m false f = unstarted (w .first gap q) (ltb q n) (w .takes x q) (first-inside w gap q (between-inner before after) m f)

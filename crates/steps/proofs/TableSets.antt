@@ -1,22 +1,22 @@
--- What is given of words enough for a table, and of fewer; and the rules in a table's words: their last sets are joined one a turn, and those that a set meets
--- are a word that gets one digit a turn. No more are asked than a table can have, and the automaton has nothing past these.
+-- What is given of words enough for a table, and of fewer; and the rules in a table's words: the sets that they end with are joined one a turn, and those that a
+-- live set ends are a word that gets one digit a turn. No more are asked than a table can have, and the automaton has nothing past these.
 use mathlib.Core.Path.{_≡_, refl, sym, ap, ap₂, _∙_}
-use mathlib.Core.Bool.{Bool, true, false, cond, not, _&&_, and-false, and-eq-true-iff, Bool·not-not}
+use mathlib.Core.Bool.{Bool, true, false, true≢false, cond, not, _&&_, and-false, and-eq-true-iff, Bool·not-not}
 use mathlib.Core.List.{List}
 use Prim.Native.Nat.{ℕ, _+_, _-_, _/_, _%_, _^_, _<_, _≤_, min}
 use native.Mathlib.Numerals.{add-one}
+use native.Mathlib.Decide.{decLt}
 use native.Mathlib.Omega.{arith}
 use lib.Bits.{bitAnd}
 use lib.Dec.{eqb, ltb}
 use lib.ListN.{length}
-use borrow.Author.Tests.{lt-ltb, le-ltb, ltb-true, le-leb, lt-leb}
-use Rattle.sets.specs.Set.{has, setOf, any, unionOf, intersectionOf, isEmpty, emptySet}
-use Rattle.sets.proofs.Digits.{wordOf-ext}
-use Rattle.sets.proofs.Laws.{has-setOf, has-intersection, union-setOf, setOf-ext, any-at, any-none, any-some, any-never, any-ext}
-use Rattle.table.specs.Layout.{tableWords, maxRules, maxPositions, rulesOf, recordAt, lastAt, recordWord, rowHas}
-use Rattle.table.specs.Automaton.{automaton, single}
-use Rattle.table.proofs.Rows.{under}
-use Rattle.steps.specs.Step.{setOn, numberOn, ends, endsLine, endsAtEnd, lastsOf, rulesWhere}
+use borrow.Author.Tests.{lt-ltb, le-ltb, le-leb, lt-leb}
+use Rattle.sets.specs.Set.{has, setOf, any, unionOf, intersectionOf, complementOf, isEmpty, emptySet}
+use Rattle.sets.proofs.Laws.{has-setOf, has-intersection, union-setOf, intersection-setOf, complement-setOf, setOf-ext, any-at, any-none, any-some, any-never, any-ext}
+use Rattle.table.specs.Layout.{tableWords, maxRules, maxPositions, rulesOf, lastAt, recordWord, rowHas}
+use Rattle.table.specs.Gaps.{unsettled, innerGaps, lastGaps}
+use Rattle.table.specs.Automaton.{Automaton, automaton, single}
+use Rattle.steps.specs.Step.{setOn, numberOn, ends, endsNewly, lastsOf, latesOf, rulesWhere}
 use Rattle.steps.proofs.Members.{placesBelow, places-capped, places-without}
 
 -- ---- words enough for a table, and fewer
@@ -47,96 +47,119 @@ meets-test s t =
     Bool·not-not (any maxPositions (has (intersectionOf s t)))
     ∙ any-ext maxPositions (has (intersectionOf s t)) (λ q. has s q && has t q) (λ q h. has-intersection s t q h)
 
--- a set meets a row
-pub meets-row : (s t : List ℕ) (at : ℕ) → any maxPositions (λ q. has s q && has (setOf (rowHas t at)) q) ≡ any maxPositions (λ q. has s q && rowHas t at q)
-meets-row s t at =
-    any-ext maxPositions (λ q. has s q && has (setOf (rowHas t at)) q) (λ q. has s q && rowHas t at q)
-    (λ q h. ap (λ (b : Bool). has s q && b) (has-setOf (rowHas t at) q h))
+-- ---- the rules that a set ends
 
--- ---- the rules that a set meets
+module _ (t : List ℕ) where
+  -- a rule's set of last positions at a gap
+  pub last-set : (g a : ℕ) → g < lastGaps → a < maxRules → setOf (rowHas t (lastAt a g)) ≡ setOf (automaton t .last g a)
+  unfolding automaton
+  last-set g a h l = ap₂ (λ (b c : Bool). setOf (λ p. b && (c && rowHas t (lastAt a g) p))) (sym (lt-ltb g lastGaps h)) (sym (lt-ltb a maxRules l))
 
--- the rule in place a has a live position in the set at this word of its record
-abbrev pub meeting : (t live : List ℕ) (field a : ℕ) → Bool
-meeting t live field a = any maxPositions (λ p. has live p && rowHas t (recordAt a + field) p)
+  -- no rule is past the last that a table can have
+  last-past : (g a p : ℕ) → maxRules ≤ a → automaton t .last g a p ≡ false
+  unfolding automaton
+  last-past g a p h = ap (λ (b : Bool). ltb g lastGaps && (b && rowHas t (lastAt a g) p)) (le-ltb a maxRules h) ∙ and-false (ltb g lastGaps)
 
-module _ (t live : List ℕ) (field : ℕ) where
-  -- the same, as the automaton has it
-  guarded : ℕ → Bool
-  guarded a = any maxPositions (λ p. has live p && (ltb a maxRules && rowHas t (recordAt a + field) p))
+  ends-past : (g : ℕ) (live : List ℕ) (a : ℕ) → maxRules ≤ a → ends (automaton t) g live a ≡ false
+  unfolding ends
+  ends-past g live a h =
+      any-never maxPositions (λ p. has live p && automaton t .last g a p)
+      (λ p l. ap (λ (b : Bool). has live p && b) (last-past g a p h) ∙ and-false (has live p))
 
-  meeting-guarded : (a : ℕ) → a < maxRules → meeting t live field a ≡ guarded a
-  unfolding guarded
-  meeting-guarded a h =
-      any-ext maxPositions (λ p. has live p && rowHas t (recordAt a + field) p) (λ p. has live p && (ltb a maxRules && rowHas t (recordAt a + field) p))
-      (λ p l. ap (λ (b : Bool). has live p && (b && rowHas t (recordAt a + field) p)) (sym (lt-ltb a maxRules h)))
+  -- so the rules that are looked at are all
+  pub ends-word : (g : ℕ) (live : List ℕ) → placesBelow (min (rulesOf t) maxRules) (ends (automaton t) g live) ≡ rulesWhere (automaton t) (ends (automaton t) g live)
+  unfolding automaton
+  ends-word g live = places-capped (ends (automaton t) g live) (rulesOf t) maxRules (ends-past g live)
 
-  guarded-past : (a : ℕ) → maxRules ≤ a → guarded a ≡ false
-  unfolding guarded
-  guarded-past a h =
-      any-never maxPositions (λ p. has live p && (ltb a maxRules && rowHas t (recordAt a + field) p))
-      (λ p l. ap (λ (b : Bool). has live p && (b && rowHas t (recordAt a + field) p)) (le-ltb a maxRules h) ∙ and-false (has live p))
+-- a set that meets a rule's last positions ends a match of it
+pub meets-last : (w : Automaton) (g : ℕ) (live : List ℕ) (a : ℕ) → any maxPositions (λ p. has live p && has (setOf (w .last g a)) p) ≡ ends w g live a
+unfolding ends
+meets-last w g live a =
+    any-ext maxPositions (λ p. has live p && has (setOf (w .last g a)) p) (λ p. has live p && w .last g a p)
+    (λ p h. ap (λ (b : Bool). has live p && b) (has-setOf (w .last g a) p h))
 
-  meeting-word : (n : ℕ) → placesBelow (min n maxRules) (meeting t live field) ≡ placesBelow n guarded
-  meeting-word n =
-      wordOf-ext 64 (λ a. ltb a (min n maxRules) && meeting t live field a) (λ a. ltb a (min n maxRules) && guarded a)
-      (λ a h. under (min n maxRules) a (λ b. b && meeting t live field a) (λ b. b && guarded a) (λ l. meeting-guarded a (omega arith)) refl)
-      ∙ places-capped guarded n maxRules guarded-past
+-- the digits of the rules that end at a gap, without those of the rules that ended where less was known
+pub newly-word : (w : Automaton) (g : ℕ) (set : List ℕ) (less : ℕ) (live : List ℕ) (x y : ℕ)
+    → x ≡ rulesWhere w (ends w g set) → y ≡ rulesWhere w (ends w less live) → bitAnd x (2 ^ 64 - 1 - y) ≡ rulesWhere w (endsNewly w g set less live)
+unfolding endsNewly
+newly-word w g set less live x y ex ey =
+    ap₂ (λ (a b : ℕ). bitAnd a (2 ^ 64 - 1 - b)) ex ey ∙ places-without (w .rules) (ends w g set) (ends w less live)
 
--- in their last sets: those that end plainly
-pub ends-word : (t live : List ℕ) → placesBelow (min (rulesOf t) maxRules) (meeting t live 3) ≡ rulesWhere (automaton t) (ends (automaton t) live)
-unfolding ends automaton guarded
-ends-word t live = meeting-word t live 3 (rulesOf t)
+-- ---- sets that are joined one a turn
 
--- in their last sets at the stream's end and not in these: those that need the end
-pub closing-word : (t all live : List ℕ) (x y : ℕ)
-    → x ≡ placesBelow (min (rulesOf t) maxRules) (meeting t all 7) → y ≡ rulesWhere (automaton t) (ends (automaton t) live)
-    → bitAnd x (2 ^ 64 - 1 - y) ≡ rulesWhere (automaton t) (λ a. endsAtEnd (automaton t) all a && not (ends (automaton t) live a))
-unfolding ends endsAtEnd automaton guarded
-closing-word t all live x y ex ey =
-    ap₂ (λ (a b : ℕ). bitAnd a (2 ^ 64 - 1 - b)) (ex ∙ meeting-word t all 7 (rulesOf t)) ey
-    ∙ places-without (rulesOf t) (endsAtEnd (automaton t) all) (ends (automaton t) live)
+-- what some set of a family has, below n
+abbrev pub joinedBelow : (ℕ → ℕ → Bool) → ℕ → List ℕ
+joinedBelow family n = setOf (λ q. any n (λ a. family a q))
 
--- and where the last line ends: those that need that
-pub line-word : (t live : List ℕ) (x y : ℕ)
-    → x ≡ placesBelow (min (rulesOf t) maxRules) (meeting t live 11) → y ≡ rulesWhere (automaton t) (ends (automaton t) live)
-    → bitAnd x (2 ^ 64 - 1 - y) ≡ rulesWhere (automaton t) (λ a. endsLine (automaton t) live a && not (ends (automaton t) live a))
-unfolding ends endsLine automaton guarded
-line-word t live x y ex ey =
-    ap₂ (λ (a b : ℕ). bitAnd a (2 ^ 64 - 1 - b)) (ex ∙ meeting-word t live 11 (rulesOf t)) ey
-    ∙ places-without (rulesOf t) (endsLine (automaton t) live) (ends (automaton t) live)
+module _ (family : ℕ → ℕ → Bool) where
+  pub joined-none : emptySet ≡ joinedBelow family 0
+  unfolding emptySet any
+  joined-none = refl
 
--- ---- the last sets
+  pub joined-more : (n : ℕ) → unionOf (joinedBelow family n) (setOf (family n)) ≡ joinedBelow family (n + 1)
+  unfolding any
+  joined-more n = union-setOf (λ q. any n (λ a. family a q)) (family n) ∙ ap (joinedBelow family) (sym (add-one n))
 
--- the last sets of the rules below n
-abbrev pub lastsBelow : List ℕ → ℕ → List ℕ
-lastsBelow t n = setOf (λ p. any n (λ a. rowHas t (lastAt a) p))
+  -- what none has from m on need not be asked there
+  joined-capped : (n m : ℕ) → ((a q : ℕ) → m ≤ a → family a q ≡ false) → joinedBelow family (min n m) ≡ joinedBelow family n
+  joined-capped n m past =
+      setOf-ext (λ q. any (min n m) (λ a. family a q)) (λ q. any n (λ a. family a q)) (λ q h. go q (any n (λ a. family a q)) refl)
+    where
+      go : (q : ℕ) (b : Bool) → any n (λ a. family a q) ≡ b → any (min n m) (λ a. family a q) ≡ b
+      go q true e = some (any-some n (λ a. family a q) e) (decLt (any-some n (λ a. family a q) e .0) m)
+        where
+          some : (r : (a : ℕ) × (a < n) × (family a q ≡ true)) → Dec (r .0 < m) → any (min n m) (λ a. family a q) ≡ true
+          some r (yes h) = any-at (min n m) (λ a. family a q) (r .0) (omega (arith, r .1)) (r .2)
+          some r (no h) = absurd (true≢false (sym (r .2) ∙ past (r .0) q (omega arith)))
+      go q false e = any-never (min n m) (λ a. family a q) (λ a h. any-none n (λ a. family a q) e a (omega arith))
 
-pub lasts-none : (t : List ℕ) → emptySet ≡ lastsBelow t 0
-unfolding emptySet any
-lasts-none t = refl
-
-pub lasts-more : (t : List ℕ) (n : ℕ) → unionOf (lastsBelow t n) (setOf (rowHas t (lastAt n))) ≡ lastsBelow t (n + 1)
-unfolding any
-lasts-more t n = union-setOf (λ p. any n (λ a. rowHas t (lastAt a) p)) (rowHas t (lastAt n)) ∙ ap (lastsBelow t) (sym (add-one n))
-
--- what is asked below n and m, and what holds below m only
-any-capped : (n m : ℕ) (f : ℕ → Bool) → any (min n m) f ≡ any n (λ a. ltb a m && f a)
-any-capped n m f = go (any n (λ a. ltb a m && f a)) refl
-  where
-    go : (b : Bool) → any n (λ a. ltb a m && f a) ≡ b → any (min n m) f ≡ b
-    go true e =
-        let r = any-some n (λ a. ltb a m && f a) e in
-        let h = and-eq-true-iff (ltb (r .0) m) (f (r .0)) .0 (r .2) in
-        any-at (min n m) f (r .0) (omega (arith, r .1, ltb-true (r .0) m (h .0))) (h .1)
-    go false e =
-        any-never (min n m) f
-        (λ a h. sym (ap (λ (b : Bool). b && f a) (lt-ltb a m (omega arith))) ∙ any-none n (λ a. ltb a m && f a) e a (omega arith))
-
-pub lasts-all : (t : List ℕ) → lastsBelow t (min (rulesOf t) maxRules) ≡ lastsOf (automaton t)
+-- the last sets of the rules, whatever follows
+pub lasts-all : (t : List ℕ) → joinedBelow (automaton t .last unsettled) (min (rulesOf t) maxRules) ≡ lastsOf (automaton t)
 unfolding lastsOf automaton
-lasts-all t =
-    setOf-ext (λ p. any (min (rulesOf t) maxRules) (λ a. rowHas t (lastAt a) p)) (λ p. any (rulesOf t) (λ a. ltb a maxRules && rowHas t (lastAt a) p))
-    (λ p h. any-capped (rulesOf t) maxRules (λ a. rowHas t (lastAt a) p))
+lasts-all t = joined-capped (automaton t .last unsettled) (rulesOf t) maxRules (λ a p h. last-past t unsettled a p h)
+
+-- the positions that end a match of a rule only where the next byte allows it
+abbrev pub lateIn : Automaton → (a p : ℕ) → Bool
+lateIn w a p = any innerGaps (λ g. w .last g a p) && not (w .last unsettled a p)
+
+pub late-set : (w : Automaton) (a : ℕ) (inner settled : List ℕ)
+    → inner ≡ joinedBelow (λ g. w .last g a) innerGaps → settled ≡ setOf (w .last unsettled a) → intersectionOf inner (complementOf settled) ≡ setOf (lateIn w a)
+late-set w a inner settled ei es =
+    ap₂ (λ (x y : List ℕ). intersectionOf x (complementOf y)) ei es
+    ∙ ap (intersectionOf (joinedBelow (λ g. w .last g a) innerGaps)) (complement-setOf (w .last unsettled a))
+    ∙ intersection-setOf (λ p. any innerGaps (λ g. w .last g a p)) (λ p. not (w .last unsettled a p))
+
+pub lates-all : (t : List ℕ) → joinedBelow (lateIn (automaton t)) (min (rulesOf t) maxRules) ≡ latesOf (automaton t)
+unfolding latesOf automaton
+lates-all t =
+    joined-capped (lateIn (automaton t)) (rulesOf t) maxRules
+    (λ a p h.
+    ap (λ (b : Bool). b && not (automaton t .last unsettled a p)) (any-never innerGaps (λ g. automaton t .last g a p) (λ g l. last-past t g a p h)))
+
+-- ---- a live set that waits for no byte
+
+-- no rule ends where the next byte is known and did not before, if no live position is one that ends a match only where that byte allows it
+pub lates-quiet : (w : Automaton) (live : List ℕ) → any maxPositions (λ p. has live p && has (latesOf w) p) ≡ false
+    → (g : ℕ) → g < innerGaps → (a : ℕ) → a < w .rules → endsNewly w g live unsettled live a ≡ false
+unfolding endsNewly ends latesOf
+lates-quiet w live none g h a l = go (ends w g live a) refl
+  where
+    earlier : (p : ℕ) → p < maxPositions → has live p ≡ true → w .last g a p ≡ true → (b : Bool) → w .last unsettled a p ≡ b → ends w unsettled live a ≡ true
+    earlier p m e i true u = any-at maxPositions (λ p. has live p && w .last unsettled a p) p m (ap₂ (λ (x y : Bool). x && y) e u)
+    earlier p m e i false u =
+        let late : lateIn w a p ≡ true = ap₂ (λ (x y : Bool). x && not y) (any-at innerGaps (λ g. w .last g a p) g h i) u in
+        let in-lates : has (latesOf w) p ≡ true = has-setOf (λ p. any (w .rules) (λ a. lateIn w a p)) p m ∙ any-at (w .rules) (λ a. lateIn w a p) a l late in
+        absurd (true≢false (sym (ap₂ (λ (x y : Bool). x && y) e in-lates) ∙ any-none maxPositions (λ p. has live p && has (latesOf w) p) none p m))
+
+    settled : ends w g live a ≡ true → ends w unsettled live a ≡ true
+    settled e =
+        let r = any-some maxPositions (λ p. has live p && w .last g a p) e in
+        let both = and-eq-true-iff (has live (r .0)) (w .last g a (r .0)) .0 (r .2) in
+        earlier (r .0) (r .1) (both .0) (both .1) (w .last unsettled a (r .0)) refl
+
+    go : (b : Bool) → ends w g live a ≡ b → (ends w g live a && not (ends w unsettled live a)) ≡ false
+    go true e = ap₂ (λ (x y : Bool). x && not y) e (settled e)
+    go false e = ap (λ (x : Bool). x && not (ends w unsettled live a)) e
 
 -- ---- a rule's record
 

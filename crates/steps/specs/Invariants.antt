@@ -1,9 +1,8 @@
 -- What the private functions promise, where that is not an equation with a definition that a reader must believe. Assumes nothing: these are definitions.
-use mathlib.Core.Bool.{Bool, true, false}
 use mathlib.Core.List.{List}
 use Prim.Native.Nat.{ℕ, zero, suc, _+_, _*_}
 use Rattle.sets.specs.Set.{setOf, unionOf}
-use Rattle.table.specs.Layout.{rowHas, followAt, lineFollowAt}
+use Rattle.table.specs.Layout.{rowHas}
 use Rattle.steps.specs.Walk.{asked}
 
 -- a set joined with the rows, which begin at word `rows`, of the positions that the first n turns of the walk over a word ask; digit k of the word is position
@@ -11,8 +10,3 @@ use Rattle.steps.specs.Walk.{asked}
 unfoldable pub joined : (t : List ℕ) → (rows word base : ℕ) → (from : List ℕ) → ℕ → List ℕ
 joined t rows word base from zero = from
 joined t rows word base from (suc n) = unionOf (joined t rows word base from n) (setOf (rowHas t (rows + (base + asked word n) * 4)))
-
--- where the rows of what follows a position begin: where `line` is true, those at a gap where the last line ends
-abbrev pub followRows : Bool → ℕ
-followRows true = lineFollowAt 0
-followRows false = followAt 0

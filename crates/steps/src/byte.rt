@@ -1,65 +1,48 @@
 // What one byte does to a live set: the first positions, joined with what follows the live ones, met with those that take the byte.
 use super::rows::row;
 use super::walk::walk;
+use kinds::Side;
+use table::gaps::INNER_GAPS;
+use table::gaps::first_gap;
+use table::gaps::gap_of;
 use table::layout::FIRST_AT;
-use table::layout::FIRST_AT_START_AT;
 use table::layout::FOLLOW_AT;
-use table::layout::LINE_FIRST_AT;
-use table::layout::LINE_FIRST_AT_START_AT;
-use table::layout::LINE_FOLLOW_AT;
+use table::layout::FOLLOW_WORDS;
 use table::layout::SET_WORDS;
 use table::layout::TABLE_WORDS;
 use table::layout::TAKERS_AT;
 ghost use mathlib.Core.Path.{_≡_};
-ghost use Prim.Native.Nat.{_≤_};
+ghost use Prim.Native.Nat.{_≤_, _<_};
 ghost use lib.ListN.{length};
 ghost use Rattle.sets.specs.Set.{setOf, sizeOf};
 ghost use Rattle.table.specs.Layout.{tableWords};
-ghost use Rattle.table.specs.Automaton.{automaton, firstIn, startIn};
-ghost use Rattle.steps.specs.Step.{setOn, numberOn, starts, stepped};
-ghost use Rattle.steps.specs.Invariants.{followRows};
+ghost use Rattle.table.specs.Gaps.{firstGaps};
+ghost use Rattle.table.specs.Automaton.{automaton};
+ghost use Rattle.steps.specs.Step.{setOn, numberOn, stepped, firstsOf};
 
-// The positions that can take the first byte of a match inside the stream; where `line` is true, as if its last line ended before that byte.
-fn firsts_inside(line: bool, words: &[u64]) -> [u64; 4]
-    requires { ⌜ tableWords ≤ length (now words) ⌝ }
-    ensures { λ r. ⌜ r ≡ setOf (firstIn (automaton (now (words .entry))) line) ⌝ }
+// The positions that can take the first byte of a match after a gap.
+fn firsts(gap: usize, words: &[u64]) -> [u64; 4]
+    requires { ⌜ (tableWords ≤ length (now words)) × (gap < firstGaps) ⌝ }
+    ensures { λ r. ⌜ r ≡ setOf (automaton (now (words .entry)) .first gap) ⌝ }
 {
-    if line {
-        row(words, LINE_FIRST_AT)
-    } else {
-        row(words, FIRST_AT)
-    }
+    row(words, FIRST_AT + gap * SET_WORDS)
 }
 
-// The same at the stream's start.
-fn firsts_at_start(line: bool, words: &[u64]) -> [u64; 4]
-    requires { ⌜ tableWords ≤ length (now words) ⌝ }
-    ensures { λ r. ⌜ r ≡ setOf (startIn (automaton (now (words .entry))) line) ⌝ }
+// The positions that can take the first byte of a match somewhere inside the stream.
+pub fn openings(words: &[u64]) -> [u64; 4]
+    ensures { λ r. ⌜ r ≡ setOn (now (words .entry)) (firstsOf (automaton (now (words .entry)))) ⌝ }
 {
-    if line {
-        row(words, LINE_FIRST_AT_START_AT)
-    } else {
-        row(words, FIRST_AT_START_AT)
+    if words.len() < TABLE_WORDS {
+        return sets::empty();
     }
-}
-
-// The same `taken` bytes into the stream.
-fn firsts(line: bool, words: &[u64], taken: u64) -> [u64; 4]
-    requires { ⌜ tableWords ≤ length (now words) ⌝ }
-    ensures { λ r. ⌜ r ≡ setOf (starts (automaton (now (words .entry))) line taken) ⌝ }
-{
-    if taken == 0 {
-        firsts_at_start(line, words)
-    } else {
-        firsts_inside(line, words)
+    let mut s = sets::empty();
+    let mut g: usize = 0;
+    while g < INNER_GAPS {
+        let t = sets::union(s, firsts(g, words));
+        s = t;
+        g += 1;
     }
-}
-
-// Where the rows of what follows a position begin.
-fn follow_rows(line: bool) -> usize
-    ensures { λ r. ⌜ r ≡ followRows line ⌝ }
-{
-    if line { LINE_FOLLOW_AT } else { FOLLOW_AT }
+    s
 }
 
 // The positions that take a byte.
@@ -78,17 +61,19 @@ pub struct Stepped {
     pub turns: u32,
 }
 
-// The step of one more byte, `taken` bytes into the stream; where `line` is true, as if the last line ended before the byte. A caller reads the
-// number of positions once, and not for each byte.
+// The step of one more byte, `taken` bytes into the stream, where `before` and `after` are the sides of the gap before it; where `line` is true, as if the byte were a
+// newline and the last. A caller reads the number of positions once, and not for each byte.
 pub fn step(
     line: bool,
+    before: Side,
+    after: Side,
     live: [u64; 4],
     taken: u64,
     words: &[u64],
     positions: usize,
     byte: u8,
 ) -> Stepped
-    ensures live { λ r. ⌜ r .live ≡ setOn (now (words .entry)) (stepped (automaton (now (words .entry))) line positions live taken byte) ⌝ }
+    ensures live { λ r. ⌜ r .live ≡ setOn (now (words .entry)) (stepped (automaton (now (words .entry))) line before after positions live taken byte) ⌝ }
     ensures turns { λ r. ⌜ r .turns ≡ numberOn (now (words .entry)) (sizeOf live) ⌝ }
 {
     if words.len() < TABLE_WORDS {
@@ -98,7 +83,9 @@ pub fn step(
             turns: 0,
         };
     }
-    let walked = walk(live, firsts(line, words, taken), follow_rows(line), words);
+    let first = firsts(first_gap(line, taken, before, after), words);
+    let rows = FOLLOW_AT + gap_of(line, before, after) * FOLLOW_WORDS;
+    let walked = walk(live, first, rows, words);
     let reached = walked.set;
     let next = sets::below(sets::intersection(reached, takers(words, byte)), positions);
     Stepped {

@@ -6,11 +6,14 @@ mod rows;
 mod walk;
 
 pub use byte::Stepped;
+pub use byte::openings;
 pub use byte::step;
 pub use byte::takers;
 pub use rows::closing;
 pub use rows::ending;
 pub use rows::lasts;
+pub use rows::late_ending;
+pub use rows::lates;
 pub use rows::line_ending;
 pub use rows::meets;
 pub use rows::rule_id;

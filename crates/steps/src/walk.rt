@@ -18,7 +18,7 @@ pub(super) struct Walked {
 
 // Joins the rows of the positions of one live word, whose digit k is position base + k.
 fn walk_word(mut word: u64, base: usize, mut set: [u64; 4], rows: usize, words: &[u64]) -> Walked
-    requires { ⌜ (tableWords ≤ length (now words)) × (base ≤ 192) × (rows ≤ 3072) ⌝ }
+    requires { ⌜ (tableWords ≤ length (now words)) × (base ≤ 192) × (rows ≤ 14336) ⌝ }
     ensures { λ r. ⌜ (r .turns ≡ ones word) × (r .set ≡ joined (now (words .entry)) rows word base set (ones word)) ⌝ }
 {
     let mut turns: u32 = 0;
@@ -35,7 +35,7 @@ fn walk_word(mut word: u64, base: usize, mut set: [u64; 4], rows: usize, words: 
 
 // Joins the row of each live position.
 pub(super) fn walk(live: [u64; 4], from: [u64; 4], rows: usize, words: &[u64]) -> Walked
-    requires { ⌜ (tableWords ≤ length (now words)) × (rows ≤ 3072) ⌝ }
+    requires { ⌜ (tableWords ≤ length (now words)) × (rows ≤ 14336) ⌝ }
     ensures turns { λ r. ⌜ r .turns ≡ sizeOf live ⌝ }
     ensures set { λ r. ⌜ r .set ≡ setOf (λ q. has from q || any maxPositions (λ p. has live p && rowHas (now (words .entry)) (rows + p * 4) q)) ⌝ }
 {

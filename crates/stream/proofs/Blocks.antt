@@ -1,4 +1,4 @@
--- Some bytes of a block, one more at a time. The ids, the offsets and the cost only grow, with at most as many reports a byte as there are rules, and at most 257
+-- Some bytes of a block, one more at a time. The ids, the offsets and the cost only grow, with at most two reports of a rule a byte, and at most 257
 -- units, so `fits` is the one number of bytes that fit and can be paid for while one more would not. What the parts of a block give is joined in `two-parts`.
 use mathlib.Core.Path.{_≡_, refl, sym, ap, ap₂, _∙_, subst}
 use mathlib.Core.Bool.{Bool, true, false, true≢false, cond, _&&_, and-false, and-eq-true-iff}
@@ -10,17 +10,29 @@ use native.Mathlib.Decide.{le-ind}
 use native.Mathlib.Numerals.{add-one}
 use native.Mathlib.Omega.{arith}
 use lib.Dec.{leb}
-use lib.ListN.{length, getD, drop, replicate, length-append, length-replicate, List·getD-append}
+use lib.ListN.{length, getD, drop, length-append, List·getD-append}
 use lib.Seq.{getD-drop, drop-append-seam}
 use borrow.Author.Tests.{le-leb, lt-leb, leb-true}
 use Rattle.sets.specs.Set.{has, sizeOf}
 use Rattle.sets.proofs.Digits.{count-le}
 use Rattle.table.specs.Layout.{maxPositions}
 use Rattle.table.specs.Automaton.{Automaton}
-use Rattle.steps.specs.Step.{ends}
 use Rattle.stream.specs.declared.Stream.{Stream}
-use Rattle.stream.specs.Byte.{nextLive, byteIds, byteState, stateAfter, idsOf, endsOf, costOf, within, fits}
-use Rattle.stream.proofs.Runs.{run-few}
+use Rattle.stream.specs.Byte.{lateTest, ownTest, byteIds, byteEnds, byteState, stateAfter, idsOf, endsOf, costOf, within, fits}
+use Rattle.stream.specs.Invariants.{sideAt}
+use Rattle.stream.proofs.TwoRuns.{two-few, two-ends-count}
+
+-- ---- one byte
+
+module _ (w : Automaton) (s : Stream) (x : ℕ) where
+  byte-few : length (byteIds w s x) ≤ 2 * w .rules
+  unfolding byteIds
+  byte-few = two-few w (lateTest w s x) (ownTest w s x) (s .reported)
+
+  -- each id has an offset
+  byte-ends-count : length (byteEnds w s x) ≡ length (byteIds w s x)
+  unfolding byteIds byteEnds
+  byte-ends-count = two-ends-count w (lateTest w s x) (ownTest w s x) (s .reported) (s .taken) (suc (s .taken))
 
 module _ (w : Automaton) (s : Stream) (block : List ℕ) where
   -- ---- one more byte
@@ -37,11 +49,9 @@ module _ (w : Automaton) (s : Stream) (block : List ℕ) where
   unfolding idsOf
   ids-more k = ap (idsOf w s block) (add-one k)
 
-  pub ends-more : (k : ℕ) → endsOf w s block (k + 1) ≡ endsOf w s block k ++ replicate (length (byteIds w (stateAfter w s block k) (getD block k 0))) (s .taken + (k + 1))
+  pub ends-more : (k : ℕ) → endsOf w s block (k + 1) ≡ endsOf w s block k ++ byteEnds w (stateAfter w s block k) (getD block k 0)
   unfolding endsOf
-  ends-more k =
-      ap (endsOf w s block) (add-one k)
-      ∙ ap (λ (n : ℕ). endsOf w s block k ++ replicate (length (byteIds w (stateAfter w s block k) (getD block k 0))) (s .taken + n)) (sym (add-one k))
+  ends-more k = ap (endsOf w s block) (add-one k)
 
   -- ---- what does not change, and what is counted
 
@@ -65,27 +75,30 @@ module _ (w : Automaton) (s : Stream) (block : List ℕ) where
   closed-after zero = refl
   closed-after (suc k) = closed-after k
 
+  -- the side before the next byte
+  pub last-after : (k : ℕ) → stateAfter w s block k .last ≡ sideAt (s .last) block k
+  unfolding stateAfter byteState sideAt
+  last-after zero = refl
+  last-after (suc k) = refl
+
   -- each id has an offset
   pub ends-count : (k : ℕ) → length (endsOf w s block k) ≡ length (idsOf w s block k)
   unfolding idsOf endsOf
   ends-count zero = refl
   ends-count (suc k) =
-      length-append (endsOf w s block k) (replicate (length new) (s .taken + suc k))
-      ∙ ap₂ (λ (x y : ℕ). x + y) (ends-count k) (length-replicate (length new) (s .taken + suc k))
-      ∙ sym (length-append (idsOf w s block k) new)
-    where
-      new : List ℕ
-      new = byteIds w (stateAfter w s block k) (getD block k 0)
+      let z : Stream = stateAfter w s block k in
+      length-append (endsOf w s block k) (byteEnds w z (getD block k 0))
+      ∙ ap₂ (λ (x y : ℕ). x + y) (ends-count k) (byte-ends-count w z (getD block k 0))
+      ∙ sym (length-append (idsOf w s block k) (byteIds w z (getD block k 0)))
 
-  -- a byte has at most as many reports as there are rules
-  pub byte-few : (k : ℕ) → length (idsOf w s block (k + 1)) ≤ length (idsOf w s block k) + w .rules
-  unfolding byteIds
-  byte-few k =
+  -- a byte has at most two reports of a rule
+  ids-few : (k : ℕ) → length (idsOf w s block (k + 1)) ≤ length (idsOf w s block k) + 2 * w .rules
+  ids-few k =
       omega (
         arith,
         ap length (ids-more k),
         length-append (idsOf w s block k) (byteIds w (stateAfter w s block k) (getD block k 0)),
-        run-few w (ends w (nextLive w (stateAfter w s block k) (getD block k 0))) (stateAfter w s block k .reported) (w .rules),
+        byte-few w (stateAfter w s block k) (getD block k 0),
       )
 
   pub ids-grow : (j k : ℕ) → j ≤ k → length (idsOf w s block j) ≤ length (idsOf w s block k)
@@ -205,8 +218,8 @@ module _ (w : Automaton) (s : Stream) (block : List ℕ) where
             (λ l. ih (omega arith)) (eq-or-lt-of-le h)
 
     -- where a byte's reports fit and any byte can be paid for, one byte is taken
-    pub one-fits : (room k : ℕ) → 0 < k → w .rules ≤ room → 257 ≤ allowance → 0 < fits w s allowance block room k
-    one-fits room k h l c = omega (arith, fits-most room 1 k (omega arith) (omega (arith, byte-few 0, ids-none)) (omega (arith, byte-cost 0, cost-none)))
+    pub one-fits : (room k : ℕ) → 0 < k → 2 * w .rules ≤ room → 257 ≤ allowance → 0 < fits w s allowance block room k
+    one-fits room k h l c = omega (arith, fits-most room 1 k (omega arith) (omega (arith, ids-few 0, ids-none)) (omega (arith, byte-cost 0, cost-none)))
 
   -- more allowance takes no fewer bytes
   pub fits-further : (a b : ℕ) → a ≤ b → (room k : ℕ) → fits w s a block room k ≤ fits w s b block room k
@@ -224,26 +237,24 @@ module _ (w : Automaton) (s : Stream) (block : List ℕ) (j : ℕ) where
   state-later (suc k) =
       ap (stateAfter w s block) (add-suc j k) ∙ ap₂ (byteState w) (state-later k) (sym (getD-drop j block k 0))
 
-  byte-later : (k : ℕ) → byteIds w (stateAfter w s block (j + k)) (getD block (j + k) 0)
-      ≡ byteIds w (stateAfter w (stateAfter w s block j) (drop j block) k) (getD (drop j block) k 0)
-  byte-later k = ap₂ (byteIds w) (state-later k) (sym (getD-drop j block k 0))
+  -- what a byte gives, the same of both
+  byte-later : (f : Stream → ℕ → List ℕ) (k : ℕ) → f (stateAfter w s block (j + k)) (getD block (j + k) 0)
+      ≡ f (stateAfter w (stateAfter w s block j) (drop j block) k) (getD (drop j block) k 0)
+  byte-later f k = ap₂ f (state-later k) (sym (getD-drop j block k 0))
 
   pub ids-later : (k : ℕ) → idsOf w s block (j + k) ≡ idsOf w s block j ++ idsOf w (stateAfter w s block j) (drop j block) k
   unfolding idsOf
   ids-later zero = ap (idsOf w s block) (add-zero j) ∙ sym (append-nil (idsOf w s block j))
   ids-later (suc k) =
-      ap (idsOf w s block) (add-suc j k) ∙ ap₂ (λ (x y : List ℕ). x ++ y) (ids-later k) (byte-later k)
+      ap (idsOf w s block) (add-suc j k) ∙ ap₂ (λ (x y : List ℕ). x ++ y) (ids-later k) (byte-later (byteIds w) k)
       ∙ append-assoc (idsOf w s block j) (idsOf w (stateAfter w s block j) (drop j block) k) (byteIds w (stateAfter w (stateAfter w s block j) (drop j block) k) (getD (drop j block) k 0))
 
   pub ends-later : (k : ℕ) → endsOf w s block (j + k) ≡ endsOf w s block j ++ endsOf w (stateAfter w s block j) (drop j block) k
   unfolding endsOf
   ends-later zero = ap (endsOf w s block) (add-zero j) ∙ sym (append-nil (endsOf w s block j))
   ends-later (suc k) =
-      let offset : s .taken + suc (j + k) ≡ stateAfter w s block j .taken + suc k = omega (arith, taken-after w s block j) in
-      ap (endsOf w s block) (add-suc j k)
-      ∙ ap₂ (λ (x y : List ℕ). x ++ y) (ends-later k) (ap₂ (λ (l : List ℕ) (n : ℕ). replicate (length l) n) (byte-later k) offset)
-      ∙ append-assoc (endsOf w s block j) (endsOf w (stateAfter w s block j) (drop j block) k)
-      (replicate (length (byteIds w (stateAfter w (stateAfter w s block j) (drop j block) k) (getD (drop j block) k 0))) (stateAfter w s block j .taken + suc k))
+      ap (endsOf w s block) (add-suc j k) ∙ ap₂ (λ (x y : List ℕ). x ++ y) (ends-later k) (byte-later (byteEnds w) k)
+      ∙ append-assoc (endsOf w s block j) (endsOf w (stateAfter w s block j) (drop j block) k) (byteEnds w (stateAfter w (stateAfter w s block j) (drop j block) k) (getD (drop j block) k 0))
 
 -- bytes past those that are taken do not count
 module _ (w : Automaton) (s : Stream) (a b : List ℕ) where
@@ -252,19 +263,18 @@ module _ (w : Automaton) (s : Stream) (a b : List ℕ) where
   state-front zero h = refl
   state-front (suc k) h = ap₂ (byteState w) (state-front k (omega arith)) (List·getD-append a b 0 k h)
 
-  byte-front : (k : ℕ) → k < length a → byteIds w (stateAfter w s (a ++ b) k) (getD (a ++ b) k 0) ≡ byteIds w (stateAfter w s a k) (getD a k 0)
-  byte-front k h = ap₂ (byteIds w) (state-front k (omega arith)) (List·getD-append a b 0 k h)
+  byte-front : (f : Stream → ℕ → List ℕ) (k : ℕ) → k < length a → f (stateAfter w s (a ++ b) k) (getD (a ++ b) k 0) ≡ f (stateAfter w s a k) (getD a k 0)
+  byte-front f k h = ap₂ f (state-front k (omega arith)) (List·getD-append a b 0 k h)
 
   pub ids-front : (k : ℕ) → k ≤ length a → idsOf w s (a ++ b) k ≡ idsOf w s a k
   unfolding idsOf
   ids-front zero h = refl
-  ids-front (suc k) h = ap₂ (λ (x y : List ℕ). x ++ y) (ids-front k (omega arith)) (byte-front k h)
+  ids-front (suc k) h = ap₂ (λ (x y : List ℕ). x ++ y) (ids-front k (omega arith)) (byte-front (byteIds w) k h)
 
   pub ends-front : (k : ℕ) → k ≤ length a → endsOf w s (a ++ b) k ≡ endsOf w s a k
   unfolding endsOf
   ends-front zero h = refl
-  ends-front (suc k) h =
-      ap₂ (λ (x y : List ℕ). x ++ y) (ends-front k (omega arith)) (ap (λ (l : List ℕ). replicate (length l) (s .taken + suc k)) (byte-front k h))
+  ends-front (suc k) h = ap₂ (λ (x y : List ℕ). x ++ y) (ends-front k (omega arith)) (byte-front (byteEnds w) k h)
 
 -- a block in two parts, one after the other, gives the ids, the offsets and the state of the whole
 pub record TwoParts (w : Automaton) (s : Stream) (a b : List ℕ) : Type 0 where

@@ -4,7 +4,6 @@ use mathlib.Core.Path.{_≡_}
 use mathlib.Core.List.{List}
 use Prim.Native.Nat.{ℕ, _+_, _-_, _*_, _^_, _<_, _≤_, min}
 use native.Mathlib.Omega.{arith}
-use lib.ListN.{length, take, drop, length-take, length-drop}
 use mir.Syntax.{w64}
 use mir.Val.{Fits}
 use Rattle.table.specs.Layout.{tableWords, maxRules, rulesOf}
@@ -41,11 +40,15 @@ all-spent to end n at left d e h = omega arith
 pub sum-fits : (a b n : ℕ) → a + n < 2 ^ 64 → b ≤ n → Fits w64 (a + b)
 sum-fits a b n h l = record { fits = omega arith }
 
-pub next-fits : (a b n : ℕ) → a + n < 2 ^ 64 → b < n → Fits w64 (a + b + 1)
-next-fits a b n h l = record { fits = omega arith }
+pub next-small : (a b n : ℕ) → a + n < 2 ^ 64 → b < n → a + b + 1 < 2 ^ 64
+next-small a b n h l = omega arith
 
 pub after-fits : (a b n : ℕ) → a + n < 2 ^ 64 → b < n → Fits w64 (b + 1)
 after-fits a b n h l = record { fits = omega arith }
+
+-- a number for each rule
+pub dues-fit : (m n : ℕ) → m ≤ 64 → n ≤ 64 → Fits w64 (m + n)
+dues-fit m n h l = record { fits = omega arith }
 
 -- a stream stays within its limit
 pub short-fits : (a n : ℕ) → a + n ≤ streamLimit → a + n < 2 ^ 64
@@ -78,14 +81,6 @@ module _ (n rules : ℕ) (few : n ≤ rules) (h : rules ≤ maxRules) where
 
   pub runs-fit : (m : ℕ) → m ≤ rules → Fits w64 (n + m)
   runs-fit m l = record { fits = omega arith }
-
-  -- a list with room for two runs has room for the second behind the first
-  module _ (list : List ℕ) (long : ℕ) (room : 2 * rules ≤ long) (same : length list ≡ long) where
-    pub first-inside : n ≤ length list
-    first-inside = omega (arith, same)
-
-    pub second-room : (m : ℕ) → m ≤ rules → m ≤ length (take (length list - n) (drop n list))
-    second-room m l = omega (arith, same, length-take (length list - n) (drop n list), length-drop n list)
 
 -- ---- the rules of a table
 

@@ -1,4 +1,4 @@
--- What callers may count on. An accepted scan that may use 257 units takes some byte, since there is space for the reports of one; the state that comes back is valid again, since a live
+-- What callers may count on. An accepted scan that may use 257 units takes some byte, since there is space for two reports of each rule; the state that comes back is valid again, since a live
 -- set is kept below the count, a mark is set for single-match rules alone, and the bytes stay within the limit.
 use mathlib.Core.Path.{_≡_, refl, sym, ap, ap₂, _∙_}
 use mathlib.Core.Bool.{Bool, true, false, cond, not, _||_, _&&_, or-true, and-false}
@@ -11,15 +11,19 @@ use borrow.Author.Tests.{eq-eqb, ne-eqb, eqb-true, not-true, le-leb, ltb-true}
 use Rattle.sets.specs.Set.{on, has, setOf, wordOf, any, emptySet, sizeOf}
 use Rattle.sets.proofs.Digits.{on-zero, on-wordOf}
 use Rattle.sets.proofs.Laws.{has-setOf, has-empty, any-none, any-never, count-never}
+use Rattle.kinds.specs.declared.Side.{Side}
+use Rattle.kinds.specs.declared.Side.the-variants.{Newline}
+use Rattle.kinds.specs.Side.{sideOf}
 use Rattle.table.specs.Layout.{maxPositions, rulesOf, positionsOf}
 use Rattle.table.specs.Table.{isTable}
-use Rattle.table.specs.Automaton.{Automaton, automaton, single, followIn}
-use Rattle.steps.specs.Step.{starts, stepped, ends, endsLine, rulesWhere}
+use Rattle.table.specs.Gaps.{between, beforeLast, gapOf, firstGap}
+use Rattle.table.specs.Automaton.{Automaton, automaton, single}
+use Rattle.steps.specs.Step.{stepped, endsNewly, rulesWhere}
 use Rattle.steps.proofs.Members.{not-below}
 use Rattle.stream.specs.declared.Stream.{Stream}
 use Rattle.stream.specs.declared.Scanned.{Scanned}
 use Rattle.stream.specs.declared.Closed.{Closed}
-use Rattle.stream.specs.Byte.{nextLive, nextHeld, nextPending, runMarks, byteState, stateAfter, idsOf, costOf, fits, closeIds, busyOf}
+use Rattle.stream.specs.Byte.{nextHeld, nextPending, runMarks, twoMarks, lateTest, ownTest, byteState, stateAfter, idsOf, costOf, fits, closeIds, busyOf}
 use Rattle.stream.specs.Valid.{streamLimit, sameCounts, liveInside, marksSingle, underLimit, heldInside, pendingInside, pendingLate, valid}
 use Rattle.stream.specs.Calls.{fresh, opened, space, scanNumber, closeNumber, takenBy, scanned, shut, closed}
 use Rattle.stream.proofs.Blocks.{cost-some, cost-few, fits-le, fits-within, one-fits, taken-after, rules-after, positions-after}
@@ -57,9 +61,9 @@ opened-valid t e =
 -- ---- a valid state stays valid
 
 -- a step stays below the count
-module _ (w : Automaton) (line : Bool) (live : List ℕ) (taken x : ℕ) where
+module _ (w : Automaton) (line : Bool) (before after : Side) (live : List ℕ) (taken x : ℕ) where
   rest : ℕ → Bool
-  rest q = w .takes x q && (starts w line taken q || any maxPositions (λ p. has live p && followIn w line p q))
+  rest q = w .takes x q && (w .first (firstGap line taken before after) q || any maxPositions (λ p. has live p && w .follow (gapOf line before after) p q))
 
   takers : ℕ → Bool
   takers q = ltb q (w .positions) && rest q
@@ -69,7 +73,7 @@ module _ (w : Automaton) (line : Bool) (live : List ℕ) (taken x : ℕ) where
   apart true false = refl
   apart false b = refl
 
-  inside-step : not (any maxPositions (λ q. has (stepped w line (w .positions) live taken x) q && leb (w .positions) q)) ≡ true
+  inside-step : not (any maxPositions (λ q. has (stepped w line before after (w .positions) live taken x) q && leb (w .positions) q)) ≡ true
   unfolding stepped rest takers
   inside-step =
       ap not (any-never maxPositions (λ q. has (setOf takers) q && leb (w .positions) q)
@@ -77,15 +81,15 @@ module _ (w : Automaton) (line : Bool) (live : List ℕ) (taken x : ℕ) where
 
 inside-next : (w : Automaton) (s : Stream) (x : ℕ) → liveInside w (byteState w s x) ≡ true
 unfolding liveInside byteState
-inside-next w s x = inside-step w false (s .live) (s .taken) x
+inside-next w s x = inside-step w false (s .last) (sideOf x) (s .live) (s .taken) x
 
 -- what is held is such a step, or nothing
 held-next : (w : Automaton) (s : Stream) (x : ℕ) → heldInside w (byteState w s x) ≡ true
 unfolding heldInside byteState nextHeld
 held-next w s x = go (eqb x 10)
   where
-    go : (b : Bool) → not (any maxPositions (λ q. has (cond b (stepped w true (w .positions) (s .live) (s .taken) x) emptySet) q && leb (w .positions) q)) ≡ true
-    go true = inside-step w true (s .live) (s .taken) x
+    go : (b : Bool) → not (any maxPositions (λ q. has (cond b (stepped w true (s .last) (sideOf x) (w .positions) (s .live) (s .taken) x) emptySet) q && leb (w .positions) q)) ≡ true
+    go true = inside-step w true (s .last) (sideOf x) (s .live) (s .taken) x
     go false = ap not (any-never maxPositions (λ q. has emptySet q && leb (w .positions) q) (λ q h. ap (λ (b : Bool). b && leb (w .positions) q) (has-empty q h)))
 
 -- a pair is held for rules of the table alone, and where a byte stands before its end offset
@@ -93,8 +97,11 @@ pending-next : (w : Automaton) (s : Stream) (x : ℕ) → pendingInside w (byteS
 unfolding pendingInside byteState nextPending
 pending-next w s x = go (eqb x 10 && ltb 0 (s .taken))
   where
+    pair : ℕ → Bool
+    pair = endsNewly w (beforeLast (s .last)) (s .live) (between (s .last) Newline) (s .live)
+
     test : ℕ → Bool
-    test a = ltb a (w .rules) && (endsLine w (s .live) a && not (ends w (s .live) a))
+    test a = ltb a (w .rules) && pair a
 
     apart : (a b : Bool) → ((a && b) && not a) ≡ false
     apart true true = refl
@@ -104,7 +111,7 @@ pending-next w s x = go (eqb x 10 && ltb 0 (s .taken))
     go : (b : Bool) → not (any 64 (λ a. on (cond b (wordOf 64 test) 0) a && not (ltb a (w .rules)))) ≡ true
     go true =
         ap not (any-never 64 (λ a. on (wordOf 64 test) a && not (ltb a (w .rules)))
-        (λ a h. ap (λ (b : Bool). b && not (ltb a (w .rules))) (on-wordOf 64 test a h) ∙ apart (ltb a (w .rules)) (endsLine w (s .live) a && not (ends w (s .live) a))))
+        (λ a h. ap (λ (b : Bool). b && not (ltb a (w .rules))) (on-wordOf 64 test a h) ∙ apart (ltb a (w .rules)) (pair a)))
     go false = ap not (any-never 64 (λ a. on 0 a && not (ltb a (w .rules))) (λ a h. ap (λ (b : Bool). b && not (ltb a (w .rules))) (on-zero a)))
 
 late-next : (w : Automaton) (s : Stream) (x : ℕ) → pendingLate (byteState w s x) ≡ true
@@ -112,23 +119,26 @@ unfolding pendingLate byteState nextPending
 late-next w s x = go (ltb 0 (s .taken)) refl
   where
     pairs : ℕ
-    pairs = rulesWhere w (λ a. endsLine w (s .live) a && not (ends w (s .live) a))
+    pairs = rulesWhere w (endsNewly w (beforeLast (s .last)) (s .live) (between (s .last) Newline) (s .live))
 
     go : (b : Bool) → ltb 0 (s .taken) ≡ b → (eqb (cond (eqb x 10 && b) pairs 0) 0 || leb 2 (suc (s .taken))) ≡ true
     go true e = ap (λ (b : Bool). eqb (cond (eqb x 10 && true) pairs 0) 0 || b) (le-leb 2 (suc (s .taken)) (omega (arith, ltb-true 0 (s .taken) e))) ∙ or-true (eqb (cond (eqb x 10 && true) pairs 0) 0)
     go false e = ap (λ (b : Bool). eqb (cond b pairs 0) 0 || leb 2 (suc (s .taken))) (and-false (eqb x 10))
 
--- a mark is set for single-match rules alone
-single-next : (w : Automaton) (s : Stream) (x : ℕ) → marksSingle w s ≡ true → marksSingle w (byteState w s x) ≡ true
-unfolding marksSingle byteState runMarks
-single-next w s x e =
+-- a mark is set for single-match rules alone, in each run
+only-single : Automaton → ℕ → Bool
+only-single w marks = not (any 64 (λ a. on marks a && not (ltb a (w .rules) && single w a)))
+
+single-run : (w : Automaton) (test : ℕ → Bool) (marks : ℕ) → only-single w marks ≡ true → only-single w (runMarks w test marks) ≡ true
+unfolding only-single runMarks
+single-run w test marks e =
     ap not (any-never 64 (λ a. on (wordOf 64 marked) a && not (ltb a (w .rules) && single w a))
     (λ a h. ap (λ (b : Bool). b && not (ltb a (w .rules) && single w a)) (on-wordOf 64 marked a h)
-    ∙ apart (on (s .reported) a) (ltb a (w .rules)) (single w a) (ends w (nextLive w s x) a)
-    (any-none 64 (λ a. on (s .reported) a && not (ltb a (w .rules) && single w a)) (not-true (any 64 (λ a. on (s .reported) a && not (ltb a (w .rules) && single w a))) e) a h)))
+    ∙ apart (on marks a) (ltb a (w .rules)) (single w a) (test a)
+    (any-none 64 (λ a. on marks a && not (ltb a (w .rules) && single w a)) (not-true (any 64 (λ a. on marks a && not (ltb a (w .rules) && single w a))) e) a h)))
   where
     marked : ℕ → Bool
-    marked a = on (s .reported) a || (ltb a (w .rules) && (single w a && ends w (nextLive w s x) a))
+    marked a = on marks a || (ltb a (w .rules) && (single w a && test a))
 
     apart : (m a b c : Bool) → (m && not (a && b)) ≡ false → ((m || (a && (b && c))) && not (a && b)) ≡ false
     apart true a b c f = f
@@ -136,6 +146,10 @@ single-next w s x e =
     apart false true true false f = refl
     apart false true false c f = refl
     apart false false b c f = refl
+
+single-next : (w : Automaton) (s : Stream) (x : ℕ) → marksSingle w s ≡ true → marksSingle w (byteState w s x) ≡ true
+unfolding marksSingle only-single byteState twoMarks
+single-next w s x e = single-run w (ownTest w s x) (runMarks w (lateTest w s x) (s .reported)) (single-run w (lateTest w s x) (s .reported) e)
 
 module _ (w : Automaton) (s : Stream) (block : List ℕ) (h : Fitting w s) where
   live-after : (k : ℕ) → liveInside w (stateAfter w s block k) ≡ true

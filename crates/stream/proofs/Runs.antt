@@ -16,13 +16,12 @@ use lib.Seq.{drop-cons, set-at}
 use borrow.Author.Fill.{fill-more}
 use borrow.Author.Tests.{eq-eqb, ne-eqb}
 use Rattle.sets.specs.Set.{on, asOne, count}
-use Rattle.sets.proofs.Digits.{on-or, on-and, on-wordOf, wordOf-ext, wordOf-lt, ones-count, count-ext, count-le}
+use Rattle.sets.proofs.Digits.{on-or, on-and, on-zero, on-wordOf, wordOf-ext, wordOf-lt, ones-count, count-ext, count-le}
 use Rattle.table.specs.Automaton.{Automaton, single}
 use Rattle.table.proofs.Rows.{under}
 use Rattle.steps.specs.Step.{rulesWhere}
 use Rattle.steps.proofs.Members.{word-is, on-places-past, on-without, count-below}
 use Rattle.stream.specs.Byte.{due, runIds, runMarks}
-use Rattle.stream.specs.Calls.{written}
 use Rattle.stream.specs.Invariants.{Wrote}
 
 -- ---- the ids
@@ -95,32 +94,6 @@ pub marks-small : (w : Automaton) (f : ℕ → Bool) (marks : ℕ) → runMarks 
 unfolding runMarks
 marks-small w f marks = wordOf-lt 64 (λ a. on marks a || (ltb a (w .rules) && (single w a && f a)))
 
--- ---- a run that is written
-
--- a run of the same rules
-pub wrote-ext : (w : Automaton) (f g : ℕ → Bool) (marks end : ℕ) (ids offsets : List ℕ) (reports marks′ : ℕ) (ids′ offsets′ : List ℕ) → ((a : ℕ) → a < w .rules → f a ≡ g a)
-    → Wrote w f marks end ids offsets reports marks′ ids′ offsets′ → Wrote w g marks end ids offsets reports marks′ ids′ offsets′
-wrote-ext w f g marks end ids offsets reports marks′ ids′ offsets′ e h =
-    let same = run-ext w f g marks (w .rules) e in
-    record {
-      reports-are = h .reports-are ∙ ap length same;
-      marks-are = h .marks-are ∙ marks-ext w f g marks e;
-      ids-are = h .ids-are ∙ ap (λ (l : List ℕ). written l ids) same;
-      offsets-are = h .offsets-are ∙ ap (λ (l : List ℕ). written (replicate (length l) end) offsets) same;
-    }
-
--- a run in which no rule ends
-pub wrote-none : (w : Automaton) (f : ℕ → Bool) (marks end : ℕ) (ids offsets : List ℕ) → marks < 2 ^ 64 → ((a : ℕ) → a < w .rules → f a ≡ false)
-    → Wrote w f marks end ids offsets 0 marks ids offsets
-wrote-none w f marks end ids offsets h e =
-    let none = run-none w f marks (w .rules) e in
-    record {
-      reports-are = sym (ap length none);
-      marks-are = sym (marks-none w f marks h e);
-      ids-are = sym (ap (λ (l : List ℕ). written l ids) none);
-      offsets-are = sym (ap (λ (l : List ℕ). written (replicate (length l) end) offsets) none);
-    }
-
 -- ---- in words
 
 -- the marks gain the single-match rules that end
@@ -149,13 +122,28 @@ unfolding on
 due-digit ending marks a h l =
     ap (λ (x : ℕ). eqb x 1) (and-mask (bitAnd ending (2 ^ 64 - 1 - marks) / 2 ^ a) 1) ∙ on-without ending marks a h l
 
--- and are as many as the run has ids, where no other rule ends
-pub due-count : (w : Automaton) (f : ℕ → Bool) (marks : ℕ) → w .rules ≤ 64
-    → count 64 (λ a. on (rulesWhere w f) a && not (on marks a)) ≡ length (runIds w (on (rulesWhere w f)) marks (w .rules))
-due-count w f marks h =
-    count-below (w .rules) 64 (λ a. on (rulesWhere w f) a && not (on marks a)) h
-    (λ a l m. ap (λ (b : Bool). b && not (on marks a)) (on-places-past f (w .rules) a l m))
-    ∙ sym (run-count w (on (rulesWhere w f)) marks (w .rules))
+-- and are as many as the run has ids, where no digit is past the rules
+pub due-count : (w : Automaton) (ending marks : ℕ) → ending ≡ rulesWhere w (on ending) → w .rules ≤ 64
+    → count 64 (λ a. on ending a && not (on marks a)) ≡ length (runIds w (on ending) marks (w .rules))
+due-count w ending marks is h =
+    count-below (w .rules) 64 (λ a. on ending a && not (on marks a)) h
+    (λ a l m. ap (λ (b : Bool). b && not (on marks a)) (ap (λ (x : ℕ). on x a) is ∙ on-places-past (on ending) (w .rules) a l m))
+    ∙ sym (run-count w (on ending) marks (w .rules))
+
+-- as in the word of the rules that pass a test
+pub rules-alone : (w : Automaton) (f : ℕ → Bool) → rulesWhere w f ≡ rulesWhere w (on (rulesWhere w f))
+rules-alone w f =
+    wordOf-ext 64 (λ a. ltb a (w .rules) && f a) (λ a. ltb a (w .rules) && on (rulesWhere w f) a)
+    (λ a h. twice (ltb a (w .rules)) (f a) ∙ ap (λ (b : Bool). ltb a (w .rules) && b) (sym (on-wordOf 64 (λ a. ltb a (w .rules) && f a) a h)))
+  where
+    twice : (a b : Bool) → (a && b) ≡ (a && (a && b))
+    twice true b = refl
+    twice false b = refl
+
+-- none pass a test that fails of each
+pub rules-none : (w : Automaton) (f : ℕ → Bool) → ((a : ℕ) → a < w .rules → f a ≡ false) → 0 ≡ rulesWhere w f
+rules-none w f e =
+    word-is 0 (λ a. ltb a (w .rules) && f a) (omega arith) (λ a h. on-zero a ∙ sym (under (w .rules) a (λ b. b && f a) (λ b. false) (e a) refl))
 
 -- ---- the writer's loop
 

@@ -5,6 +5,7 @@ use Prim.Native.Nat.{ℕ, _+_, _*_, min}
 use lib.Dec.{eqb, ltb}
 use lib.ListN.{length, drop}
 use Rattle.sets.specs.Set.{emptySet}
+use Rattle.kinds.specs.declared.Side.the-variants.{Other}
 use Rattle.table.specs.Layout.{rulesOf, positionsOf}
 use Rattle.table.specs.Table.{isTable}
 use Rattle.table.specs.Automaton.{automaton}
@@ -15,9 +16,9 @@ use Rattle.stream.specs.declared.Closed.{Closed}
 use Rattle.stream.specs.Byte.{stateAfter, idsOf, endsOf, costOf, fits, closeIds, closeEnds}
 use Rattle.stream.specs.Valid.{valid, streamLimit}
 
--- a state with nothing live, held, marked or taken
+-- a state with nothing live, held, marked or taken, so that what it says of a last byte makes no difference
 abbrev pub fresh : (rules positions : ℕ) → Bool → Stream
-fresh rules positions closed = record { live = emptySet; held = emptySet; reported = 0; pending = 0; taken = 0; rules = rules; positions = positions; closed = closed }
+fresh rules positions closed = record { live = emptySet; held = emptySet; reported = 0; pending = 0; last = Other; taken = 0; rules = rules; positions = positions; closed = closed }
 
 -- "opening only 1"; "A refused opening hands back a closed state, all else in it zero."
 unfoldable pub opened : List ℕ → Opened
@@ -82,7 +83,7 @@ module _ (t : List ℕ) (s : Stream) (allowance : ℕ) (block ids offsets : List
 
 -- "Closing sets the closed mark and changes nothing else in the state."
 abbrev pub shut : Stream → Stream
-shut s = record { live = s .live; held = s .held; reported = s .reported; pending = s .pending; taken = s .taken; rules = s .rules; positions = s .positions; closed = true }
+shut s = record { live = s .live; held = s .held; reported = s .reported; pending = s .pending; last = s .last; taken = s .taken; rules = s .rules; positions = s .positions; closed = true }
 
 -- A closing likewise.
 module _ (t : List ℕ) (s : Stream) (ids offsets : List ℕ) where

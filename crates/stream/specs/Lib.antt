@@ -1,4 +1,4 @@
--- What the calls on a stream give: Byte (one byte, one run of reports), Valid (when a state fits a table), Calls (the four calls). Invariants is for the private
+-- What the calls on a stream give: Byte (one byte, and the runs of reports), Valid (when a state fits a table), Calls (the four calls). Invariants is for the private
 -- functions.
 pub mod Byte
 pub mod Valid

@@ -6,8 +6,10 @@ mod scan;
 
 use checks::least;
 use checks::refusal;
+use kinds::Side;
 use reports::write_closing;
 use scan::run;
+use scan::side_at;
 use scan::waiting_after;
 use table::layout::POSITIONS_AT;
 use table::layout::RULES_AT;
@@ -22,12 +24,14 @@ pub const STREAM_LIMIT: u64 = 1_099_511_627_775;
 pub const NO_LIMIT: u64 = 0xffff_ffff_ffff_ffff;
 
 // A stream's state: the live positions, and those held in case the last line ends before the last byte taken; a mark for each single-match rule that has reported,
-// and one for each rule with a pair that is held likewise; the bytes taken, the counts of its table, and whether it is closed.
+// and one for each rule with a pair that is held likewise; what the last byte is to the assertions after it, `Other` before the first; the bytes taken, the
+// counts of its table, and whether it is closed.
 pub struct Stream {
     pub live: [u64; 4],
     pub held: [u64; 4],
     pub reported: u64,
     pub pending: u64,
+    pub last: Side,
     pub taken: u64,
     pub rules: u64,
     pub positions: u64,
@@ -67,6 +71,7 @@ fn fresh_state(rules: u64, positions: u64, closed: bool) -> Stream
         held,
         reported: 0,
         pending: 0,
+        last: Side::Other,
         taken: 0,
         rules,
         positions,
@@ -94,7 +99,7 @@ impl Stream {
     // Scans the bytes of a block as far as the allowance of work and the report space go, and writes the reports at the front of both lists. A byte costs a unit,
     // and one for each live position.
     pub fn scan(
-        mut self,
+        self,
         words: &[u64],
         allowance: u64,
         block: &[u8],
@@ -116,9 +121,11 @@ impl Stream {
             };
         }
         let live = self.live;
+        let side = self.last;
         let r = run(
             live,
             self.reported,
+            side,
             self.taken,
             words,
             allowance,
@@ -129,18 +136,26 @@ impl Stream {
         let before = r.before;
         let waits = waiting_after(self, r.taken, before, words, block);
         let after = r.live;
-        self.live = after;
         let held = waits.held;
-        self.held = held;
-        self.reported = r.reported;
-        self.pending = waits.pending;
-        self.taken = self.taken + r.taken as u64;
+        let last = side_at(side, block, r.taken);
+        let taken = self.taken + r.taken as u64;
+        let used = allowance - r.left;
         Scanned {
             number: 0,
             taken: r.taken,
             reports: r.reports,
-            used: allowance - r.left,
-            stream: self,
+            used,
+            stream: Stream {
+                live: after,
+                held,
+                reported: r.reported,
+                pending: waits.pending,
+                last,
+                taken,
+                rules: self.rules,
+                positions: self.positions,
+                closed: self.closed,
+            },
         }
     }
 

@@ -1,23 +1,21 @@
-// One run of reports: one end offset, and the rules that end there by rising place, each a digit of a word.
+// Runs of reports: a run has one end offset, and the rules that end there by rising place, each a digit of a word. A byte has two of them, and so has the closing.
 use super::Stream;
 use super::checks::least;
 use steps::closing;
-use steps::ending;
-use steps::meets;
 use steps::rule_id;
 use steps::singles;
 use table::layout::RULES_AT;
 ghost use mathlib.Core.Path.{_≡_};
 ghost use mathlib.Core.Bool.{true, not, _&&_};
-ghost use Prim.Native.Nat.{_*_, _-_, _≤_};
+ghost use Prim.Native.Nat.{suc, _+_, _*_, _-_, _^_, _<_, _≤_};
 ghost use lib.ListN.{length};
 ghost use Rattle.sets.specs.Set.{on, count};
 ghost use Rattle.table.specs.Layout.{rulesOf};
 ghost use Rattle.table.specs.Table.{isTable};
 ghost use Rattle.table.specs.Automaton.{automaton, single};
-ghost use Rattle.steps.specs.Step.{lastsOf, rulesWhere};
-ghost use Rattle.stream.specs.Byte.{runIds};
-ghost use Rattle.stream.specs.Invariants.{Wrote, Delivered, Ended};
+ghost use Rattle.steps.specs.Step.{rulesWhere};
+ghost use Rattle.stream.specs.Byte.{runIds, twoIds};
+ghost use Rattle.stream.specs.Invariants.{Wrote, WroteTwo, Delivered, Ended};
 
 // What a run leaves: how many reports it wrote, and the marks afterwards.
 pub(super) struct Run {
@@ -63,44 +61,87 @@ pub(super) fn write_run(
     }
 }
 
-// What one byte's run comes to: whether the free space is too small for its reports, how many were written, and the marks afterwards.
+// Writes two runs at the front of both lists, with these end offsets, the marks brought up to date between them.
+fn write_two(
+    first: u64,
+    second: u64,
+    reported: u64,
+    singles: u64,
+    words: &[u64],
+    earlier: u64,
+    later: u64,
+    ids: &mut [u32],
+    offsets: &mut [u64],
+) -> Run
+    requires { ⌜ (isTable (now words) ≡ true) × (singles ≡ rulesWhere (automaton (now words)) (single (automaton (now words)))) × (length (twoIds (automaton (now words)) (on first) (on second) reported) ≤ length (now ids)) × (length (twoIds (automaton (now words)) (on first) (on second) reported) ≤ length (now offsets)) ⌝ }
+    ensures { λ r. ⌜ WroteTwo (automaton (now (words .entry))) (on first) (on second) reported earlier later (now (ids .entry)) (now (offsets .entry)) (r .reports) (r .reported) (now (ids .exit)) (now (offsets .exit)) ⌝ }
+{
+    let one = write_run(first, reported, singles, words, earlier, ids, offsets);
+    let count = one.reports;
+    let two = write_run(
+        second,
+        one.reported,
+        singles,
+        words,
+        later,
+        &mut ids[count..],
+        &mut offsets[count..],
+    );
+    let reports = count + two.reports;
+    Run {
+        reports,
+        reported: two.reported,
+    }
+}
+
+// What one byte's runs come to: whether the free space is too small for their reports, how many were written, and the marks afterwards.
 pub(super) struct Delivery {
     pub full: bool,
     pub reports: usize,
     pub reported: u64,
 }
 
-// Writes the run of one byte, whose next live set this is, into what is free of both lists, if all its reports fit there. A rule is looked at only if
-// a live position ends some match.
+// Writes both runs of one byte, the late one at the offset before it, into what is free of both lists, if all their reports fit there. Both words have digits of
+// rules alone.
 pub(super) fn deliver(
-    live: [u64; 4],
-    last: [u64; 4],
+    late: u64,
+    own: u64,
     reported: u64,
     singles: u64,
     words: &[u64],
-    end: u64,
+    before: u64,
     ids: &mut [u32],
     offsets: &mut [u64],
 ) -> Delivery
-    requires { ⌜ (isTable (now words) ≡ true) × (last ≡ lastsOf (automaton (now words))) × (singles ≡ rulesWhere (automaton (now words)) (single (automaton (now words)))) ⌝ }
-    ensures { λ r. ⌜ Delivered (automaton (now (words .entry))) live reported end (now (ids .entry)) (now (offsets .entry)) (r .full) (r .reports) (r .reported) (now (ids .exit)) (now (offsets .exit)) ⌝ }
+    requires { ⌜ (isTable (now words) ≡ true) × (singles ≡ rulesWhere (automaton (now words)) (single (automaton (now words)))) × (late ≡ rulesWhere (automaton (now words)) (on late)) × (own ≡ rulesWhere (automaton (now words)) (on own)) × (before + 1 < 2 ^ 64) ⌝ }
+    ensures { λ r. ⌜ Delivered (automaton (now (words .entry))) (on late) (on own) reported before (suc before) (now (ids .entry)) (now (offsets .entry)) (r .full) (r .reports) (r .reported) (now (ids .exit)) (now (offsets .exit)) ⌝ }
 {
-    if !meets(live, last) {
+    if late | own == 0 {
         return Delivery {
             full: false,
             reports: 0,
             reported,
         };
     }
-    let found = ending(live, words);
-    if least(ids.len(), offsets.len()) < due(found, reported) {
+    let marks = reported | late & singles;
+    if least(ids.len(), offsets.len()) < due(late, reported) + due(own, marks) {
         return Delivery {
             full: true,
             reports: 0,
             reported,
         };
     }
-    let run = write_run(found, reported, singles, words, end, ids, offsets);
+    let run = write_two(
+        late,
+        own,
+        reported,
+        singles,
+        words,
+        before,
+        before + 1,
+        ids,
+        offsets,
+    );
     Delivery {
         full: false,
         reports: run.reports,
@@ -120,28 +161,20 @@ pub(super) fn write_closing(s: Stream, words: &[u64], ids: &mut [u32], offsets: 
     requires { ⌜ (isTable (now words) ≡ true) × (2 * rulesOf (now words) ≤ length (now ids)) × (2 * rulesOf (now words) ≤ length (now offsets)) ⌝ }
     ensures { λ r. ⌜ Ended (automaton (now (words .entry))) s (now (ids .entry)) (now (offsets .entry)) r (now (ids .exit)) (now (offsets .exit)) ⌝ }
 {
-    let single = singles(words);
-    let line = write_run(
+    let live = s.live;
+    let held = s.held;
+    let last = s.last;
+    let found = closing(last, live, held, words);
+    let run = write_two(
         s.pending,
+        found,
         s.reported,
-        single,
+        singles(words),
         words,
         before_last(s.taken),
+        s.taken,
         ids,
         offsets,
     );
-    let count = line.reports;
-    let live = s.live;
-    let held = s.held;
-    let found = closing(live, held, words);
-    let end = write_run(
-        found,
-        line.reported,
-        single,
-        words,
-        s.taken,
-        &mut ids[count..],
-        &mut offsets[count..],
-    );
-    count + end.reports
+    run.reports
 }

@@ -10,7 +10,8 @@ use lib.Dec.{ltb}
 use lib.ListN.{length, getD, set, drop, length-append, length-drop, length-set, length-replicate, getD-replicate, List·getD-append}
 use lib.Seq.{getD-append-add, getD-drop, getD-set-same, getD-set-other}
 use borrow.Author.Tests.{lt-ltb, le-ltb}
-use Rattle.table.specs.Layout.{tableWords, maxRules, maxPositions, bytes, format, rulesOf, firstAt, firstAtStartAt, lineFirstAt, lineFirstAtStartAt, stride, lastAt, lastAtEndAt, lineLastAt, followAt, takersAt, lineFollowAt, recordAt, recordWord, rowHas}
+use Rattle.table.specs.Layout.{tableWords, maxRules, maxPositions, bytes, format, rulesOf, firstAt, stride, lastAt, takersAt, followAt, recordAt, recordWord, rowHas}
+use Rattle.table.specs.Gaps.{firstGaps, followGaps, lastGaps}
 use Rattle.table.specs.Table.{isTable, emptyTable, emptyNumber, emptied}
 use Rattle.table.specs.Automaton.{Automaton, automaton}
 use Rattle.table.proofs.Over.{over, over-is}
@@ -24,16 +25,10 @@ noRules = record {
   positions = 0;
   id = λ a. 0;
   flags = λ a. 0;
-  first = λ q. false;
-  firstAtStart = λ q. false;
-  follow = λ p q. false;
   takes = λ x q. false;
-  last = λ a p. false;
-  lastAtEnd = λ a p. false;
-  lineFirst = λ q. false;
-  lineFirstAtStart = λ q. false;
-  lineFollow = λ p q. false;
-  lineLast = λ a p. false;
+  first = λ g q. false;
+  follow = λ g p q. false;
+  last = λ g a p. false;
 }
 
 -- ---- the empty table, word by word
@@ -125,16 +120,10 @@ module _ (t : List ℕ) (h : tableWords ≤ length t) where
     positions = emptied-zero 2 (omega arith) (omega arith) i;
     id = λ a. number a 0 (omega arith) i;
     flags = λ a. number a 1 (omega arith) i;
-    first = λ q. no-member firstAt (omega arith) (omega arith) q i;
-    firstAtStart = λ q. no-member firstAtStartAt (omega arith) (omega arith) q i;
-    follow = λ p q. test maxPositions followAt (λ p h. (omega arith, omega arith)) p q i;
     takes = λ x q. test bytes takersAt (λ x h. (omega arith, omega arith)) x q i;
-    last = λ a p. test maxRules lastAt (λ a h. (omega arith, omega arith)) a p i;
-    lastAtEnd = λ a p. test maxRules lastAtEndAt (λ a h. (omega arith, omega arith)) a p i;
-    lineFirst = λ q. no-member lineFirstAt (omega arith) (omega arith) q i;
-    lineFirstAtStart = λ q. no-member lineFirstAtStartAt (omega arith) (omega arith) q i;
-    lineFollow = λ p q. test maxPositions lineFollowAt (λ p h. (omega arith, omega arith)) p q i;
-    lineLast = λ a p. test maxRules lineLastAt (λ a h. (omega arith, omega arith)) a p i;
+    first = λ g q. test firstGaps firstAt (λ g h. (omega arith, omega arith)) g q i;
+    follow = λ g p q. tests followGaps maxPositions followAt (λ g p h l. (omega arith, omega arith)) g p q i;
+    last = λ g a p. tests lastGaps maxRules (λ g a. lastAt a g) (λ g a h l. (omega arith, omega arith)) g a p i;
   }
     where
       number : (a f : ℕ) → f < stride → cond (ltb a maxRules) (recordWord (emptied t) a f) 0 ≡ 0
@@ -145,3 +134,8 @@ module _ (t : List ℕ) (h : tableWords ≤ length t) where
 
       test : (n : ℕ) (place : ℕ → ℕ) → ((k : ℕ) → k < n → (0 < place k) × (place k + 4 ≤ tableWords)) → (k q : ℕ) → (ltb k n && rowHas (emptied t) (place k) q) ≡ false
       test n place fits k q = under n k (λ b. b && rowHas (emptied t) (place k) q) (λ b. false) (λ m. no-member (place k) (fits k m .0) (fits k m .1) q) refl
+
+      tests : (n m : ℕ) (place : ℕ → ℕ → ℕ) → ((j k : ℕ) → j < n → k < m → (0 < place j k) × (place j k + 4 ≤ tableWords))
+          → (j k q : ℕ) → (ltb j n && (ltb k m && rowHas (emptied t) (place j k) q)) ≡ false
+      tests n m place fits j k q =
+          under n j (λ b. b && (ltb k m && rowHas (emptied t) (place j k) q)) (λ b. false) (λ h. test m (place j) (λ k l. fits j k h l) k q) refl

@@ -1,6 +1,6 @@
--- Words beyond the first 4,096 count for nothing: lists that agree up to there describe the same automaton, and pass the test alike. Each part of the automaton
--- and each fact of the test reads words below 4,096, which are the same in both lists; lists too short for a table are equal.
-use mathlib.Core.Path.{_≡_, refl, sym, ap, _∙_, subst, subst₂}
+-- Words beyond the first 16,384 count for nothing: lists that agree up to there describe the same automaton, and pass the test alike. Each part of the automaton
+-- and each fact of the test reads words below 16,384, which are the same in both lists; lists too short for a table are equal.
+use mathlib.Core.Path.{_≡_, refl, sym, ap, _∙_, subst}
 use mathlib.Core.Bool.{Bool, true, false, true≢false, cond, _&&_}
 use mathlib.Core.List.{List}
 use Prim.Native.Nat.{ℕ, _+_, _≤_, _<_, min}
@@ -10,7 +10,8 @@ use lib.Bits.{bitAnd}
 use lib.Dec.{ltb}
 use lib.ListN.{length, getD, take, length-take}
 use lib.Seq.{getD-take, take-all}
-use Rattle.table.specs.Layout.{tableWords, maxRules, maxPositions, bytes, rulesOf, positionsOf, firstAt, firstAtStartAt, lineFirstAt, lineFirstAtStartAt, stride, recordAt, lastAt, lastAtEndAt, lineLastAt, fromOf, toOf, followAt, takersAt, lineFollowAt, recordWord, rowHas}
+use Rattle.table.specs.Layout.{tableWords, maxRules, maxPositions, bytes, rulesOf, positionsOf, firstAt, stride, recordAt, lastAt, takersAt, followAt, recordWord, rowHas}
+use Rattle.table.specs.Gaps.{firstGaps, followGaps, lastGaps}
 use Rattle.table.specs.Table.{knownFlags, isTable}
 use Rattle.table.specs.Automaton.{automaton}
 use Rattle.table.proofs.Test.{Passes, passes, accepted, refused}
@@ -30,16 +31,10 @@ module _ (t u : List ℕ) (same : take tableWords t ≡ take tableWords u) where
     positions = same-word 2 (omega arith) i;
     id = λ a. number a 0 (omega arith) i;
     flags = λ a. number a 1 (omega arith) i;
-    first = λ q. same-row firstAt (omega arith) q i;
-    firstAtStart = λ q. same-row firstAtStartAt (omega arith) q i;
-    follow = λ p q. test maxPositions followAt (λ p h. omega arith) p q i;
     takes = λ x q. test bytes takersAt (λ x h. omega arith) x q i;
-    last = λ a p. test maxRules lastAt (λ a h. omega arith) a p i;
-    lastAtEnd = λ a p. test maxRules lastAtEndAt (λ a h. omega arith) a p i;
-    lineFirst = λ q. same-row lineFirstAt (omega arith) q i;
-    lineFirstAtStart = λ q. same-row lineFirstAtStartAt (omega arith) q i;
-    lineFollow = λ p q. test maxPositions lineFollowAt (λ p h. omega arith) p q i;
-    lineLast = λ a p. test maxRules lineLastAt (λ a h. omega arith) a p i;
+    first = λ g q. test firstGaps firstAt (λ g h. omega arith) g q i;
+    follow = λ g p q. tests followGaps maxPositions followAt (λ g p h l. omega arith) g p q i;
+    last = λ g a p. tests lastGaps maxRules (λ g a. lastAt a g) (λ g a h l. omega arith) g a p i;
   }
     where
       number : (a f : ℕ) → f < stride → cond (ltb a maxRules) (recordWord t a f) 0 ≡ cond (ltb a maxRules) (recordWord u a f) 0
@@ -47,6 +42,12 @@ module _ (t u : List ℕ) (same : take tableWords t ≡ take tableWords u) where
 
       test : (n : ℕ) (place : ℕ → ℕ) → ((k : ℕ) → k < n → place k + 4 ≤ tableWords) → (k q : ℕ) → (ltb k n && rowHas t (place k) q) ≡ (ltb k n && rowHas u (place k) q)
       test n place fits k q = under n k (λ b. b && rowHas t (place k) q) (λ b. b && rowHas u (place k) q) (λ h. same-row (place k) (fits k h) q) refl
+
+      tests : (n m : ℕ) (place : ℕ → ℕ → ℕ) → ((j k : ℕ) → j < n → k < m → place j k + 4 ≤ tableWords)
+          → (j k q : ℕ) → (ltb j n && (ltb k m && rowHas t (place j k) q)) ≡ (ltb j n && (ltb k m && rowHas u (place j k) q))
+      tests n m place fits j k q =
+          under n j (λ b. b && (ltb k m && rowHas t (place j k) q)) (λ b. b && (ltb k m && rowHas u (place j k) q))
+          (λ h. test m (place j) (λ k l. fits j k h l) k q) refl
 
   -- each fact of the test carries over
   kept : tableWords ≤ length u → Passes t → Passes u
@@ -59,8 +60,8 @@ module _ (t u : List ℕ) (same : take tableWords t ≡ take tableWords u) where
         rising = λ a b l m. omega (arith, field a 0 (omega arith) (omega arith), field b 0 m (omega arith), p .rising a b l (omega (arith, rules)));
         small = λ a l. omega (arith, field a 0 l (omega arith), p .small a (omega (arith, rules)));
         known = λ a l. subst (λ (f : ℕ). bitAnd f knownFlags ≡ f) (field a 1 l (omega arith)) (p .known a (omega (arith, rules)));
-        ordered = λ a l. subst (λ (w : ℕ). fromOf w ≤ toOf w) (field a 2 l (omega arith)) (p .ordered a (omega (arith, rules)));
-        inside = λ a l. subst₂ (λ (w n : ℕ). toOf w ≤ n) (field a 2 l (omega arith)) positions (p .inside a (omega (arith, rules)));
+        ordered = λ a l. omega (arith, field a 2 l (omega arith), field a 3 l (omega arith), p .ordered a (omega (arith, rules)));
+        inside = λ a l. omega (arith, field a 3 l (omega arith), positions, p .inside a (omega (arith, rules)));
       }
     where
       rules : rulesOf t ≡ rulesOf u
@@ -79,7 +80,7 @@ module _ (t u : List ℕ) (same : take tableWords t ≡ take tableWords u) where
   short-same : length t < tableWords → t ≡ u
   short-same h = sym (take-all tableWords t (omega arith)) ∙ same ∙ take-all tableWords u (omega (arith, lengths))
 
--- the test depends on the first 4,096 words alone
+-- the test depends on the first 16,384 words alone
 pub isTable-local : (t u : List ℕ) → take tableWords t ≡ take tableWords u → isTable t ≡ isTable u
 isTable-local t u same = go (decLt (length t) tableWords) (isTable t) refl
   where

@@ -3,7 +3,7 @@
 use mathlib.Core.Path.{_≡_, refl, sym, ap, ap₂, _∙_, subst}
 use mathlib.Core.Bool.{Bool, true, false, true≢false, _&&_, and-eq-true-iff}
 use mathlib.Core.List.{List}
-use mathlib.Core.Logic.{_⊎_, inl, inr, ⊎-elim}
+use mathlib.Core.Logic.{⊎-elim}
 use Prim.Native.Nat.{ℕ, zero, suc, _+_, _^_, _≤_, _<_, zero-le}
 use native.Mathlib.Nat.{not-suc-le-zero, le-of-suc-le-suc, eq-or-lt-of-le, lt-trans}
 use native.Mathlib.Numerals.{add-one}
@@ -14,7 +14,7 @@ use lib.ListN.{length, getD}
 use borrow.Author.Tests.{lt-ltb, le-leb, eq-eqb, leb-true, ltb-true, eqb-true}
 use Rattle.sets.specs.Set.{on}
 use Rattle.sets.proofs.Digits.{on-and, on-bound}
-use Rattle.table.specs.Layout.{tableWords, maxRules, maxPositions, format, rulesOf, positionsOf, fromOf, toOf, recordWord}
+use Rattle.table.specs.Layout.{tableWords, maxRules, maxPositions, format, rulesOf, positionsOf, recordWord}
 use Rattle.table.specs.Table.{knownFlags, leastId, recordOk, all, isTable}
 
 -- ---- a test of every number below n
@@ -52,8 +52,8 @@ pub record Fine (t : List ℕ) (a : ℕ) : Type 0 where
   pub least : leastId t a ≤ recordWord t a 0
   pub small : recordWord t a 0 < 2 ^ 32
   pub known : bitAnd (recordWord t a 1) knownFlags ≡ recordWord t a 1
-  pub ordered : fromOf (recordWord t a 2) ≤ toOf (recordWord t a 2)
-  pub inside : toOf (recordWord t a 2) ≤ positionsOf t
+  pub ordered : recordWord t a 2 ≤ recordWord t a 3
+  pub inside : recordWord t a 3 ≤ positionsOf t
 
 pub fine : (t : List ℕ) (a : ℕ) → recordOk t a ≡ true → Fine t a
 unfolding recordOk
@@ -61,13 +61,13 @@ fine t a e =
     let p = and-eq-true-iff (leb (leastId t a) (recordWord t a 0)) _ .0 e in
     let q = and-eq-true-iff (ltb (recordWord t a 0) (2 ^ 32)) _ .0 (p .1) in
     let r = and-eq-true-iff (eqb (bitAnd (recordWord t a 1) knownFlags) (recordWord t a 1)) _ .0 (q .1) in
-    let s = and-eq-true-iff (leb (fromOf (recordWord t a 2)) (toOf (recordWord t a 2))) _ .0 (r .1) in
+    let s = and-eq-true-iff (leb (recordWord t a 2) (recordWord t a 3)) _ .0 (r .1) in
     record {
       least = leb-true (leastId t a) (recordWord t a 0) (p .0);
       small = ltb-true (recordWord t a 0) (2 ^ 32) (q .0);
       known = eqb-true (bitAnd (recordWord t a 1) knownFlags) (recordWord t a 1) (r .0);
-      ordered = leb-true (fromOf (recordWord t a 2)) (toOf (recordWord t a 2)) (s .0);
-      inside = leb-true (toOf (recordWord t a 2)) (positionsOf t) (s .1);
+      ordered = leb-true (recordWord t a 2) (recordWord t a 3) (s .0);
+      inside = leb-true (recordWord t a 3) (positionsOf t) (s .1);
     }
 
 pub fine-ok : (t : List ℕ) (a : ℕ) → Fine t a → recordOk t a ≡ true
@@ -76,7 +76,7 @@ fine-ok t a f =
     ap₂ (λ (x y : Bool). x && y) (le-leb (leastId t a) (recordWord t a 0) (f .least))
     (ap₂ (λ (x y : Bool). x && y) (lt-ltb (recordWord t a 0) (2 ^ 32) (f .small))
     (ap₂ (λ (x y : Bool). x && y) (eq-eqb (bitAnd (recordWord t a 1) knownFlags) (recordWord t a 1) (f .known))
-    (ap₂ (λ (x y : Bool). x && y) (le-leb (fromOf (recordWord t a 2)) (toOf (recordWord t a 2)) (f .ordered)) (le-leb (toOf (recordWord t a 2)) (positionsOf t) (f .inside)))))
+    (ap₂ (λ (x y : Bool). x && y) (le-leb (recordWord t a 2) (recordWord t a 3) (f .ordered)) (le-leb (recordWord t a 3) (positionsOf t) (f .inside)))))
 
 -- ---- the whole test
 
@@ -88,8 +88,8 @@ pub record Passes (t : List ℕ) : Type 0 where
   pub rising : (a b : ℕ) → a < b → b < rulesOf t → recordWord t a 0 < recordWord t b 0
   pub small : (a : ℕ) → a < rulesOf t → recordWord t a 0 < 2 ^ 32
   pub known : (a : ℕ) → a < rulesOf t → bitAnd (recordWord t a 1) knownFlags ≡ recordWord t a 1
-  pub ordered : (a : ℕ) → a < rulesOf t → fromOf (recordWord t a 2) ≤ toOf (recordWord t a 2)
-  pub inside : (a : ℕ) → a < rulesOf t → toOf (recordWord t a 2) ≤ positionsOf t
+  pub ordered : (a : ℕ) → a < rulesOf t → recordWord t a 2 ≤ recordWord t a 3
+  pub inside : (a : ℕ) → a < rulesOf t → recordWord t a 3 ≤ positionsOf t
 
 -- ids that rise from each record to the next rise from each record to every later one
 rise : (t : List ℕ) (n : ℕ) → ((a : ℕ) → a < n → Fine t a) → (a b : ℕ) → a < b → b < n → recordWord t a 0 < recordWord t b 0
@@ -152,20 +152,11 @@ refused t h = go (isTable t) refl
 
 -- ---- the flags
 
--- 1, 2 and 8 are digits 0, 1 and 3: known flags have no other
-pub flag-known : (f k : ℕ) → bitAnd f knownFlags ≡ f → on f k ≡ true → (k ≡ 0) ⊎ (k ≡ 1) ⊎ (k ≡ 3)
-unfolding on
-flag-known f k e o = digit k (and-eq-true-iff (on f k) (on knownFlags k) .0 (sym (on-and f knownFlags k) ∙ ap (λ (x : ℕ). on x k) e ∙ o) .1)
-  where
-    none : on knownFlags 2 ≡ false
-    none = refl
-
-    digit : (k : ℕ) → on knownFlags k ≡ true → (k ≡ 0) ⊎ (k ≡ 1) ⊎ (k ≡ 3)
-    digit zero p = inl refl
-    digit (suc zero) p = inr (inl refl)
-    digit (suc (suc zero)) p = absurd (true≢false (sym p ∙ none))
-    digit (suc (suc (suc zero))) p = inr (inr refl)
-    digit (suc (suc (suc (suc k)))) p = absurd (omega (arith, on-bound 4 knownFlags (suc (suc (suc (suc k)))) (omega arith) p))
+-- 1, 2, 4 and 8 are digits 0 to 3: known flags have no other
+pub flag-known : (f k : ℕ) → bitAnd f knownFlags ≡ f → on f k ≡ true → k < 4
+flag-known f k e o =
+    let digit = and-eq-true-iff (on f k) (on knownFlags k) .0 (sym (on-and f knownFlags k) ∙ ap (λ (x : ℕ). on x k) e ∙ o) .1 in
+    on-bound 4 knownFlags k (omega arith) digit
 
 pub flags-small : (f : ℕ) → bitAnd f knownFlags ≡ f → f ≤ knownFlags
 flags-small f e = subst (λ (x : ℕ). x ≤ knownFlags) e (and-le-r f knownFlags)

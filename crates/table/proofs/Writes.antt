@@ -10,7 +10,8 @@ use lib.Bits.{bitOr}
 use lib.ListN.{length, getD}
 use Rattle.sets.specs.Set.{has}
 use Rattle.sets.proofs.Laws.{below-four}
-use Rattle.table.specs.Layout.{maxPositions, stride, recordAt, lastAt, lastAtEndAt, recordWord, rowHas}
+use Rattle.table.specs.Layout.{maxPositions, stride, recordAt, lastAt, recordWord, rowHas}
+use Rattle.table.specs.Gaps.{lastGaps}
 pub use Rattle.table.specs.Invariants.{copied, movedUp}
 use Rattle.table.proofs.Over.{over, over-in, over-ext, Written, written-block, written-above}
 use Rattle.table.proofs.Rows.{row-same, row-or}
@@ -112,18 +113,11 @@ module _ (base m : ℕ) (t : List ℕ) (fits : base + stride + m ≤ length t) w
       let e : recordAt (suc a) + i ≡ recordAt a + i + stride = omega arith in
       ap (λ (w : ℕ). getD (movedUp base m t) w 0) e ∙ moved-word (recordAt a + i) (omega arith) (omega arith)
 
-  -- and so its two sets of last positions
-  pub moved-last : (a : ℕ) → base ≤ recordAt a → recordAt a + stride ≤ base + m → (q : ℕ) → rowHas (movedUp base m t) (lastAt (suc a)) q ≡ rowHas t (lastAt a) q
-  moved-last a b h =
-      row-same (movedUp base m t) t (lastAt (suc a)) (lastAt a)
+  -- and so its sets of last positions
+  pub moved-last : (a g : ℕ) → g < lastGaps → base ≤ recordAt a → recordAt a + stride ≤ base + m → (q : ℕ)
+      → rowHas (movedUp base m t) (lastAt (suc a) g) q ≡ rowHas t (lastAt a g) q
+  moved-last a g k b h =
+      row-same (movedUp base m t) t (lastAt (suc a) g) (lastAt a g)
       (λ i l.
-      let e : lastAt (suc a) + i ≡ lastAt a + i + stride = omega arith in
-      ap (λ (w : ℕ). getD (movedUp base m t) w 0) e ∙ moved-word (lastAt a + i) (omega arith) (omega arith))
-
-  pub moved-lastAtEnd : (a : ℕ) → base ≤ recordAt a → recordAt a + stride ≤ base + m → (q : ℕ)
-      → rowHas (movedUp base m t) (lastAtEndAt (suc a)) q ≡ rowHas t (lastAtEndAt a) q
-  moved-lastAtEnd a b h =
-      row-same (movedUp base m t) t (lastAtEndAt (suc a)) (lastAtEndAt a)
-      (λ i l.
-      let e : lastAtEndAt (suc a) + i ≡ lastAtEndAt a + i + stride = omega arith in
-      ap (λ (w : ℕ). getD (movedUp base m t) w 0) e ∙ moved-word (lastAtEndAt a + i) (omega arith) (omega arith))
+      let e : lastAt (suc a) g + i ≡ lastAt a g + i + stride = omega arith in
+      ap (λ (w : ℕ). getD (movedUp base m t) w 0) e ∙ moved-word (lastAt a g + i) (omega arith) (omega arith))

@@ -5,11 +5,11 @@ use Prim.Native.Nat.{ℕ, zero, suc, pred, _^_}
 use lib.Bits.{bitAnd}
 use lib.Dec.{eqb, leb, ltb}
 use lib.ListN.{length, getD, drop, replicate}
-use Rattle.table.specs.Layout.{tableWords, maxRules, maxPositions, format, rulesOf, positionsOf, fromOf, toOf, recordWord}
+use Rattle.table.specs.Layout.{tableWords, maxRules, maxPositions, format, rulesOf, positionsOf, recordWord}
 
--- "Flags, values from Hyperscan's API reference: 1 caseless, 2 dot matches all, 8 single match."
+-- "Flags, values from Hyperscan's API reference: 1 caseless, 2 dot matches all, 8 single match." "Add flag 4"
 abbrev pub knownFlags : ℕ
-knownFlags = 11
+knownFlags = 15
 
 -- the least id that record a may have: "Ids: any 32-bit number, each once", and the records stand by rising id
 abbrev pub leastId : List ℕ → ℕ → ℕ
@@ -22,7 +22,7 @@ recordOk t a =
     leb (leastId t a) (recordWord t a 0)
     && (ltb (recordWord t a 0) (2 ^ 32)
     && (eqb (bitAnd (recordWord t a 1) knownFlags) (recordWord t a 1)
-    && (leb (fromOf (recordWord t a 2)) (toOf (recordWord t a 2)) && leb (toOf (recordWord t a 2)) (positionsOf t))))
+    && (leb (recordWord t a 2) (recordWord t a 3) && leb (recordWord t a 3) (positionsOf t))))
 
 -- f holds of each number below n
 unfoldable pub all : ℕ → (ℕ → Bool) → Bool

@@ -1,12 +1,15 @@
-// The rule table: 4,096 words that the caller lends. This crate has its layout, the yes-or-no test for any words, emptying, and the reading of a word and of a set.
-// Nothing is required of a caller. docs/TABLE.md lists the words; specs/Layout.antt names them, specs/Table.antt is the test, specs/Automaton.antt says what
-// passing words describe.
+// The rule table: 16,384 words that the caller lends. This crate has its layout, the gaps that its sets go by, the yes-or-no test for any words, emptying, and the
+// reading of a word and of a set.
+// Nothing is required of a caller. docs/TABLE.md lists the words; specs/Layout.antt names them, specs/Gaps.antt the gaps, specs/Table.antt is the test,
+// specs/Automaton.antt says what passing words describe.
+pub mod gaps;
 pub mod layout;
 
 use layout::ACCEPTED;
 use layout::FLAGS;
 use layout::FORMAT;
 use layout::FORMAT_AT;
+use layout::FROM;
 use layout::ID;
 use layout::ID_LIMIT;
 use layout::KNOWN_FLAGS;
@@ -18,9 +21,8 @@ use layout::RECORD_WORDS;
 use layout::RECORDS_AT;
 use layout::RULES_AT;
 use layout::SET_WORDS;
-use layout::SPAN;
-use layout::SPAN_TO;
 use layout::TABLE_WORDS;
+use layout::TO;
 ghost use mathlib.Core.Path.{_≡_};
 ghost use Prim.Native.Nat.{_+_, _<_, _≤_};
 ghost use lib.ListN.{length, getD};
@@ -67,11 +69,10 @@ fn record_ok(words: &[u64], a: usize, least: u64, positions: u64) -> bool
     let at = RECORDS_AT + a * RECORD_WORDS;
     let id = words[at + ID];
     let flags = words[at + FLAGS];
-    let span = words[at + SPAN];
-    let to = span / SPAN_TO;
+    let from = words[at + FROM];
+    let to = words[at + TO];
     (least <= id)
-        & ((id < ID_LIMIT)
-            & ((flags & KNOWN_FLAGS == flags) & ((span % SPAN_TO <= to) & (to <= positions))))
+        & ((id < ID_LIMIT) & ((flags & KNOWN_FLAGS == flags) & ((from <= to) & (to <= positions))))
 }
 
 // Whether each of the records is in order, by rising id.
@@ -113,7 +114,7 @@ pub fn is_table(words: &[u64]) -> bool
     records_ok(words, rules as usize, positions)
 }
 
-// Writes the empty table over the first 4,096 words; fewer words are left as they are, and refused.
+// Writes the empty table over the first 16,384 words; fewer words are left as they are, and refused.
 pub fn empty(words: &mut [u64]) -> u32
     ensures { λ r. ⌜ (r ≡ emptyNumber (now (words .entry))) × (now (words .exit) ≡ emptied (now (words .entry))) ⌝ }
 {

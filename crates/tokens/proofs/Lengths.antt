@@ -12,7 +12,7 @@ use Rattle.atoms.specs.Number.{cap, numeralOf}
 use Rattle.atoms.specs.Fault.{lower}
 use Rattle.atoms.specs.Raw.{anyRaw, withRaw}
 use Rattle.atoms.specs.Quote.{isMark, opensQuote}
-use Rattle.tokens.specs.Option.{plain, faulty, withCaseless, withDotAll, lettersOf, beforeClose, commentOf, openingOf}
+use Rattle.tokens.specs.Option.{plain, faulty, withCaseless, withDotAll, withLines, lettersOf, beforeClose, commentOf, openingOf}
 use Rattle.tokens.specs.Quantifier.{noForm, bounded, open-ended, bracesOf, formOf, marked, quantifierOf}
 use Rattle.tokens.specs.Token.{escaped, unquotedOf, spelledOf, faultyAs, lexemeOf}
 use Rattle.atoms.specs.declared.Part.{Part}
@@ -100,9 +100,10 @@ letters-take on any o k (c ∷ v) =
     let bad : Takes n (faulty 14) = faulty-takes n 14 (λ e. omega arith) in
     pick (Takes n) (eqb c 105) (λ e. rw more (letters-take on true (withCaseless on o) (k + 1) v))
     (pick (Takes n) (eqb c 115) (λ e. rw more (letters-take on true (withDotAll on o) (k + 1) v))
+    (pick (Takes n) (eqb c 109) (λ e. rw more (letters-take on true (withLines on o) (k + 1) v))
     (pick (Takes n) (eqb c 45) (λ e. pick (Takes n) on (λ z. rw more (letters-take false any o (k + 1) v)) bad)
     (pick (Takes n) (eqb c 41) (λ e. pick (Takes n) any (λ z. plain-takes n (k + 1) _ (omega arith) (omega arith)) bad)
-    (pick (Takes n) (eqb c 58) (λ e. pick (Takes n) any (λ z. plain-takes n (k + 1) _ (omega arith) (omega arith)) bad) bad))))
+    (pick (Takes n) (eqb c 58) (λ e. pick (Takes n) any (λ z. plain-takes n (k + 1) _ (omega arith) (omega arith)) bad) bad)))))
 
 before-fits : (v : List ℕ) → beforeClose v ≤ length v
 unfolding beforeClose

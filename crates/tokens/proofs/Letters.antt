@@ -8,7 +8,7 @@ use borrow.Author.Tests.{ne-eqb, lt-ltb, le-ltb}
 use lib.Dec.{eqb}
 use lib.ListN.{length, getD, drop, length-drop, drop-of-length-le}
 use lib.Seq.{getD-drop, drop-drop}
-use Rattle.tokens.specs.Option.{plain, faulty, withCaseless, withDotAll, lettersOf, beforeClose, commentOf, openingOf}
+use Rattle.tokens.specs.Option.{plain, faulty, withCaseless, withDotAll, withLines, lettersOf, beforeClose, commentOf, openingOf}
 use Rattle.tokens.specs.declared.Options.{Options}
 use Rattle.tokens.specs.declared.Token.the-variants.{Open, Set, Note, Unclosed}
 use Rattle.tokens.specs.declared.Lexeme.{Lexeme}
@@ -20,10 +20,11 @@ module _ (on any : Bool) (o : Options) (size : ℕ) where
   step c v =
       cond (eqb c 105) (lettersOf on true (withCaseless on o) (size + 1) v)
       (cond (eqb c 115) (lettersOf on true (withDotAll on o) (size + 1) v)
+      (cond (eqb c 109) (lettersOf on true (withLines on o) (size + 1) v)
       (cond (eqb c 45) (cond on (lettersOf false any o (size + 1) v) (faulty 14))
       (cond (eqb c 41) (cond any (plain (size + 1) (Set o)) (faulty 14))
       (cond (eqb c 58) (cond any (plain (size + 1) (Open o)) (faulty 14))
-      (faulty 14)))))
+      (faulty 14))))))
 
   letters-front : (v : List ℕ) → lettersOf on any o size v ≡ step (getD v 0 0) (drop 1 v)
   unfolding lettersOf
@@ -40,6 +41,9 @@ module _ (on any : Bool) (o : Options) (size : ℕ) where
     pub letters-s : c ≡ 115 → lettersOf on any o size (drop i s) ≡ lettersOf on true (withDotAll on o) (size + 1) (drop (i + 1) s)
     letters-s k = letters-is ∙ rw k
 
+    pub letters-m : c ≡ 109 → lettersOf on any o size (drop i s) ≡ lettersOf on true (withLines on o) (size + 1) (drop (i + 1) s)
+    letters-m k = letters-is ∙ rw k
+
     pub letters-off : c ≡ 45 → on ≡ true → lettersOf on any o size (drop i s) ≡ lettersOf false any o (size + 1) (drop (i + 1) s)
     letters-off k t = letters-is ∙ rw k (rw t)
 
@@ -52,8 +56,9 @@ module _ (on any : Bool) (o : Options) (size : ℕ) where
     pub letters-open : c ≡ 58 → lettersOf on any o size (drop i s) ≡ cond any (plain (size + 1) (Open o)) (faulty 14)
     letters-open k = letters-is ∙ rw k
 
-    pub letters-other : (c ≡ 105 → ⊥) → (c ≡ 115 → ⊥) → (c ≡ 45 → ⊥) → (c ≡ 41 → ⊥) → (c ≡ 58 → ⊥) → lettersOf on any o size (drop i s) ≡ faulty 14
-    letters-other a b d f g = letters-is ∙ rw (ne-eqb _ _ a, ne-eqb _ _ b, ne-eqb _ _ d, ne-eqb _ _ f, ne-eqb _ _ g)
+    pub letters-other : (c ≡ 105 → ⊥) → (c ≡ 115 → ⊥) → (c ≡ 109 → ⊥) → (c ≡ 45 → ⊥) → (c ≡ 41 → ⊥) → (c ≡ 58 → ⊥)
+        → lettersOf on any o size (drop i s) ≡ faulty 14
+    letters-other a b m d f g = letters-is ∙ rw (ne-eqb _ _ a, ne-eqb _ _ b, ne-eqb _ _ m, ne-eqb _ _ d, ne-eqb _ _ f, ne-eqb _ _ g)
 
 -- after `(`: the bytes c and d at the place and after it
 pub opening-is : (o : Options) (s : List ℕ) (at c d : ℕ) → c ≡ getD s at 0 → d ≡ getD s (at + 1) 0

@@ -19,26 +19,32 @@ faulty fault = record { fault = fault; size = 0; token = Bad }
 
 -- the options with `i` on or off
 abbrev pub withCaseless : Bool → Options → Options
-withCaseless b o = record { caseless = b; dotall = o .dotall; quoted = o .quoted }
+withCaseless b o = record { caseless = b; dotall = o .dotall; lines = o .lines; quoted = o .quoted }
 
 -- the options with `s` on or off
 abbrev pub withDotAll : Bool → Options → Options
-withDotAll b o = record { caseless = o .caseless; dotall = b; quoted = o .quoted }
+withDotAll b o = record { caseless = o .caseless; dotall = b; lines = o .lines; quoted = o .quoted }
 
--- "Options `i` and `s`: `(?is-i)`, `(?i:..)`, at least one letter, at most one hyphen, applied left to right." v is the pattern after the bytes read
--- so far, `size` their number from the `(` on, `on` until a hyphen, `any` once a letter was read; 14, "any other `(?`", for anything else.
+-- "Add flag 4 and option `m`": the options with `m` on or off
+abbrev pub withLines : Bool → Options → Options
+withLines b o = record { caseless = o .caseless; dotall = o .dotall; lines = b; quoted = o .quoted }
+
+-- "Options `i` and `s`: `(?is-i)`, `(?i:..)`, at least one letter, at most one hyphen, applied left to right", and 14 lets `m` through. v is the pattern
+-- after the bytes read so far, `size` their number from the `(` on, `on` until a hyphen, `any` once a letter was read; 14, "any other `(?`", for anything else.
 unfoldable pub lettersOf : (on any : Bool) → Options → (size : ℕ) → List ℕ → Lexeme
 lettersOf on any o size [] = faulty 14
 lettersOf on any o size (c ∷ v) =
     let caseless : Lexeme = lettersOf on true (withCaseless on o) (size + 1) v in
     let dotAll : Lexeme = lettersOf on true (withDotAll on o) (size + 1) v in
+    let lines : Lexeme = lettersOf on true (withLines on o) (size + 1) v in
     let off : Lexeme = lettersOf false any o (size + 1) v in
     cond (eqb c 105) caseless
     (cond (eqb c 115) dotAll
+    (cond (eqb c 109) lines
     (cond (eqb c 45) (cond on off (faulty 14))
     (cond (eqb c 41) (cond any (plain (size + 1) (Set o)) (faulty 14))
     (cond (eqb c 58) (cond any (plain (size + 1) (Open o)) (faulty 14))
-    (faulty 14)))))
+    (faulty 14))))))
 
 -- how many bytes stand before the first `)`
 unfoldable pub beforeClose : List ℕ → ℕ

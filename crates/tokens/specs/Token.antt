@@ -8,7 +8,7 @@ use Rattle.sets.specs.Set.{setOf, emptySet, fullSet, inserted, complementOf}
 use Rattle.kinds.specs.Kind.{isKind, isNotKind}
 use Rattle.kinds.specs.Case.{caseClosed}
 use Rattle.atoms.specs.declared.Atom.{Atom}
-use Rattle.atoms.specs.declared.Atom.the-variants.{Byte, OfKind, NotOfKind, Dot, NotNewline, Start, LastLine, End}
+use Rattle.atoms.specs.declared.Atom.the-variants.{Byte, OfKind, NotOfKind, Dot, NotNewline, Start, LastLine, End, Caret, Dollar, WordEdge, NoWordEdge}
 use Rattle.atoms.specs.declared.Part.{Part}
 use Rattle.tokens.specs.declared.Options.{Options}
 use Rattle.tokens.specs.declared.Token.{Token}
@@ -26,11 +26,10 @@ escaped p = cond (eqb (p .fault) 0) (plain (p .size) (One (p .atom))) (faulty (p
 
 -- the options with a quote open or not
 abbrev pub withQuoted : Bool → Options → Options
-withQuoted b o = record { caseless = o .caseless; dotall = o .dotall; quoted = b }
+withQuoted b o = record { caseless = o .caseless; dotall = o .dotall; lines = o .lines; quoted = b }
 
 -- "A token is a byte, an escape, a quantifier with its mark, .. an opening, an option setting." What the byte c starts outside a quote, with v
--- after it, where o are the options there. "A byte stands for itself. .. `]` and `}` outside a class are literal." "PCRE also lets `$` hold just before
--- a newline that is the last byte."
+-- after it, where o are the options there. "A byte stands for itself. .. `]` and `}` outside a class are literal."
 unfoldable pub unquotedOf : Options → (c : ℕ) → List ℕ → Lexeme
 unquotedOf o c v =
     cond (eqb c 92) (escaped (escapeOf false v))
@@ -39,8 +38,8 @@ unquotedOf o c v =
     (cond (eqb c 41) (plain 1 Close)
     (cond (eqb c 124) (plain 1 Bar)
     (cond (eqb c 46) (plain 1 (One Dot))
-    (cond (eqb c 94) (plain 1 (One Start))
-    (cond (eqb c 36) (plain 1 (One LastLine))
+    (cond (eqb c 94) (plain 1 (One Caret))
+    (cond (eqb c 36) (plain 1 (One Dollar))
     (cond (formOf (c ∷ v) .is) (quantifierOf (c ∷ v))
     (plain 1 (One (Byte c)))))))))))
 
@@ -90,3 +89,7 @@ itemSet o NotNewline = allButNewline
 itemSet o Start = emptySet
 itemSet o LastLine = emptySet
 itemSet o End = emptySet
+itemSet o Caret = emptySet
+itemSet o Dollar = emptySet
+itemSet o WordEdge = emptySet
+itemSet o NoWordEdge = emptySet

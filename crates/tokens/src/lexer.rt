@@ -63,8 +63,8 @@ fn unquoted(s: &[u8], at: usize, options: Options) -> Lexeme
         b')' => plain(1, Token::Close),
         b'|' => plain(1, Token::Bar),
         b'.' => plain(1, Token::One(Atom::Dot)),
-        b'^' => plain(1, Token::One(Atom::Start)),
-        b'$' => plain(1, Token::One(Atom::LastLine)),
+        b'^' => plain(1, Token::One(Atom::Caret)),
+        b'$' => plain(1, Token::One(Atom::Dollar)),
         _ => quantifier_or_byte(s, at),
     }
 }
@@ -84,6 +84,7 @@ fn spelled(s: &[u8], at: usize, options: Options) -> Lexeme
             Token::Note(Options {
                 caseless: options.caseless,
                 dotall: options.dotall,
+                lines: options.lines,
                 quoted: d == b'Q',
             }),
         );
@@ -143,8 +144,6 @@ pub fn item_set(options: Options, atom: Atom) -> [u64; 4]
             all_but_newline()
         }
         Atom::NotNewline => all_but_newline(),
-        Atom::Start => sets::empty(),
-        Atom::LastLine => sets::empty(),
-        Atom::End => sets::empty(),
+        _ => sets::empty(),
     }
 }

@@ -9,10 +9,11 @@ use atoms::Atom;
 pub use lexer::item_set;
 pub use lexer::token_at;
 
-// How the bytes at a place are read: the options `i` and `s`, and whether a quote is open.
+// How the bytes at a place are read: the options `i`, `s` and `m`, and whether a quote is open.
 pub struct Options {
     pub caseless: bool,
     pub dotall: bool,
+    pub lines: bool,
     pub quoted: bool,
 }
 

@@ -48,6 +48,7 @@ fn letters(s: &[u8], at: usize, options: Options) -> Lexeme
 {
     let mut caseless = options.caseless;
     let mut dotall = options.dotall;
+    let mut lines = options.lines;
     let quoted = options.quoted;
     let mut on = true;
     let mut any = false;
@@ -66,6 +67,10 @@ fn letters(s: &[u8], at: usize, options: Options) -> Lexeme
                 dotall = on;
                 any = true;
             }
+            b'm' => {
+                lines = on;
+                any = true;
+            }
             b'-' => {
                 if !on {
                     return refused(14);
@@ -78,6 +83,7 @@ fn letters(s: &[u8], at: usize, options: Options) -> Lexeme
                 Token::Set(Options {
                     caseless,
                     dotall,
+                    lines,
                     quoted,
                 }),
             ),
@@ -87,6 +93,7 @@ fn letters(s: &[u8], at: usize, options: Options) -> Lexeme
                 Token::Open(Options {
                     caseless,
                     dotall,
+                    lines,
                     quoted,
                 }),
             ),

@@ -5,7 +5,7 @@ mod rules_file;
 mod watch;
 
 fn main() {
-    let mut words = [0u64; 4096];
+    let mut words = [0u64; 16384];
     table::empty(&mut words);
     let mut out = io::large_buffer();
     if rules_file::add_rules(&mut words, &mut out) {

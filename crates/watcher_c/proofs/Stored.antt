@@ -9,6 +9,9 @@ use lib.ListN.{length, getD, drop}
 use lib.Seq.{drop-at, ext-getD}
 use Rattle.sets.specs.Set.{emptySet}
 use Rattle.sets.proofs.Laws.{words-setOf, below-four}
+use Rattle.kinds.specs.declared.Side.{Side}
+use Rattle.kinds.specs.declared.Side.the-variants.{Other, Word, Newline}
+use Rattle.kinds.specs.Side.{sideOf}
 use Rattle.table.specs.Layout.{rulesOf, positionsOf}
 use Rattle.table.specs.Table.{isTable}
 use Rattle.table.specs.Automaton.{Automaton, automaton}
@@ -19,7 +22,7 @@ use Rattle.stream.specs.declared.Scanned.{Scanned}
 use Rattle.stream.specs.declared.Closed.{Closed}
 use Rattle.stream.specs.Byte.{nextHeld, byteState, stateAfter, idsOf, costOf, closeIds}
 use Rattle.stream.specs.Calls.{fresh, space, opened, takenBy, scanNumber, scanned, closeNumber, closed, shut}
-use Rattle.watcher_c.specs.State.{stateWords, short, stateOf, wordsOf, stored}
+use Rattle.watcher_c.specs.State.{stateWords, short, sideIn, sideWord, stateOf, wordsOf, stored}
 use Rattle.watcher_c.specs.Interface.{shortState, openState, scanAnswer, scanState, closeAnswer, closeState}
 use Rattle.watcher_c.proofs.Words.{length-words}
 
@@ -32,6 +35,13 @@ four : (l : List ℕ) → length l ≡ 4 → getD l 0 0 ∷ getD l 1 0 ∷ getD 
 four l e =
     let words : List ℕ = getD l 0 0 ∷ getD l 1 0 ∷ getD l 2 0 ∷ getD l 3 0 ∷ [] in
     ext-getD 0 words l (sym e) (below-four (λ (i : ℕ). getD words i 0 ≡ getD l i 0) refl refl refl refl)
+
+-- a side, written as its word
+side : (x : Side) → sideIn (sideWord x) ≡ x
+unfolding sideIn sideWord
+side Other = refl
+side Word = refl
+side Newline = refl
 
 -- the closed mark, written as 1 or 0
 mark : (b : Bool) → not (eqb (cond b 1 0) 0) ≡ b
@@ -46,13 +56,14 @@ module _ (s : Stream) (t : List ℕ) where
     held = four (s .held) (e .1) i;
     reported = s .reported;
     pending = s .pending;
+    last = side (s .last) i;
     taken = s .taken;
     rules = s .rules;
     positions = s .positions;
     closed = mark (s .closed) i;
   }
 
-  -- the words past the fourteenth stay
+  -- the words past the fifteenth stay
   pub stored-past : drop stateWords (stored s t) ≡ drop stateWords t
   stored-past = drop-at (wordsOf s) (drop stateWords t) stateWords (length-words s)
 
@@ -64,7 +75,7 @@ unfolding stateAfter byteState nextHeld stepped emptySet
 after-four w s block zero e = e
 after-four w s block (suc k) e = (words-setOf _ .four, go (eqb (getD block k 0) 10))
   where
-    go : (b : Bool) → length (cond b (stepped w true (w .positions) (stateAfter w s block k .live) (stateAfter w s block k .taken) (getD block k 0)) emptySet) ≡ 4
+    go : (b : Bool) → length (cond b (stepped w true (stateAfter w s block k .last) (sideOf (getD block k 0)) (w .positions) (stateAfter w s block k .live) (stateAfter w s block k .taken) (getD block k 0)) emptySet) ≡ 4
     go true = words-setOf _ .four
     go false = words-setOf _ .four
 

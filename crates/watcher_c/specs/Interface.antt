@@ -1,5 +1,5 @@
 -- Each function for C: its number, and every lent word afterwards, for any words. The calls themselves are those of the crates table and stream; this adds
--- the state as words, and number 100 for a state of fewer than fourteen words, which changes nothing. Assumes nothing: these are definitions.
+-- the state as words, and number 100 for a state of fewer than fifteen words, which changes nothing. Assumes nothing: these are definitions.
 use mathlib.Core.Bool.{cond}
 use mathlib.Core.List.{List}
 use Prim.Native.Nat.{ℕ}
@@ -11,7 +11,7 @@ use Rattle.stream.specs.Byte.{busyOf}
 use Rattle.stream.specs.Calls.{opened, scanned, scannedIds, scannedOffsets, closed, closedIds, closedOffsets}
 use Rattle.watcher_c.specs.State.{short, stateOf, stored}
 
--- fewer than fourteen words lent for the state; numbers from 100 on are the interface's own, not the rules'
+-- fewer than fifteen words lent for the state; numbers from 100 on are the interface's own, not the rules'
 abbrev pub shortState : ℕ
 shortState = 100
 
@@ -55,6 +55,6 @@ module _ (t state ids offsets : List ℕ) where
   unfoldable pub closeOffsets : List ℕ
   closeOffsets = cond (short state) offsets (closedOffsets t (stateOf state) ids offsets)
 
--- the busy figure; fewer than fourteen words have none live
+-- the busy figure; fewer than fifteen words have none live
 unfoldable pub busyFigure : List ℕ → ℕ
 busyFigure state = cond (short state) 0 (busyOf (stateOf state))

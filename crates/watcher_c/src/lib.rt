@@ -1,4 +1,4 @@
-// The functions for C and Rust, over numbers and slices only: a slice is a pointer and a length there. The state is fourteen words that the caller owns. Nothing
+// The functions for C and Rust, over numbers and slices only: a slice is a pointer and a length there. The state is fifteen words that the caller owns. Nothing
 // is required of a caller but that its slices are what they say. specs/Interface.antt has each answer and every lent word afterwards.
 mod state;
 
@@ -12,7 +12,7 @@ ghost use Rattle.rules.specs.Add.{addAnswer, addWords};
 ghost use Rattle.card.specs.Calls.{writeAnswer, writtenBlock, readAnswer, readWords};
 ghost use Rattle.watcher_c.specs.Interface.{testNumber, openNumber, openState, scanAnswer, scanState, scanIds, scanOffsets, closeAnswer, closeState, closeIds, closeOffsets, busyFigure};
 
-// The number for a state of fewer than fourteen words. Numbers from 100 on are the interface's own, not the rules'.
+// The number for a state of fewer than fifteen words. Numbers from 100 on are the interface's own, not the rules'.
 const SHORT_STATE: u32 = 100;
 
 // Writes the empty table.

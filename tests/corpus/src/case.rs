@@ -27,16 +27,17 @@
 //! figure N                        the busy figure of the present state
 //! empty NUMBER                    empties the table
 //! lend N                          lends N words from here on: the table's first ones, or more
-//! lend none                       lends 4,096 words that are no table, until the next 'lend'
+//! lend none                       lends 16,384 words that are no table, until the next 'lend'
 //! keep, back                      sets table and state aside, and takes them up again
-//! state total N, state live N, state mark N, state held N, state pair N
+//! state total N, state live N, state mark N, state held N, state pair N, state last N
 //!                                 the present state, changed by hand: another byte total, one
 //!                                 more live position, one more rule marked "already reported",
 //!                                 one more held position, one more rule with a pair held for the
-//!                                 offset before the last byte
+//!                                 offset before the last byte, another kind of last byte: 1 a
+//!                                 word byte, 2 a newline, any other number neither
 //! ```
 //!
-//! Every case starts with 4,096 words lent and emptied. Numbers are decimal. A line that starts
+//! Every case starts with 16,384 words lent and emptied. Numbers are decimal. A line that starts
 //! with '#' is a comment.
 
 use std::fmt;
@@ -103,6 +104,7 @@ pub enum Line {
     StateMark(usize),
     StateHeld(usize),
     StatePair(usize),
+    StateLast(u64),
 }
 
 #[derive(Clone, Debug)]
@@ -190,6 +192,7 @@ pub fn line(text: &str) -> Result<Line, String> {
         ["state", "mark", n] => Line::StateMark(hex::number(n)?),
         ["state", "held", n] => Line::StateHeld(hex::number(n)?),
         ["state", "pair", n] => Line::StatePair(hex::number(n)?),
+        ["state", "last", n] => Line::StateLast(hex::number(n)?),
         _ => return Err(format!("'{text}' is no line of a case")),
     })
 }
@@ -261,6 +264,7 @@ impl fmt::Display for Line {
             Line::StateMark(n) => write!(f, "state mark {n}"),
             Line::StateHeld(n) => write!(f, "state held {n}"),
             Line::StatePair(n) => write!(f, "state pair {n}"),
+            Line::StateLast(n) => write!(f, "state last {n}"),
         }
     }
 }

@@ -1,8 +1,8 @@
 //! Words of any content: tables and states that are damaged here and there, or made up from nothing,
 //! and calls on them, compared with the interpreter of table words: the answer, and every lent word
 //! afterwards. States start anywhere in a stream, also past 65,535 and 4,294,967,296 bytes and at its
-//! limit, with live and held positions, marks and held pairs. Each scan is made a second time, with no
-//! smaller an allowance. Case i of a run depends on the seed and on i alone.
+//! limit, with live and held positions, marks and held pairs, after a byte of any kind. Each scan is
+//! made a second time, with no smaller an allowance. Case i of a run depends on the seed and on i alone.
 
 use std::collections::BTreeMap;
 
@@ -77,7 +77,8 @@ fn one_case<C: Calls>(calls: &C, rng: &mut Rng, count: &mut Count) -> Result<(),
         }
         lent.ids = (0..space(rng)).map(|_| rng.word() as u32).collect();
         lent.offsets = (0..space(rng)).map(|_| rng.word()).collect();
-        let block: Vec<u8> = (0..rng.below(40)).map(|_| byte(rng)).collect();
+        let longest = *rng.pick(&[3, 40, 40, 40]);
+        let block: Vec<u8> = (0..rng.below(longest)).map(|_| byte(rng)).collect();
         let scan = (!rng.once_in(6)).then(|| (&block[..], allowance(rng)));
         same("busy figure", calls.busy(&lent.state), Interpreter.busy(&lent.state))?;
         let before = lent.clone();
@@ -121,7 +122,7 @@ fn opened<C: Calls>(calls: &C, lent: &mut Lent) -> Result<(), String> {
 
 /// An addition, after which the state may be valid no more.
 fn added<C: Calls>(calls: &C, rng: &mut Rng, lent: &mut Lent) -> Result<(), String> {
-    let (id, flags, pattern) = (rng.below(40) as u32, *rng.pick(&[0, 1, 8]), pattern(rng));
+    let (id, flags, pattern) = (rng.below(40) as u32, *rng.pick(&[0, 1, 4, 8]), pattern(rng));
     let mut wanted = lent.clone();
     let answer = calls.add(&mut lent.table, id, flags, &pattern);
     same("addition", answer, Interpreter.add(&mut wanted.table, id, flags, &pattern))?;
@@ -160,7 +161,7 @@ fn space(rng: &mut Rng) -> usize {
 }
 
 fn byte(rng: &mut Rng) -> u8 {
-    *rng.pick(&[b'a', b'b', b'c', b'A', b'0', 10, 10, 0, 255])
+    *rng.pick(&[b'a', b'b', b'c', b'A', b'0', b'_', b'-', b' ', 10, 10, 0, 255])
 }
 
 /// A table of a few rules, or of made-up sets, and then damaged.
@@ -168,7 +169,7 @@ pub fn table(rng: &mut Rng) -> Vec<u64> {
     let mut words = vec![0; TABLE_WORDS + rng.below(3)];
     Interpreter.empty(&mut words);
     for _ in 0..rng.below(5) {
-        let (id, flags) = (rng.below(9) as u32, *rng.pick(&[0, 1, 2, 8, 8, 11]));
+        let (id, flags) = (rng.below(9) as u32, *rng.pick(&[0, 1, 2, 4, 4, 8, 8, 11, 12]));
         Interpreter.add(&mut words, id, flags, &pattern(rng));
     }
     if rng.once_in(4) {
@@ -193,8 +194,9 @@ fn made_up(rng: &mut Rng, words: &mut [u64]) {
     for place in 0..rules as usize {
         id += 1 + rng.word() % 0x0380_0000;
         words[record(place) + ID] = id;
-        words[record(place) + FLAGS] = *rng.pick(&[0, 1, 2, 8, 11]);
-        words[record(place) + SPAN] = span(0, positions);
+        words[record(place) + FLAGS] = *rng.pick(&[0, 1, 2, 4, 8, 15]);
+        words[record(place) + FROM] = 0;
+        words[record(place) + TO] = positions;
     }
     let thin = rng.below(6);
     let word = |rng: &mut Rng| (0..thin).fold(rng.word(), |word, _| word & rng.word());
@@ -202,7 +204,7 @@ fn made_up(rng: &mut Rng, words: &mut [u64]) {
         words[at] = word(rng);
     }
     for place in 0..rules as usize {
-        for at in record(place) + LAST..record(place + 1) {
+        for at in record(place) + LASTS..record(place + 1) {
             words[at] = word(rng);
         }
     }
@@ -212,7 +214,7 @@ fn made_up(rng: &mut Rng, words: &mut [u64]) {
 fn damage(rng: &mut Rng, words: &mut [u64]) {
     let at = match rng.below(6) {
         0 => rng.below(3),
-        1 => record(place(rng)) + rng.below(LAST),
+        1 => record(place(rng)) + rng.below(LASTS),
         2 => record(place(rng)) + rng.below(RECORD_WORDS),
         3 => FIRSTS.start + rng.below(FIRSTS.len()),
         4 => ROWS.start + rng.below(ROWS.len()),
@@ -256,6 +258,7 @@ fn state(rng: &mut Rng, table: &[u64]) -> Vec<u64> {
         6 => MAX_STREAM,
         _ => rng.word() % MAX_STREAM,
     };
+    state[SIDE] = *rng.pick(&[0, 0, 1, 1, 2, 2, 3, (1 << 32) + 1, u64::MAX]);
     let pairs = if state[TAKEN] < 2 { rng.once_in(8) } else { rng.once_in(2) };
     for place in 0..state[STATE_RULES].min(MAX_RULES as u64) as usize {
         if table[record(place) + FLAGS] & SINGLE_MATCH != 0 && rng.once_in(8) {
@@ -279,7 +282,7 @@ fn damage_state(rng: &mut Rng, state: &mut [u64]) {
     state[at] = match rng.below(6) {
         0 => rng.word(),
         1 => state[at] ^ 1 << rng.below(64),
-        2 => state[at] + (1 << 32),
+        2 => state[at].wrapping_add(1 << 32),
         3 => state[at].wrapping_add(1),
         4 => MAX_STREAM + 1,
         _ => u64::MAX,

@@ -1,6 +1,7 @@
 //! The exhaustive mode: all patterns of up to k tokens over a small alphabet of tokens, with all
 //! logs up to a length over a small alphabet of bytes, and for each log all cuts into blocks. There
-//! are three alphabets: for the meaning of patterns, for their spelling, and for numbers in braces.
+//! are four alphabets: for the meaning of patterns, for lines and words, for the spelling of patterns,
+//! and for numbers in braces.
 //!
 //! An accepted pattern stands twice in the table, plain and as a single-match rule, and all its
 //! streams are opened on that table one after another. Each cut is scanned with the least report
@@ -10,6 +11,7 @@
 //! before each single byte, with one unit too few.
 
 use corpus::Case;
+use reference::refusal::{LINE_MODE, SINGLE_MATCH};
 
 use crate::definition::add_all;
 use crate::play::play;
@@ -22,6 +24,8 @@ use crate::watcher::{PatternReader, Watcher};
 pub struct Alphabet {
     pub tokens: &'static [&'static str],
     pub bytes: &'static [u8],
+    /// The flags of every pattern.
+    pub flags: u32,
 }
 
 /// Each token is one of the pattern language's, so that k tokens reach far. The logs are of two
@@ -32,6 +36,32 @@ pub const MEANING: Alphabet = Alphabet {
         "[^a]", "(?i)", "\\z", "(?:", "\\Z", "\\n",
     ],
     bytes: b"abA\n",
+    flags: 0,
+};
+
+/// Assertions, in line mode and out of it, and what may stand around them. The logs are of a word byte,
+/// another one and the newline.
+pub const LINES: Alphabet = Alphabet {
+    tokens: &[
+        "a",
+        "-",
+        "\\n",
+        ".",
+        "^",
+        "$",
+        "\\b",
+        "\\B",
+        "(?:\\b|\\B)",
+        "\\Z",
+        "|",
+        "(",
+        ")",
+        "*",
+        "?",
+        "(?-m)",
+    ],
+    bytes: b"a-\n",
+    flags: LINE_MODE,
 };
 
 /// Pieces of classes, quotes and comments, whole or not, and what may stand beside them or, as a raw
@@ -56,13 +86,17 @@ pub const SPELLING: Alphabet = Alphabet {
         "\t",
     ],
     bytes: b"aA-^]*",
+    flags: 0,
 };
 
 /// Pieces of quantifiers and escapes with braces, and the blanks that may stand between them, one of
 /// which is a raw control byte. The logs are of what they may stand for: a letter, a digit, a space,
 /// and the byte of value 2.
-pub const BRACES: Alphabet =
-    Alphabet { tokens: &["a", "{", "}", ",", " ", "\t", "2", "\\x{", "?"], bytes: b"a2 \x02" };
+pub const BRACES: Alphabet = Alphabet {
+    tokens: &["a", "{", "}", ",", " ", "\t", "2", "\\x{", "?"],
+    bytes: b"a2 \x02",
+    flags: 0,
+};
 
 #[derive(Clone, Copy, Debug)]
 pub struct Bounds {
@@ -88,7 +122,7 @@ pub fn run<W: Watcher, R: PatternReader>(
     bounds: Bounds,
 ) -> Result<Count, String> {
     let mut count = Count::default();
-    let Alphabet { tokens: alphabet, bytes } = bounds.alphabet;
+    let Alphabet { tokens: alphabet, bytes, flags } = bounds.alphabet;
     let logs = all_logs(bytes, bounds.bytes);
     let mut index = 0;
     for tokens in 0..=bounds.tokens {
@@ -96,7 +130,7 @@ pub fn run<W: Watcher, R: PatternReader>(
         loop {
             if index % bounds.part.1 == bounds.part.0 {
                 let pattern: String = digits.iter().map(|&d| alphabet[d]).collect();
-                one_pattern(watcher, reader, pattern.as_bytes(), &logs, &mut count)?;
+                one_pattern(watcher, reader, flags, pattern.as_bytes(), &logs, &mut count)?;
             }
             index += 1;
             if !advance(&mut digits, alphabet.len()) {
@@ -119,7 +153,8 @@ fn advance(digits: &mut [usize], base: usize) -> bool {
     false
 }
 
-fn all_logs(bytes: &[u8], longest: usize) -> Vec<Vec<u8>> {
+/// All logs of up to so many of these bytes, the shorter ones first.
+pub fn all_logs(bytes: &[u8], longest: usize) -> Vec<Vec<u8>> {
     let mut logs = vec![Vec::new()];
     let mut from = 0;
     for _ in 0..longest {
@@ -139,16 +174,17 @@ fn all_logs(bytes: &[u8], longest: usize) -> Vec<Vec<u8>> {
 fn one_pattern<W: Watcher, R: PatternReader>(
     watcher: &W,
     reader: &R,
+    flags: u32,
     pattern: &[u8],
     logs: &[Vec<u8>],
     count: &mut Count,
 ) -> Result<(), String> {
     let additions = vec![
-        Addition { id: 2, flags: 0, pattern: pattern.to_vec() },
-        Addition { id: 1, flags: 8, pattern: pattern.to_vec() },
+        Addition { id: 2, flags, pattern: pattern.to_vec() },
+        Addition { id: 1, flags: flags | SINGLE_MATCH, pattern: pattern.to_vec() },
     ];
     let (rules, answers) = add_all(additions.iter().map(|a| (a.id, a.flags, &a.pattern[..])));
-    let reading = reader.read(0, pattern);
+    let reading = reader.read(flags, pattern);
     let positions = rules.first().map_or(0, |rule| rule.positions);
     if (reading.number, reading.place, reading.positions) != (answers[0].0, answers[0].1, positions)
     {

@@ -5,7 +5,7 @@ use std::path::Path;
 use std::process::ExitCode;
 
 use harness::corpus_run::{run_cases, run_definition, run_folder, run_program, Tally};
-use harness::exhaustive::{self, Alphabet, Bounds, BRACES, MEANING, SPELLING};
+use harness::exhaustive::{self, Alphabet, Bounds, BRACES, LINES, MEANING, SPELLING};
 #[cfg(feature = "library")]
 use harness::library::Library;
 use harness::model::Model;
@@ -21,6 +21,7 @@ const USAGE: &str = "usage:
   harness [WATCHER] corpus
   harness [WATCHER] play FILE
   harness [WATCHER] exhaustive TOKENS BYTES [PART OF]
+  harness [WATCHER] lines TOKENS BYTES [PART OF]
   harness [WATCHER] spelling TOKENS BYTES [PART OF]
   harness [WATCHER] braces TOKENS BYTES [PART OF]
   harness [WATCHER] readings LENGTH
@@ -85,6 +86,7 @@ fn command<W: Watcher + PatternReader>(watcher: &W, words: &[&str]) -> Result<()
     match (*name, &numbers(rest)?[..]) {
         ("corpus", []) => corpus(watcher),
         ("exhaustive", bounds) => all_small(watcher, MEANING, bounds),
+        ("lines", bounds) => all_small(watcher, LINES, bounds),
         ("spelling", bounds) => all_small(watcher, SPELLING, bounds),
         ("braces", bounds) => all_small(watcher, BRACES, bounds),
         ("readings", &[length]) => all_readings(watcher, length),

@@ -67,6 +67,7 @@ impl Watcher for Model {
             Change::Mark(rule) => stream.with_mark(rule),
             Change::Held(position) => stream.with_stray_held(position),
             Change::Pair(rule) => stream.with_held_pair(rule),
+            Change::Last(last) => stream.with_last(last),
         }
     }
 }

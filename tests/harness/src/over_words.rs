@@ -1,7 +1,9 @@
 //! A watcher made of calls over lent words.
 
 use words::calls::{self, Calls};
-use words::layout::{FORMAT, HELD, MARKS, PENDING, POSITIONS, STATE_WORDS, TABLE_WORDS, TAKEN};
+use words::layout::{
+    FORMAT, HELD, MARKS, PENDING, POSITIONS, SIDE, STATE_WORDS, TABLE_WORDS, TAKEN,
+};
 
 use crate::watcher::{Answer, Change, PatternReader, Reading, Watcher};
 
@@ -73,6 +75,7 @@ impl<C: Calls> Watcher for OverWords<C> {
                 *state[HELD..HELD + 4].get_mut(position / 64)? |= bit(position % 64)?
             }
             Change::Pair(rule) => state[PENDING] |= bit(rule)?,
+            Change::Last(last) => state[SIDE] = last,
         }
         Some(state)
     }

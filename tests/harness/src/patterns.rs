@@ -24,8 +24,27 @@ const ESCAPES: &[&str] = &[
     "\\h", "\\v", "\\D", "\\W", "\\S", "\\H", "\\V",
 ];
 
-/// Assertions, also with a newline right behind or before them.
-const ASSERTIONS: &[&str] = &["^", "$", "\\A", "\\z", "\\Z", "$\\n", "\\Z\\s", "\\n$"];
+/// Assertions, also with a newline or another edge right behind or before them.
+const ASSERTIONS: &[&str] = &[
+    "^",
+    "$",
+    "\\A",
+    "\\z",
+    "\\Z",
+    "$\\n",
+    "\\Z\\s",
+    "\\n$",
+    "\\b",
+    "\\b",
+    "\\B",
+    "\\B",
+    "\\n^",
+    "$\\n^",
+    "\\b$",
+    "(?:\\b|\\B)",
+    "(?m)$",
+    "(?m)^",
+];
 
 /// Things that are refused, or nearly: put in by chance.
 const NASTY: &[&str] = &[
@@ -89,13 +108,13 @@ const NASTY: &[&str] = &[
     "(?)",
     "(?i",
     "(?-)",
-    "(?m)",
+    "(?x)",
     "(?i-s-)",
     "(?=a)",
     "(?:",
     "(?s-i:",
     "\\1",
-    "\\b",
+    "\\y",
     "\\Z",
     "\\Z*",
     "[\\Z]",
@@ -112,6 +131,22 @@ const NASTY: &[&str] = &[
     "(^){9}",
     "(a{20}){20}",
     "((((((((((((((((",
+];
+
+/// Line mode and word edges, whole or where they may not stand: put in by chance, in a class or not.
+const EDGES: &[&str] = &[
+    "\\b",
+    "\\B",
+    "\\b*",
+    "\\B?",
+    "\\B{2}",
+    "[\\b]",
+    "[\\B]",
+    "[\\b-\\B]",
+    "(?m)",
+    "(?mx)",
+    "(?m)*",
+    "(?m:",
 ];
 
 /// Named classes, quotes and comments, whole, cut and misspelt: put in by chance, in a class or not.
@@ -195,6 +230,11 @@ const NAMES: &[&str] = &[
     "punct", "space", "word", "xdigit",
 ];
 
+const OPTIONS: &[&str] = &[
+    "(?i)", "(?s)", "(?m)", "(?m)", "(?-i)", "(?-s)", "(?-m)", "(?is-i)", "(?i-)", "(?im-s)",
+    "(?s-m)",
+];
+
 /// What counts as a comment.
 const NOTHINGS: &[&str] =
     &["\\E", "\\Q\\E", "\\E\\E", "(?#)", "(?#x)", "(?#\\)", "(?#(?i*[)", "(?#\\Qa)"];
@@ -264,8 +304,7 @@ fn sequence(rng: &mut Rng, out: &mut Vec<u8>, budget: usize, depth: usize) {
     for _ in 0..1 + rng.below(budget) {
         match rng.below(20) {
             0 => out.extend(rng.pick(ASSERTIONS).bytes()),
-            1 => out
-                .extend(rng.pick(&["(?i)", "(?s)", "(?-i)", "(?-s)", "(?is-i)", "(?i-)"]).bytes()),
+            1 => out.extend(rng.pick(OPTIONS).bytes()),
             2 => out.extend(
                 rng.pick(&["{", "{,}", "{2", "{2,", "{ }", "{ , }", "{2 3}", "}", "]"]).bytes(),
             ),
@@ -307,7 +346,7 @@ fn item(rng: &mut Rng, out: &mut Vec<u8>, budget: usize, depth: usize) {
         15..=17 => class(rng, out),
         18 => quote(rng, out, b"aabA\\\\*+?.|(){}[]^$EQ#d2 "),
         _ if depth < 5 && budget > 1 => {
-            let openings = ["(", "(", "(?:", "(?i:", "(?s-i:", "(?-s:", "(?-is:"];
+            let openings = ["(", "(", "(?:", "(?i:", "(?s-i:", "(?-s:", "(?-is:", "(?m:", "(?-m:"];
             out.extend(rng.pick(&openings).bytes());
             choice(rng, out, budget / 2, depth + 1);
             out.push(b')');
@@ -414,7 +453,7 @@ fn name(rng: &mut Rng, out: &mut Vec<u8>) {
 /// A few bytes taken out, put in or changed.
 fn break_it(rng: &mut Rng, out: &mut Vec<u8>) {
     let at = rng.below(out.len() + 1);
-    match rng.below(11) {
+    match rng.below(12) {
         0 if at < out.len() => drop(out.remove(at)),
         1 if at < out.len() => out[at] = rng.byte(),
         2 => out.insert(at, *rng.pick(META)),
@@ -422,6 +461,7 @@ fn break_it(rng: &mut Rng, out: &mut Vec<u8>) {
         4 | 5 => drop(out.splice(at..at, rng.pick(SPELLINGS).bytes())),
         6 | 7 => drop(out.splice(at..at, rng.pick(RAW_SPELLINGS).bytes())),
         8 if rng.once_in(2) => out.insert(at, *rng.pick(RAW_BYTES)),
+        9 => drop(out.splice(at..at, rng.pick(EDGES).bytes())),
         _ => drop(out.splice(at..at, rng.pick(NASTY).bytes())),
     }
 }

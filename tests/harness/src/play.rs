@@ -6,7 +6,7 @@
 use std::borrow::Cow;
 
 use corpus::{Call, Case, Line, Lists, Report, Work};
-use reference::refusal::{least_space, MAX_RULES};
+use reference::refusal::{least_space, MAX_RULES, TABLE_WORDS};
 
 use crate::slices::{carried_further, in_bounds, Scanned, MOST_UNITS};
 use crate::watcher::{Answer, Change, Watcher, NO_LIMIT};
@@ -18,9 +18,6 @@ pub enum Outcome {
     /// It changes a state in a way that this watcher's states do not allow.
     Skipped,
 }
-
-/// The words of a table.
-pub const TABLE_WORDS: usize = 4_096;
 
 /// Plays a case; an error says which line was answered wrongly, and how.
 pub fn play<W: Watcher>(watcher: &W, case: &Case) -> Result<Outcome, String> {
@@ -157,6 +154,7 @@ impl<'w, W: Watcher> Player<'w, W> {
             Line::StateMark(n) => return self.change(Change::Mark(*n)),
             Line::StateHeld(n) => return self.change(Change::Held(*n)),
             Line::StatePair(n) => return self.change(Change::Pair(*n)),
+            Line::StateLast(n) => return self.change(Change::Last(*n)),
             Line::Block(_) | Line::Report(_) | Line::Busy(_) => {
                 return Err("a case has either blocks or calls".to_string());
             }

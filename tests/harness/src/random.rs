@@ -46,6 +46,27 @@ const LAST_LINES: &[&str] = &[
     "a|a\\Z",
 ];
 
+/// Patterns that wait for the next byte, some of them for the end as well.
+const NEXT_BYTES: &[&str] = &[
+    "a\\b",
+    "[ab]\\B",
+    "\\b[^a]",
+    "\\B.",
+    "a\\b|a-",
+    "a(?:\\b|\\B)",
+    "ba\\b|a\\B",
+    "a|a\\b",
+    "a\\b$",
+    "[a-]\\b|\\n",
+    "(?m)a$",
+    "(?m)^[^a]",
+    "(?m)\\n^",
+    "(?m)\\n$|\\n\\n",
+    "(?m)a$\\n^",
+    "(?m)(?:a|\\n)$",
+    "(?m)^|a\\b.",
+];
+
 /// Runs the cases from `first` on; the first disagreement, made smaller, is the error.
 pub fn run<W: Watcher>(watcher: &W, seed: u64, first: u64, cases: u64) -> Result<Count, String> {
     let mut count = Count::default();
@@ -99,10 +120,12 @@ pub fn scenario(rng: &mut Rng) -> Scenario {
             Addition { id, flags: *rng.pick(&[0, 0, 8]), pattern }
         }));
     }
-    if rng.once_in(12) {
-        for _ in 0..2 + rng.below(2) {
-            let pattern = rng.pick(LAST_LINES).as_bytes().to_vec();
-            additions.push(Addition { pattern, ..addition(rng) });
+    for waiting in [LAST_LINES, NEXT_BYTES] {
+        if rng.once_in(12) {
+            for _ in 0..2 + rng.below(2) {
+                let pattern = rng.pick(waiting).as_bytes().to_vec();
+                additions.push(Addition { pattern, ..addition(rng) });
+            }
         }
     }
     let (rules, _) = add_all(additions.iter().map(|a| (a.id, a.flags, &a.pattern[..])));
@@ -130,8 +153,8 @@ fn addition(rng: &mut Rng) -> Addition {
     };
     let flags = match rng.below(30) {
         0 => rng.word() as u32,
-        1 => 4,
-        _ => *rng.pick(&[0, 0, 0, 1, 2, 8, 8, 3, 9, 10, 11]),
+        1 => 16,
+        _ => *rng.pick(&[0, 0, 0, 1, 2, 4, 4, 8, 8, 3, 9, 10, 11, 12, 15]),
     };
     Addition { id, flags, pattern: pattern(rng) }
 }
@@ -186,7 +209,7 @@ pub fn log(rng: &mut Rng, rules: &[Rule]) -> Vec<u8> {
     for _ in 0..rng.below(12) {
         match rng.below(8) {
             0 => log.push(*rng.pick(ODD_BYTES)),
-            1 => log.extend((0..rng.below(4)).map(|_| *rng.pick(b"abcABC"))),
+            1 => log.extend((0..rng.below(4)).map(|_| *rng.pick(b"abcABC_ -\n"))),
             2 => log.push(rng.byte()),
             _ if rules.is_empty() => log.push(b'a'),
             _ => {

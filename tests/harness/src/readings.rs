@@ -7,7 +7,7 @@ use reference::rule::check;
 
 use crate::watcher::{PatternReader, Reading};
 
-pub const BYTES: &[u8] = b"\\[]^-(){}?*+|,:.1aixdNZcQE# \t";
+pub const BYTES: &[u8] = b"\\[]^-(){}?*+|,:.1aixdbBmNZcQE# \t";
 
 #[derive(Clone, Debug, Default)]
 pub struct Count {

@@ -5,12 +5,11 @@
 
 use corpus::{Call, Case, Line, Lists, Work};
 use reference::ordered::{ordered, Moment, Pair};
-use reference::refusal::least_space;
+use reference::refusal::{least_space, TABLE_WORDS};
 use reference::rule::{check, Rule};
 use reference::ways::busy;
 
 use crate::definition::add_all;
-use crate::play::TABLE_WORDS;
 
 #[derive(Clone, Debug, PartialEq, Eq)]
 pub struct Addition {
@@ -190,7 +189,7 @@ impl Caller<'_> {
                 self.lines.push(Line::Lend(Some(TABLE_WORDS)));
             }
             Step::NoTable => {
-                let addition = Addition { id: 0, flags: 4, pattern: b")".to_vec() };
+                let addition = Addition { id: 0, flags: 16, pattern: b")".to_vec() };
                 self.lines.extend([Line::Lend(None), rule_line(&addition, 1, 0)]);
                 let space = least_space(self.rules.len());
                 self.answer(None, old_lists(space, space), 1, &[], 0, None);

@@ -27,6 +27,8 @@ pub enum Change {
     Held(usize),
     /// One more rule with a pair held for the offset before the last byte, by its index likewise.
     Pair(usize),
+    /// Another kind of last byte: 1 a word byte, 2 a newline, any other number neither.
+    Last(u64),
 }
 
 pub trait Watcher {

@@ -49,6 +49,8 @@ fn a_line_that_is_none_is_an_error() {
         "report 1 1",
         "x",
         "lend -1",
+        "state last",
+        "state last -1",
     ] {
         assert!(corpus::files::cases_in("t", &format!("case x\n{text}\n")).is_err(), "{text}");
     }

@@ -3,9 +3,13 @@
 //! mode must find every one of them.
 
 mod finding;
+mod slipping;
 
+use harness::exhaustive::MEANING;
 use harness::over_words::OverWords;
-use words::calls::{Answer, Calls, NO_LIMIT};
+use slipping::{scanned, Slipping, With};
+use words::calls::{Answer, Calls};
+use words::gaps::{before_last, Side};
 use words::interpreter::Interpreter;
 use words::layout::*;
 
@@ -68,12 +72,12 @@ fn forget(state: &mut [u64]) {
     state[PENDING] = 0;
 }
 
-/// The words without last positions inside the stream: then a pair that could wait is held, whether
-/// it was given or not.
+/// The words without last positions between two bytes: then a pair that could wait is held, whether it
+/// was given or not.
 fn without_lasts(table: &[u64]) -> Vec<u64> {
     let mut words = table.to_vec();
     for place in 0..words[RULES] as usize {
-        words[record(place) + LAST..][..4].fill(0);
+        words[last(place, 0)..last(place, before_last(Side::Other))].fill(0);
     }
     words
 }
@@ -147,29 +151,7 @@ impl Slip {
     }
 }
 
-/// The state after these bytes, whatever they report.
-fn scanned(table: &[u64], state: &mut [u64], bytes: &[u8]) {
-    let space = 2 * MAX_RULES * (bytes.len() + 1);
-    Interpreter.scan(table, state, NO_LIMIT, bytes, &mut vec![0; space], &mut vec![0; space]);
-}
-
-impl Calls for Slip {
-    fn empty(&self, table: &mut [u64]) -> u32 {
-        Interpreter.empty(table)
-    }
-
-    fn test(&self, table: &[u64]) -> u32 {
-        Interpreter.test(table)
-    }
-
-    fn add(&self, table: &mut [u64], id: u32, flags: u32, pattern: &[u8]) -> (u32, usize) {
-        Interpreter.add(table, id, flags, pattern)
-    }
-
-    fn open(&self, table: &[u64], state: &mut [u64]) -> u32 {
-        Interpreter.open(table, state)
-    }
-
+impl Slipping for Slip {
     fn scan(
         &self,
         table: &[u64],
@@ -222,18 +204,18 @@ impl Calls for Slip {
     }
 }
 
-fn watchers() -> Vec<OverWords<Slip>> {
-    SLIPS.map(OverWords).to_vec()
+fn watchers(slips: &[Slip]) -> Vec<OverWords<With<Slip>>> {
+    slips.iter().map(|&slip| OverWords(With(slip))).collect()
 }
 
 #[test]
 fn the_corpus_finds_every_slip() {
-    finding::by_the_corpus(&watchers());
+    finding::by_the_corpus(&watchers(&SLIPS));
 }
 
 #[test]
 fn the_random_mode_finds_every_slip_and_makes_it_small() {
-    finding::at_random(&watchers(), 10_000);
+    finding::at_random(&watchers(&SLIPS), 10_000);
 }
 
 #[test]
@@ -241,7 +223,6 @@ fn the_exhaustive_mode_finds_every_slip_of_meaning() {
     // Its callers lend the least space there may be and offer no empty block; its two rules are the
     // same, the single-match one first.
     let beyond = [EmptyBlockForgets, RunsMixed, OnceForScans, OnceForClosing];
-    let met = |slip: &Slip| !beyond.contains(slip);
-    let slips: Vec<OverWords<Slip>> = SLIPS.into_iter().filter(met).map(OverWords).collect();
-    finding::among_all(&slips, 3, 2);
+    let met: Vec<Slip> = SLIPS.into_iter().filter(|slip| !beyond.contains(slip)).collect();
+    finding::among_all(&watchers(&met), MEANING, 3, 2);
 }

@@ -1,6 +1,6 @@
 //! The random patterns hold enough of what is easily missed: named classes, quotes and comments,
-//! blanks in braces, raw control bytes, long patterns, and assertions of the last line, in all their
-//! corners, accepted and refused.
+//! blanks in braces, raw control bytes, long patterns, assertions of the last line, line mode and word
+//! edges, in all their corners, accepted and refused.
 
 use std::collections::BTreeMap;
 
@@ -56,6 +56,16 @@ fn kinds(pattern: &[u8], number: u32, place: usize) -> Vec<&'static str> {
             kind("last line by its letter", has(pattern, "\\Z")),
             kind("last line then newline", has(pattern, "$\\n") || has(pattern, "\\Z\\s")),
             kind("newline then last line", has(pattern, "\\n$")),
+            kind("word edge", has(pattern, "\\b") && !has(pattern, "[")),
+            kind("no word edge", has(pattern, "\\B")),
+            kind("either of them", has(pattern, "(?:\\b|\\B)")),
+            kind("word edge then last line", has(pattern, "\\b$")),
+            kind("line mode on", has(pattern, "(?m)") || has(pattern, "(?im-s)")),
+            kind("line mode off", has(pattern, "(?-m)") || has(pattern, "(?s-m)")),
+            kind("group in line mode", has(pattern, "(?m:")),
+            kind("line start", has(pattern, "(?m)^") || has(pattern, "\\n^")),
+            kind("line end", has(pattern, "(?m)$")),
+            kind("byte 8 in a class", has(pattern, "[\\b") || has(pattern, "a\\b]")),
         ],
         5 => vec![kind("over 1,024 bytes", true)],
         6 => vec![
@@ -78,6 +88,9 @@ fn kinds(pattern: &[u8], number: u32, place: usize) -> Vec<&'static str> {
                 "quantifier after the last line",
                 before.ends_with(b"\\Z") || before.ends_with(b"$"),
             ),
+            kind("quantifier after a word edge", before.ends_with(b"\\b")),
+            kind("quantifier after no word edge", before.ends_with(b"\\B")),
+            kind("quantifier after line mode", before.ends_with(b"(?m)")),
             kind("quantifier after nothing", after_nothing),
             kind("lone mark after nothing", after_nothing && b"?+".contains(&from[0])),
             kind("group that starts with nothing", before.ends_with(b"(\\E")),
@@ -91,6 +104,9 @@ fn kinds(pattern: &[u8], number: u32, place: usize) -> Vec<&'static str> {
         12 => vec![kind("open comment", place == pattern.len() && has(pattern, "(?#"))],
         14 => vec![
             kind("last line in a class", from.starts_with(b"\\Z")),
+            kind("no word edge in a class", from.starts_with(b"\\B")),
+            kind("no word edge at the end of a range", from.starts_with(b"\\b-\\B")),
+            kind("other letter after line mode", from.starts_with(b"(?mx)")),
             kind("no name of the list", from.starts_with(b"[:")),
             kind("other bracket", from.starts_with(b"[.") || from.starts_with(b"[=")),
             kind("14 before 23", from.starts_with(b"{2\t}+") || from.starts_with(b"(?i\t)")),
@@ -122,6 +138,6 @@ fn every_corner_comes_often() {
             *count.entry(kind).or_default() += 1;
         }
     }
-    assert_eq!(count.len(), 54, "{count:?}");
+    assert_eq!(count.len(), 70, "{count:?}");
     assert!(count.values().all(|&n| n >= 100), "{count:?}");
 }

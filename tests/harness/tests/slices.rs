@@ -3,15 +3,18 @@
 //! and the damaged words must find them; without a slip the same calls pass.
 
 mod finding;
+mod slipping;
 
 use corpus::{Call, Line};
 use harness::corpus_run::run_folder;
 use harness::damaged;
+use harness::exhaustive::MEANING;
 use harness::over_words::OverWords;
 use harness::random;
 use harness::rng::Rng;
 use harness::scenario::predict;
 use harness::slices::MOST_UNITS;
+use slipping::{scanned, Slipping, With};
 use words::calls::{Answer, Calls, NO_LIMIT};
 use words::interpreter::Interpreter;
 use words::layout::*;
@@ -52,7 +55,8 @@ enum Slip {
     ZeroIsNotChecked,
     /// The stream limit is held against the bytes that could be paid for.
     LimitOfThePaid,
-    /// What is held is forgotten by a scan that cannot pay for its first byte.
+    /// What is held, and the kind of the last byte, is forgotten by a scan that cannot pay for its
+    /// first byte.
     UnpaidForgets,
     /// Of the allowance only 32 bits are read.
     In32Bits,
@@ -85,8 +89,8 @@ const SLIPS: [Slip; 18] = [
 fn unreported(table: &[u64], state: &[u64]) -> u64 {
     let marked = |p: usize| {
         (0..table[RULES] as usize).filter(|a| state[MARKS] >> a & 1 == 1).any(|a| {
-            let (from, to) = from_to(table[record(a) + SPAN]);
-            from <= p as u64 && (p as u64) < to
+            let positions = table[record(a) + FROM]..table[record(a) + TO];
+            positions.contains(&(p as u64))
         })
     };
     (0..MAX_POSITIONS).filter(|&p| has(state, 0, p) && !marked(p)).count() as u64
@@ -137,22 +141,14 @@ impl Slip {
         let mut answer = Answer { number: 0, taken: 0, count: 0, used: 0 };
         for &byte in block {
             let mut next = state.to_vec();
-            let (mut more_ids, mut more_offsets) = ([0; 2 * MAX_RULES], [0; 2 * MAX_RULES]);
-            let one = Interpreter.scan(
-                table,
-                &mut next,
-                NO_LIMIT,
-                &[byte],
-                &mut more_ids,
-                &mut more_offsets,
-            );
+            let reports = scanned(table, &mut next, &[byte]);
             let cost = self.cost(table, state, &next);
             let paid = self.pays(allowance.saturating_sub(answer.used), cost);
-            let free = answer.count..space.min(answer.count + one.count);
-            let fits = free.len() == one.count;
+            let fits = reports.len() <= space - answer.count;
             if fits && (paid || self == WritesTheUnpaid) {
-                ids[free.clone()].copy_from_slice(&more_ids[..one.count]);
-                offsets[free].copy_from_slice(&more_offsets[..one.count]);
+                for (slot, &(id, end)) in (answer.count..).zip(&reports) {
+                    (ids[slot], offsets[slot]) = (id, end);
+                }
             }
             let pays_more = match self {
                 UsesTheUnpaid => !paid,
@@ -165,7 +161,7 @@ impl Slip {
             if !paid || !fits {
                 break;
             }
-            answer.count += one.count;
+            answer.count += reports.len();
             answer.taken += 1;
             state.copy_from_slice(&next);
         }
@@ -173,23 +169,7 @@ impl Slip {
     }
 }
 
-impl Calls for Slip {
-    fn empty(&self, table: &mut [u64]) -> u32 {
-        Interpreter.empty(table)
-    }
-
-    fn test(&self, table: &[u64]) -> u32 {
-        Interpreter.test(table)
-    }
-
-    fn add(&self, table: &mut [u64], id: u32, flags: u32, pattern: &[u8]) -> (u32, usize) {
-        Interpreter.add(table, id, flags, pattern)
-    }
-
-    fn open(&self, table: &[u64], state: &mut [u64]) -> u32 {
-        Interpreter.open(table, state)
-    }
-
+impl Slipping for Slip {
     fn scan(
         &self,
         table: &[u64],
@@ -218,38 +198,27 @@ impl Calls for Slip {
             UnpaidForgets if answer.taken == 0 && !block.is_empty() => {
                 state[HELD..HELD + 4].fill(0);
                 state[PENDING] = 0;
+                state[SIDE] = 0;
             }
             _ => {}
         }
         answer
     }
-
-    fn close(
-        &self,
-        table: &[u64],
-        state: &mut [u64],
-        ids: &mut [u32],
-        offsets: &mut [u64],
-    ) -> Answer {
-        Interpreter.close(table, state, ids, offsets)
-    }
-
-    fn busy(&self, state: &[u64]) -> u32 {
-        Interpreter.busy(state)
-    }
 }
 
 /// The slips but for these.
-fn without(beyond: &[Slip]) -> Vec<OverWords<Slip>> {
-    SLIPS.into_iter().filter(|slip| !beyond.contains(slip)).map(OverWords).collect()
+fn without(beyond: &[Slip]) -> Vec<OverWords<With<Slip>>> {
+    let met = SLIPS.into_iter().filter(|slip| !beyond.contains(slip));
+    met.map(|slip| OverWords(With(slip))).collect()
 }
 
 #[test]
 fn without_a_slip_all_is_well() {
-    let tally = run_folder(&OverWords(Sound), corpus::files::folder()).unwrap();
+    let sound = With(Sound);
+    let tally = run_folder(&OverWords(sound), corpus::files::folder()).unwrap();
     assert!(tally.failures.is_empty(), "{}", tally.failures.join("\n"));
-    random::run(&OverWords(Sound), 1, 0, 500).unwrap();
-    damaged::run(&Sound, 1, 0, 500).unwrap();
+    random::run(&OverWords(sound), 1, 0, 500).unwrap();
+    damaged::run(&sound, 1, 0, 500).unwrap();
 }
 
 #[test]
@@ -268,13 +237,13 @@ fn the_exhaustive_mode_finds_every_slip_of_work() {
     // Its calls are all accepted, its allowances are about what bytes cost, and a byte that could not
     // be paid for is taken before the closing.
     let beyond = [UsedWhenRefused, ZeroIsNotChecked, LimitOfThePaid, UnpaidForgets, In32Bits];
-    finding::among_all(&without(&beyond), 2, 4);
+    finding::among_all(&without(&beyond), MEANING, 2, 4);
 }
 
 #[test]
 fn the_damaged_words_find_every_slip() {
     for slip in SLIPS {
-        assert!(damaged::run(&slip, 1, 0, 30_000).is_err(), "{slip:?} was not found");
+        assert!(damaged::run(&With(slip), 1, 0, 30_000).is_err(), "{slip:?} was not found");
     }
 }
 

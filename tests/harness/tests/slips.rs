@@ -4,7 +4,7 @@
 
 mod finding;
 
-use harness::exhaustive::{self, Bounds, BRACES, MEANING, SPELLING};
+use harness::exhaustive::{self, Bounds, BRACES, LINES, MEANING, SPELLING};
 use harness::model::Model;
 use harness::random;
 use harness::watcher::{Answer, Change, Watcher};
@@ -75,7 +75,7 @@ impl Slip {
         offsets: &mut [u64],
     ) -> Answer<Stream> {
         let space = ids.len().min(offsets.len());
-        let most = MAX_RULES * block.len() + space;
+        let most = least_space(MAX_RULES) * block.len() + space;
         let mut all = (vec![0; most], vec![0; most]);
         let mut answer =
             Model.scan(table, stream.clone(), allowance, block, &mut all.0, &mut all.1);
@@ -297,7 +297,7 @@ fn the_random_mode_finds_every_slip_and_makes_it_small() {
 
 #[test]
 fn the_exhaustive_mode_finds_a_slip() {
-    finding::among_all(&[FallingIds, StopsEarly, ForgetsSingleMatch], 1, 2);
+    finding::among_all(&[FallingIds, StopsEarly, ForgetsSingleMatch], MEANING, 1, 2);
 }
 
 #[test]
@@ -306,6 +306,10 @@ fn the_model_agrees_with_the_definition() {
     let count = exhaustive::run(&Model, &Model, bounds).unwrap();
     assert_eq!(count.patterns, 1 + 21 + 21 * 21);
     assert!(count.accepted > 40 && count.pairs == count.accepted * (1 + 4 + 16 + 64));
+    let bounds = Bounds { alphabet: LINES, tokens: 3, bytes: 2, part: (0, 1) };
+    let count = exhaustive::run(&Model, &Model, bounds).unwrap();
+    assert_eq!(count.patterns, 1 + 16 + 16 * 16 + 16 * 16 * 16);
+    assert!(count.accepted > 1_000 && count.pairs == count.accepted * (1 + 3 + 9));
     let bounds = Bounds { alphabet: SPELLING, tokens: 3, bytes: 1, part: (0, 1) };
     let count = exhaustive::run(&Model, &Model, bounds).unwrap();
     assert_eq!(count.patterns, 1 + 16 + 16 * 16 + 16 * 16 * 16);

@@ -2,17 +2,19 @@
 //! coincide: PCRE2 start by start, Hyperscan by end offsets. A disagreement ends it with status 1.
 //!
 //! Left out because the meanings differ: `{,m}` and blanks in braces (PCRE2 10.42 reads bytes, or for
-//! escapes a fault), a brace after `\N`, and what an outside matcher refuses, as Hyperscan does an
-//! assertion of the end inside a pattern. What one side accepts and the other refuses is counted and
-//! shown, not judged: for PCRE2 a `?` or `+` behind a comment is the mark of the quantifier before it,
-//! `[\d-\E]` has a range and `[\d\E-a]` has none.
+//! escapes a fault), a brace after `\N`, what an outside matcher refuses, as Hyperscan does an
+//! assertion of the end inside a pattern, and with Hyperscan a rule that asks for the start of a line
+//! on a log that ends with a newline, after which a matcher of streams may take a line to start. What
+//! one side accepts and the other refuses is counted and shown, not judged: for PCRE2 a `?` or `+`
+//! behind a comment is the mark of the quantifier before it, `[\d-\E]` has a range and `[\d\E-a]` has
+//! none.
 
 mod pcre2;
 
 use std::collections::BTreeMap;
 use std::process::ExitCode;
 
-use harness::exhaustive::SPELLING;
+use harness::exhaustive::{all_logs, LINES, SPELLING};
 use harness::patterns::pattern;
 use harness::random::log;
 use harness::readings;
@@ -21,6 +23,7 @@ use hyperscan::{Database, Mode};
 use reference::known::Known;
 use reference::meaning::ends;
 use reference::rule::{check, Rule};
+use reference::tree::{Assertion, Node};
 
 #[derive(Default)]
 struct Count {
@@ -33,17 +36,22 @@ struct Count {
     shown: Vec<String>,
 }
 
+const USAGE: &str =
+    "usage: oracles SEED COUNT, oracles LENGTH, oracles spelling TOKENS, or oracles lines TOKENS";
+
 fn main() -> ExitCode {
     let words: Vec<String> = std::env::args().skip(1).collect();
-    let spelling = words.first().is_some_and(|word| word == "spelling");
+    let alphabet = words.first().map_or("", String::as_str);
     let numbers: Vec<u64> = words.iter().filter_map(|word| word.parse().ok()).collect();
-    let done = match (spelling, &numbers[..]) {
-        (true, &[longest]) => all_readings(SPELLING.tokens, longest as usize, LOGS),
-        (false, &[longest]) => all_readings(&readings::bytes(), longest as usize, &[]),
-        (false, &[seed, cases]) => random_cases(seed, cases),
-        _ => {
-            Err("usage: oracles SEED COUNT, oracles LENGTH, or oracles spelling TOKENS".to_string())
+    let done = match (alphabet, &numbers[..]) {
+        ("spelling", &[longest]) => all_readings(SPELLING.tokens, longest as usize, 0, &logs()),
+        ("lines", &[longest]) => {
+            let logs = all_logs(LINES.bytes, 3);
+            all_readings(LINES.tokens, longest as usize, LINES.flags, &logs)
         }
+        (_, &[longest]) => all_readings(&readings::bytes(), longest as usize, 0, &[]),
+        (_, &[seed, cases]) => random_cases(seed, cases),
+        _ => Err(USAGE.to_string()),
     };
     match done {
         Ok(()) => ExitCode::SUCCESS,
@@ -75,10 +83,10 @@ fn random_cases(seed: u64, cases: u64) -> Result<(), String> {
 }
 
 /// Bytes that the spelling alphabet may quote or leave out, and some in a row.
-const LOGS: &[&[u8]] = &[
-    b"a", b"A", b"-", b"^", b"]", b"*", b"5", b"[", b"\\", b":", b"(", b"#", b"Q", b"aa", b"-a",
-    b"\\E",
-];
+fn logs() -> Vec<Vec<u8>> {
+    let in_a_row = ["aa", "-a", "\\E"].map(|log| log.as_bytes().to_vec());
+    b"aA-^]*5[\\:(#Q".iter().map(|&byte| vec![byte]).chain(in_a_row).collect()
+}
 
 /// For all patterns of up to so many tokens, whether they are accepted here and by PCRE2: a table of
 /// our number, 0 for accepted, and PCRE2's error, 0 for accepted, with the count and the first
@@ -87,17 +95,18 @@ const LOGS: &[&[u8]] = &[
 fn all_readings<T: AsRef<[u8]>>(
     alphabet: &[T],
     longest: usize,
-    logs: &[&[u8]],
+    flags: u32,
+    logs: &[Vec<u8>],
 ) -> Result<(), String> {
     let mut table: BTreeMap<(u32, i32), (u64, String)> = BTreeMap::new();
     let mut count = Count::default();
     readings::for_all(alphabet, longest, &mut |pattern| {
-        let rule = check(&[], 0, 0, pattern);
+        let rule = check(&[], 0, flags, pattern);
         let number = rule.as_ref().err().map_or(0, |refusal| refusal.number);
         if number >= 14 || reads_otherwise(pattern) {
             return Ok(());
         }
-        let code = pcre2::Pattern::compile(pattern, 0);
+        let code = pcre2::Pattern::compile(pattern, flags);
         let theirs = code.as_ref().err().copied().unwrap_or(0);
         let first = || (0, pattern.escape_ascii().to_string());
         table.entry((number, theirs)).or_insert_with(first).0 += 1;
@@ -120,7 +129,7 @@ fn one(rng: &mut Rng, count: &mut Count) -> Result<(), String> {
     if reads_otherwise(&pattern) {
         return Ok(());
     }
-    let flags = rng.below(4) as u32;
+    let flags = rng.below(8) as u32;
     let code = pcre2::Pattern::compile(&pattern, flags);
     let rule = match check(&[], 1, flags, &pattern) {
         Ok(rule) => rule,
@@ -152,10 +161,23 @@ fn one(rng: &mut Rng, count: &mut Count) -> Result<(), String> {
             );
         }
     }
+    if log.ends_with(b"\n") && starts_lines(&rule.tree) {
+        return Ok(());
+    }
     if let Some(database) = Database::new(&[(1, flags, &pattern)], Mode::Block) {
         with_hyperscan(&rule, &database, &log, count)?;
     }
     Ok(())
+}
+
+/// Does it ask for the start of a line?
+fn starts_lines(node: &Node) -> bool {
+    match node {
+        Node::Assert(assertion) => *assertion == Assertion::LineStart,
+        Node::Item(_) => false,
+        Node::Sequence(parts) | Node::Choice(parts) => parts.iter().any(starts_lines),
+        Node::Repeat { of, .. } => starts_lines(of),
+    }
 }
 
 /// The first few only.

@@ -1,6 +1,6 @@
 //! PCRE2 by its 8-bit C interface: all ends of all matches from one start, by `pcre2_dfa_match`.
 //! Set up so that its meaning is the product's: newline is byte 10, and no shortcut that would hide a
-//! match. `$` and `\Z` are the product's as they stand.
+//! match. `$` and `\Z`, line mode and word edges are the product's as they stand.
 
 use std::cell::RefCell;
 use std::ffi::c_void;
@@ -9,6 +9,7 @@ use std::ptr::null_mut;
 const ANCHORED: u32 = 0x8000_0000;
 const CASELESS: u32 = 0x8;
 const DOTALL: u32 = 0x20;
+const MULTILINE: u32 = 0x400;
 const NO_AUTO_POSSESS: u32 = 0x4000;
 const NO_START_OPTIMIZE: u32 = 0x1_0000;
 const NEWLINE_LF: u32 = 2;
@@ -62,6 +63,9 @@ impl Pattern {
         }
         if flags & 2 != 0 {
             options |= DOTALL;
+        }
+        if flags & 4 != 0 {
+            options |= MULTILINE;
         }
         let (mut error, mut offset) = (0, 0);
         // SAFETY: the pattern is lent with its length, the context lives until it is freed here.

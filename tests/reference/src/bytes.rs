@@ -67,11 +67,16 @@ impl std::fmt::Debug for ByteSet {
     }
 }
 
+/// What `\w` takes.
+pub fn is_word(byte: u8) -> bool {
+    byte.is_ascii_alphanumeric() || byte == b'_'
+}
+
 /// The set that a type escape names by its letter; none for any other letter.
 pub fn type_named(letter: u8) -> Option<ByteSet> {
     let plain = match letter.to_ascii_lowercase() {
         b'd' => ByteSet::of(|b| (48..=57).contains(&b)),
-        b'w' => ByteSet::of(|b| b.is_ascii_alphanumeric() || b == b'_'),
+        b'w' => ByteSet::of(is_word),
         b's' => ByteSet::of(|b| (9..=13).contains(&b) || b == 32),
         b'h' => ByteSet::of(|b| b == 9 || b == 32 || b == 160),
         b'v' => ByteSet::of(|b| (10..=13).contains(&b) || b == 133),

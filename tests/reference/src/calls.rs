@@ -3,9 +3,10 @@
 //! states in the plainest shape: a table is the list of its rules, a state is the bytes taken.
 //!
 //! At each byte the rules are matched anew, looking back from that byte over the bytes taken so
-//! far. Nothing is carried from byte to byte but the bytes and the marks of single-match rules. What
-//! waits for the end is not carried either: a closing looks back from the last byte and from the one
-//! before it, once as the end is known and once as it was not.
+//! far, and looking back from the byte before it once more, with this byte known and without. Nothing
+//! is carried from byte to byte but the bytes and the marks of single-match rules. What waits for the
+//! next byte or for the end is not carried either: a closing looks back from the last byte and from
+//! the one before it, once as the end is known and once as it was not.
 //!
 //! What a byte costs is found in the same way: the busy figure of the state before it, looked back
 //! for anew, and one unit.
@@ -40,6 +41,9 @@ pub struct Stream {
     rules: Rc<Vec<Rule>>,
     /// Bytes taken before the ones kept here: 0, unless set by hand.
     base: u64,
+    /// The last of those, if there are any: one that is neither a word byte nor a newline, unless set
+    /// by hand.
+    before: u8,
     bytes: Vec<u8>,
     /// Indices of the rules marked "already reported", in the order of rising ids.
     marks: Vec<usize>,
@@ -118,6 +122,7 @@ impl Stream {
             position_count: positions_of(&rules),
             rules,
             base: 0,
+            before: b' ',
             bytes: Vec::new(),
             marks: Vec::new(),
             stray_live: Vec::new(),
@@ -142,6 +147,17 @@ impl Stream {
     /// This fresh state with another total, set by hand.
     pub fn with_total(&self, total: u64) -> Option<Stream> {
         self.bytes.is_empty().then(|| Stream { base: total, ..self.clone() })
+    }
+
+    /// This fresh state with another byte before its own, set by hand: 1 a word byte, 2 a newline, and
+    /// any other number neither.
+    pub fn with_last(&self, last: u64) -> Option<Stream> {
+        let before = match last {
+            1 => b'a',
+            2 => b'\n',
+            _ => b' ',
+        };
+        self.bytes.is_empty().then(|| Stream { before, ..self.clone() })
     }
 
     /// This state with a live position that none of its table's rules has, set by hand.
@@ -230,19 +246,14 @@ impl Stream {
                 break;
             }
             self.bytes.push(byte);
-            let reporting = self.reporting(rules);
-            if reporting.len() > space - count {
+            let (reports, marks) = delivered(self.byte_runs(rules), rules, &self.marks);
+            if reports.len() > space - count {
                 self.bytes.pop();
                 break;
             }
-            for index in reporting {
-                ids[count] = rules[index].id;
-                offsets[count] = self.total();
-                count += 1;
-                if rules[index].single_match() {
-                    self.marks.push(index);
-                }
-            }
+            write(&reports, &mut ids[count..], &mut offsets[count..]);
+            count += reports.len();
+            self.marks = marks;
             self.held_pairs.clear();
             taken += 1;
             used += cost;
@@ -251,64 +262,85 @@ impl Stream {
     }
 
     /// Reports the pairs that need the end, those before the last byte first, and sets the closed
-    /// mark; nothing else changes. A single-match rule that reports in the first run has none in the
-    /// second.
+    /// mark; nothing else changes.
     pub fn close(mut self, table: &Table, ids: &mut [u32], offsets: &mut [u64]) -> Answer {
         let space = ids.len().min(offsets.len());
         let rules = match self.checked(table, 0, space) {
             Ok(rules) => rules,
             Err(number) => return self.refused(number),
         };
-        let mut marks = self.marks.clone();
-        let mut count = 0;
-        for (offset, run) in self.closing_runs(rules) {
-            for index in run {
-                if marks.contains(&index) {
-                    continue;
-                }
-                ids[count] = rules[index].id;
-                offsets[count] = offset;
-                count += 1;
-                if rules[index].single_match() {
-                    marks.push(index);
-                }
-            }
-        }
+        let (reports, _) = delivered(self.closing_runs(rules), rules, &self.marks);
+        write(&reports, ids, offsets);
         self.closed = true;
-        Answer { number: 0, taken: 0, count, used: 0, stream: self }
+        Answer { number: 0, taken: 0, count: reports.len(), used: 0, stream: self }
     }
 
     /// What is known when so many of the bytes were just taken, or at closing.
     fn known(&self, bytes: usize, end: bool) -> Known<'_> {
-        Known { base: self.base, bytes: &self.bytes[..bytes], end }
+        Known { base: self.base, before: self.before, bytes: &self.bytes[..bytes], end }
     }
 
-    /// The rules, by rising id, that match up to the last byte taken and are not marked.
-    fn reporting(&self, rules: &[Rule]) -> Vec<usize> {
+    /// The two runs of the byte just taken: the rules with a pair before it that needed it, and those
+    /// with a pair that ends with it.
+    fn byte_runs(&self, rules: &[Rule]) -> [Run; 2] {
         let now = self.bytes.len();
-        let known = self.known(now, false);
-        (0..rules.len())
-            .filter(|&i| !self.marks.contains(&i) && matches_up_to(&rules[i].form, now, &known))
-            .collect()
+        let (then, known) = (self.known(now - 1, false), self.known(now, false));
+        let own = matching(rules, now, &known);
+        [(self.total() - 1, newly(rules, now - 1, &then, &known)), (self.total(), own)]
     }
 
-    /// The two runs of a closing: an end offset, and the rules with a pair there that needed the end.
-    fn closing_runs(&self, rules: &[Rule]) -> [(u64, Vec<usize>); 2] {
+    /// The two runs of a closing: the rules with a pair before the last byte that needed the end, and
+    /// those with one behind it.
+    fn closing_runs(&self, rules: &[Rule]) -> [Run; 2] {
         let now = self.bytes.len();
-        let mut held = now.checked_sub(1).map_or(Vec::new(), |gap| self.waiting(rules, gap));
+        let (then, closing) = (self.known(now, false), self.known(now, true));
+        let waiting = |gap: usize| newly(rules, gap, &then, &closing);
+        let mut held = now.checked_sub(1).map_or(Vec::new(), waiting);
         held.extend(&self.held_pairs);
         held.sort_unstable();
         held.dedup();
-        [(self.total().saturating_sub(1), held), (self.total(), self.waiting(rules, now))]
+        [(self.total().saturating_sub(1), held), (self.total(), waiting(now))]
     }
+}
 
-    /// The rules, by rising id, that match up to this gap now that all is known, and did not match
-    /// up to it when its last byte was taken.
-    fn waiting(&self, rules: &[Rule], gap: usize) -> Vec<usize> {
-        let (then, closing) = (self.known(gap, false), self.known(self.bytes.len(), true));
-        (0..rules.len())
-            .filter(|&i| matches_up_to(&rules[i].form, gap, &closing))
-            .filter(|&i| !matches_up_to(&rules[i].form, gap, &then))
-            .collect()
+/// A run of pairs: their end offset, and their rules by rising id.
+type Run = (u64, Vec<usize>);
+
+/// The rules that match up to this gap.
+fn matching(rules: &[Rule], gap: usize, known: &Known) -> Vec<usize> {
+    (0..rules.len()).filter(|&i| matches_up_to(&rules[i].form, gap, known)).collect()
+}
+
+/// The rules that match up to this gap by what is known now, and did not by what was known then.
+fn newly(rules: &[Rule], gap: usize, then: &Known, now: &Known) -> Vec<usize> {
+    let mut found = matching(rules, gap, now);
+    found.retain(|&i| !matches_up_to(&rules[i].form, gap, then));
+    found
+}
+
+/// The reports of some runs, one after the other, and the marks after them: a marked rule has none, and
+/// a single-match rule that reports is marked for all that follows.
+fn delivered(runs: [Run; 2], rules: &[Rule], marks: &[usize]) -> (Vec<(u32, u64)>, Vec<usize>) {
+    let mut reports = Vec::new();
+    let mut marks = marks.to_vec();
+    for (offset, run) in runs {
+        for index in run {
+            if marks.contains(&index) {
+                continue;
+            }
+            reports.push((rules[index].id, offset));
+            if rules[index].single_match() {
+                marks.push(index);
+            }
+        }
+    }
+    (reports, marks)
+}
+
+/// Writes reports from the front of both lists.
+fn write(reports: &[(u32, u64)], ids: &mut [u32], offsets: &mut [u64]) {
+    for (slot, &(id, offset)) in reports.iter().enumerate() {
+        ids[slot] = id;
+        offsets[slot] = offset;
     }
 }

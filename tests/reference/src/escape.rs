@@ -1,7 +1,7 @@
 //! Escapes. Comes in: a pattern and the index of a `\`. Goes out: what the escape stands for and
-//! where it ends, or the number of its fault. Whether it stands in a class matters for `\b`, `\N`,
-//! `\A`, `\Z` and `\z` only. `\Q` and `\E` are passed over before a token is read, and never come
-//! here.
+//! where it ends, or the number of its fault. Whether it stands in a class matters for `\b`, `\B`,
+//! `\N`, `\A`, `\Z` and `\z` only. `\Q` and `\E` are passed over before a token is read, and never
+//! come here.
 
 use crate::braces;
 use crate::bytes::{type_named, ByteSet};
@@ -50,6 +50,8 @@ pub fn read(pattern: &[u8], at: usize, in_class: bool) -> Escape {
         b'A' if !in_class => two(Ok(Escaped::Assertion(Assertion::Start))),
         b'Z' if !in_class => two(Ok(Escaped::Assertion(Assertion::LastLine))),
         b'z' if !in_class => two(Ok(Escaped::Assertion(Assertion::End))),
+        b'b' => two(Ok(Escaped::Assertion(Assertion::WordEdge))),
+        b'B' if !in_class => two(Ok(Escaped::Assertion(Assertion::NoWordEdge))),
         _ => two(Err(14)),
     }
 }

@@ -28,11 +28,13 @@
 //! where it may end, by recursion on the tree, judging each assertion by what is known. It is the
 //! usual meaning of sequence, choice and repeat, spelled with sets of offsets. An assertion may stand
 //! inside a match and still wait for the end: `$` before a newline that turns out to be the last byte.
+//! At the end of a match it may wait for the next byte: `\b`, `\B`, and `^` and `$` in line mode. Each
+//! is judged by itself, so `a(?:\b|\B)` waits although one of the two must hold.
 //!
 //! `ordered` is the definition of the one ordered list, word for word: for each rule and each end
 //! offset, the moments from the last byte on are tried in order, at each one every start is tried,
 //! and the first moment with a match is the pair's moment. The general definition is used although
-//! in the present subset only the last byte and the closing occur.
+//! in the present subset only the last byte, the byte after it and the closing occur.
 //!
 //! # Positions
 //! `written` writes the pattern out: copies are separate, optional copies are nested, a repeat
@@ -43,12 +45,12 @@
 //! # Calls
 //! `calls` is a model of the calls and of the caller's lent lists. It finds each byte's reports
 //! from the bytes taken so far, by looking back: `backward` reads the written-out form from right
-//! to left and asks for a start. A closing does so at the last two offsets, and keeps what was not
-//! known to match before. Its busy figure cuts the form off behind each position in turn and
-//! asks whether the cut form matches up to now; a byte's cost is one more than that figure before it.
-//! So the list by definition (whole stream, forward,
-//! tree with counts, first moment) and the reports of the calls (bytes so far, backward,
-//! written-out form, one byte after another) are two computations. They share the reader and
+//! to left and asks for a start. It does so at the last two offsets, for each byte and for the
+//! closing, and keeps what was not known to match before. Its busy figure cuts the form off behind
+//! each position in turn and asks whether the cut form matches up to now; a byte's cost is one more
+//! than that figure before it. So the list by definition (whole stream, forward, tree with counts,
+//! first moment) and the reports of the calls (bytes so far, backward, written-out form, one byte
+//! after another) are two computations. They share the reader and
 //! `known`, and `ways` and the busy figure of a state share the written-out form besides; the
 //! matching is not shared, so comparing them says something.
 //!

@@ -13,7 +13,7 @@ use crate::class::{self, Class};
 use crate::escape::{self, Escaped};
 use crate::quantifier::{self, Quantifier};
 use crate::quote::Place;
-use crate::refusal::{Refusal, CASELESS, DOT_ALL, MAX_GROUPS, MAX_POSITIONS};
+use crate::refusal::{Refusal, CASELESS, DOT_ALL, LINE_MODE, MAX_GROUPS, MAX_POSITIONS};
 use crate::token::lowest_fault;
 use crate::tree::{Assertion, Node};
 
@@ -21,6 +21,7 @@ use crate::tree::{Assertion, Node};
 struct Options {
     caseless: bool,
     dot_all: bool,
+    line_mode: bool,
 }
 
 /// What a quantifier would find before it. Only an item can be repeated.
@@ -49,7 +50,11 @@ struct Reader<'a> {
 
 /// The tree of the pattern under the flags, or why it is refused.
 pub fn read(pattern: &[u8], flags: u32) -> Result<Node, Refusal> {
-    let options = Options { caseless: flags & CASELESS != 0, dot_all: flags & DOT_ALL != 0 };
+    let options = Options {
+        caseless: flags & CASELESS != 0,
+        dot_all: flags & DOT_ALL != 0,
+        line_mode: flags & LINE_MODE != 0,
+    };
     let place = Place::plain(0).settled(pattern);
     let mut reader =
         Reader { pattern, place, options, before: Before::Nothing, frames: Vec::new() };
@@ -104,6 +109,10 @@ impl Reader<'_> {
         self.place.at = end;
     }
 
+    fn push_assertion(&mut self, assertion: Assertion, end: usize) {
+        self.push(Node::Assert(assertion), Before::Nothing, end);
+    }
+
     fn push_byte(&mut self, byte: u8, end: usize) {
         let one = ByteSet::one(byte);
         let set = if self.options.caseless { one.with_other_case() } else { one };
@@ -142,8 +151,10 @@ impl Reader<'_> {
                 self.push(Node::Item(ByteSet::all()), Before::Item, at + 1)
             }
             b'.' => self.push(Node::Item(ByteSet::not_newline()), Before::Item, at + 1),
-            b'^' => self.push(Node::Assert(Assertion::Start), Before::Nothing, at + 1),
-            b'$' => self.push(Node::Assert(Assertion::LastLine), Before::Nothing, at + 1),
+            b'^' if self.options.line_mode => self.push_assertion(Assertion::LineStart, at + 1),
+            b'^' => self.push_assertion(Assertion::Start, at + 1),
+            b'$' if self.options.line_mode => self.push_assertion(Assertion::LineEnd, at + 1),
+            b'$' => self.push_assertion(Assertion::LastLine, at + 1),
             _ => return self.byte(),
         }
         Ok(Token::Whole)
@@ -197,7 +208,7 @@ impl Reader<'_> {
             Escaped::NotNewline => {
                 self.push(Node::Item(ByteSet::not_newline()), Before::Item, escape.end)
             }
-            Escaped::Assertion(kind) => self.push(Node::Assert(kind), Before::Nothing, escape.end),
+            Escaped::Assertion(assertion) => self.push_assertion(assertion, escape.end),
         }
         Ok(())
     }
@@ -244,8 +255,8 @@ impl Reader<'_> {
         Ok(())
     }
 
-    /// The letters `i` and `s`, at least one, and at most one hyphen, then `)` for a setting or `:`
-    /// for a group: the options after them, the index after them, and whether a group opens.
+    /// The letters `i`, `s` and `m`, at least one, and at most one hyphen, then `)` for a setting or
+    /// `:` for a group: the options after them, the index after them, and whether a group opens.
     fn options_from(&self, from: usize) -> Option<(Options, usize, bool)> {
         let mut options = self.options;
         let mut letters = 0;
@@ -254,6 +265,7 @@ impl Reader<'_> {
             match self.pattern[i] {
                 b'i' => options.caseless = on,
                 b's' => options.dot_all = on,
+                b'm' => options.line_mode = on,
                 b'-' if on => {
                     on = false;
                     continue;

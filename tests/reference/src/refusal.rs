@@ -15,7 +15,7 @@ impl Refusal {
 }
 
 /// Limits of the product, by name.
-pub const TABLE_WORDS: usize = 4_096;
+pub const TABLE_WORDS: usize = 16_384;
 pub const MAX_RULES: usize = 64;
 pub const MAX_PATTERN: usize = 1_024;
 pub const MAX_GROUPS: usize = 16;
@@ -23,7 +23,8 @@ pub const MAX_POSITIONS: usize = 256;
 pub const MAX_REPEAT: u32 = 65_535;
 pub const MAX_STREAM: u64 = 1_099_511_627_775;
 
-/// The least report space for so many rules: a closing may report each of them at two offsets.
+/// The least report space for so many rules: a byte, and a closing, may report each of them at two
+/// offsets.
 pub fn least_space(rules: usize) -> usize {
     2 * rules
 }
@@ -31,4 +32,5 @@ pub fn least_space(rules: usize) -> usize {
 /// Flags of a rule.
 pub const CASELESS: u32 = 1;
 pub const DOT_ALL: u32 = 2;
+pub const LINE_MODE: u32 = 4;
 pub const SINGLE_MATCH: u32 = 8;

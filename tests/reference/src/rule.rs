@@ -31,7 +31,7 @@ impl PartialEq for Rule {
 
 /// The rule that an addition to these rules would bring, or why it is refused.
 pub fn check(there: &[Rule], id: u32, flags: u32, pattern: &[u8]) -> Result<Rule, Refusal> {
-    if flags & !(CASELESS | DOT_ALL | SINGLE_MATCH) != 0 {
+    if flags & !(CASELESS | DOT_ALL | LINE_MODE | SINGLE_MATCH) != 0 {
         return Err(Refusal::at(2, 0));
     }
     if there.iter().any(|rule| rule.id == id) {

@@ -6,12 +6,21 @@ use crate::refusal::MAX_POSITIONS;
 
 #[derive(Clone, Copy, Debug, PartialEq, Eq)]
 pub enum Assertion {
-    /// `^` and `\A`: offset 0.
+    /// `\A`, and `^` outside line mode: offset 0.
     Start,
-    /// `$` and `\Z`: the end of the stream, and just before a newline that is its last byte.
+    /// `\Z`, and `$` outside line mode: the end of the stream, and just before a newline that is its
+    /// last byte.
     LastLine,
     /// `\z`: the very end of the stream.
     End,
+    /// `^` in line mode: offset 0, and after a newline that is not the last byte.
+    LineStart,
+    /// `$` in line mode: the end of the stream, and before any newline.
+    LineEnd,
+    /// `\b`: of the bytes before and after, one is a word byte; a stream's end is none.
+    WordEdge,
+    /// `\B`: both are, or neither is.
+    NoWordEdge,
 }
 
 #[derive(Clone, Debug)]

@@ -2,6 +2,7 @@
 //! the state of the model.
 
 use reference::calls::{Table, NO_LIMIT};
+use reference::refusal::TABLE_WORDS;
 use reference::rule::check;
 use reference::ways::{busy, live_positions};
 
@@ -12,7 +13,7 @@ fn figures(flags: u32, pattern: &str, log: &str, wanted: &[usize]) {
     let log = log.as_bytes();
     let defined: Vec<usize> = (0..=log.len()).map(|n| busy(&rules, &log[..n])).collect();
     assert_eq!(defined, wanted, "{pattern} by ways");
-    let mut table = Table::lent(4_096);
+    let mut table = Table::lent(TABLE_WORDS);
     table.empty();
     table.add(1, flags, pattern.as_bytes()).expect("accepted");
     let (_, mut stream) = table.open();

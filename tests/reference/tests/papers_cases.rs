@@ -3,6 +3,7 @@
 
 use reference::calls::{Table, NO_LIMIT};
 use reference::ordered::{ordered, Moment, Pair};
+use reference::refusal::TABLE_WORDS;
 use reference::rule::{check, Rule};
 
 /// End offsets by scanning and at closing, of one rule on blocks.
@@ -22,7 +23,7 @@ fn by_definition(flags: u32, pattern: &[u8], blocks: &[&[u8]]) -> Found {
 }
 
 fn by_calls(flags: u32, pattern: &[u8], blocks: &[&[u8]]) -> Found {
-    let mut table = Table::lent(4_096);
+    let mut table = Table::lent(TABLE_WORDS);
     assert_eq!(table.empty(), 0);
     table.add(1, flags, pattern).expect("accepted");
     let (number, mut stream) = table.open();

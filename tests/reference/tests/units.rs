@@ -2,9 +2,10 @@
 //! the busy figure before it.
 
 use reference::calls::{Stream, Table, NO_LIMIT};
+use reference::refusal::TABLE_WORDS;
 
 fn opened(rules: &[(u32, &str)]) -> (Table, Stream) {
-    let mut table = Table::lent(4_096);
+    let mut table = Table::lent(TABLE_WORDS);
     table.empty();
     for (id, (flags, pattern)) in rules.iter().enumerate() {
         table.add(id as u32, *flags, pattern.as_bytes()).expect("accepted");

@@ -1,4 +1,4 @@
-//! The calls over lent words, as the library has them: a state is fourteen words that the caller owns.
+//! The calls over lent words, as the library has them: a state is fifteen words that the caller owns.
 
 /// The allowance of a caller who sets no limit to a scan's work.
 pub const NO_LIMIT: u64 = u64::MAX;

@@ -49,9 +49,8 @@ pub fn words_of(number: usize) -> std::ops::Range<usize> {
     first..TABLE_WORDS.min(first + BLOCK_WORDS)
 }
 
-/// Block `number` of the table in these words.
-fn image(table: &[u64], number: usize) -> Vec<u8> {
-    let words = &table[words_of(number)];
+/// The block of this number with these words of a table.
+fn image(number: usize, words: &[u64]) -> Vec<u8> {
     let mut block = Vec::new();
     block.extend((number as u16).to_le_bytes());
     block.extend((8 * words.len() as u16).to_le_bytes());
@@ -74,11 +73,12 @@ impl Card for Interpreter {
         if !fits(number, block) {
             return (27, number);
         }
-        block.copy_from_slice(&image(table, number as usize));
+        let number = number as usize;
+        block.copy_from_slice(&image(number, &table[words_of(number)]));
         (0, 0)
     }
 
-    /// A block is read where it is the image of the words that it would leave.
+    /// A block is read where it is the image of the words that it leaves.
     fn read_block(&self, table: &mut [u64], number: u64, block: &[u8]) -> (u32, u64) {
         if table.len() < TABLE_WORDS {
             return (1, 0);
@@ -86,15 +86,13 @@ impl Card for Interpreter {
         if !fits(number, block) {
             return (27, number);
         }
-        let mut next = table.to_vec();
-        for (place, word) in words_of(number as usize).enumerate() {
-            let bytes = &block[4 + 8 * place..][..8];
-            next[word] = u64::from_le_bytes(bytes.try_into().unwrap());
-        }
-        if image(&next, number as usize) != block {
+        let range = words_of(number as usize);
+        let word = |bytes: &[u8]| u64::from_le_bytes(bytes.try_into().unwrap());
+        let words: Vec<u64> = block[4..CRC_AT].chunks(8).take(range.len()).map(word).collect();
+        if image(number as usize, &words) != block {
             return (27, number);
         }
-        table.copy_from_slice(&next);
+        table[range].copy_from_slice(&words);
         (0, 0)
     }
 }

@@ -2,29 +2,26 @@
 //! as docs/TABLE.md lays it out. Reading and refusing is the reference's.
 
 use reference::refusal::{MAX_PATTERN, MAX_POSITIONS as MOST_POSITIONS};
-use reference::tree::Assertion;
+use reference::tree::Node;
 use reference::written::Form;
 use reference::{reader, written};
 
+use crate::gaps::{numbered, Gap, FIRST_GAPS, FOLLOW_GAPS, LAST_GAPS};
 use crate::layout::*;
-
-/// Which assertions hold at a gap: is it the stream's start, an end of its last line, its end?
-#[derive(Clone, Copy)]
-struct World {
-    start: bool,
-    line: bool,
-    end: bool,
-}
-
-const INSIDE: World = World { start: false, line: false, end: false };
-const AT_START: World = World { start: true, ..INSIDE };
-const AT_LINE: World = World { line: true, ..INSIDE };
-const AT_LINE_AND_START: World = World { start: true, ..AT_LINE };
-/// The last line ends where the stream ends.
-const AT_END: World = World { end: true, ..AT_LINE };
 
 /// Adds a rule to words that are a table. The number and the place.
 pub fn add(words: &mut [u64], id: u32, flags: u32, pattern: &[u8]) -> (u32, usize) {
+    add_changed(words, id, flags, pattern, |tree| tree)
+}
+
+/// Adds a rule whose tree is another than its pattern's: for slips in what a pattern means.
+pub fn add_changed(
+    words: &mut [u64],
+    id: u32,
+    flags: u32,
+    pattern: &[u8],
+    change: impl Fn(Node) -> Node,
+) -> (u32, usize) {
     let rules = words[RULES] as usize;
     if u64::from(flags) & !KNOWN_FLAGS != 0 {
         return (2, 0);
@@ -39,7 +36,7 @@ pub fn add(words: &mut [u64], id: u32, flags: u32, pattern: &[u8]) -> (u32, usiz
         return (5, 0);
     }
     let tree = match reader::read(pattern, flags) {
-        Ok(tree) => tree,
+        Ok(tree) => change(tree),
         Err(refusal) => return (refusal.number, refusal.place),
     };
     let from = words[POSITIONS] as usize;
@@ -48,48 +45,18 @@ pub fn add(words: &mut [u64], id: u32, flags: u32, pattern: &[u8]) -> (u32, usiz
         return (17, pattern.len());
     }
     let form = written::write_out(&tree);
-    write(words, id, flags, &form, from, to);
+    Writer { words, gaps: numbered(), from }.write(id, flags, &form, to);
     (0, 0)
-}
-
-/// Writes the rule, whose positions are numbered from `from` on.
-fn write(words: &mut [u64], id: u32, flags: u32, form: &Form, from: usize, to: usize) {
-    let rules = words[RULES] as usize;
-    keep_old(words);
-    for row in (from..to).flat_map(|p| [follow(p), line_follow(p)]) {
-        words[row..row + 4].fill(0);
-    }
-    let place = (0..rules).filter(|&a| words[record(a) + ID] < u64::from(id)).count();
-    words.copy_within(record(place)..record(rules), record(place + 1));
-    let at = record(place);
-    words[at..at + RECORD_WORDS].fill(0);
-    words[at + ID] = u64::from(id);
-    words[at + FLAGS] = u64::from(flags);
-    words[at + SPAN] = span(from as u64, to as u64);
-    for (set, world) in [(LAST, INSIDE), (LAST_AT_END, AT_END), (LINE_LAST, AT_LINE)] {
-        lasts(form, world).into_iter().for_each(|p| put(words, at + set, from + p));
-    }
-    for (set, world) in [
-        (FIRST, INSIDE),
-        (FIRST_AT_START, AT_START),
-        (LINE_FIRST, AT_LINE),
-        (LINE_FIRST_AT_START, AT_LINE_AND_START),
-    ] {
-        firsts(form, world).into_iter().for_each(|p| put(words, set, from + p));
-    }
-    inner(words, form, from);
-    words[RULES] += 1;
-    words[POSITIONS] = to as u64;
 }
 
 /// Takes from the sets that an addition goes through what is no position of the table: a table that
 /// was built by additions has no such members, but damaged words may.
 fn keep_old(words: &mut [u64]) {
     let positions = words[POSITIONS] as usize;
-    let firsts = FIRSTS.step_by(4);
-    let records = (0..words[RULES] as usize)
-        .flat_map(|a| [LAST, LAST_AT_END, LINE_LAST].map(|set| record(a) + set));
-    let follows = (0..positions).flat_map(|p| [follow(p), line_follow(p)]);
+    let firsts = (0..FIRST_GAPS).map(first);
+    let rules = 0..words[RULES] as usize;
+    let records = rules.flat_map(|a| (0..LAST_GAPS).map(move |gap| last(a, gap)));
+    let follows = (0..FOLLOW_GAPS).flat_map(|gap| (0..positions).map(move |p| follow(gap, p)));
     let bytes = (0..=255u8).map(takers);
     for at in firsts.chain(records).chain(follows).chain(bytes) {
         for i in 0..4 {
@@ -101,31 +68,110 @@ fn keep_old(words: &mut [u64]) {
     }
 }
 
-/// Could it take no byte at a gap of this world?
-fn null(form: &Form, world: World) -> bool {
-    match form {
-        Form::Position(..) => false,
-        Form::Assert(Assertion::Start) => world.start,
-        Form::Assert(Assertion::LastLine) => world.line,
-        Form::Assert(Assertion::End) => world.end,
-        Form::Sequence(parts) => parts.iter().all(|part| null(part, world)),
-        Form::Choice(branches) => branches.iter().any(|branch| null(branch, world)),
-        Form::Optional(_) => true,
-        Form::Plus(of) => null(of, world),
+/// Writes a rule, whose positions are numbered from `from` on.
+struct Writer<'w> {
+    words: &'w mut [u64],
+    /// A gap for each number.
+    gaps: Vec<Gap>,
+    from: usize,
+}
+
+impl Writer<'_> {
+    fn write(&mut self, id: u32, flags: u32, form: &Form, to: usize) {
+        keep_old(self.words);
+        for row in (0..FOLLOW_GAPS).flat_map(|gap| (self.from..to).map(move |p| follow(gap, p))) {
+            self.words[row..row + 4].fill(0);
+        }
+        let place = self.new_record(u64::from(id));
+        let at = record(place);
+        self.words[at + FLAGS] = u64::from(flags);
+        self.words[at + FROM] = self.from as u64;
+        self.words[at + TO] = to as u64;
+        for gap in 0..LAST_GAPS {
+            self.put_all(last(place, gap), &lasts(form, &self.gaps[gap]));
+        }
+        for gap in 0..FIRST_GAPS {
+            self.put_all(first(gap), &firsts(form, &self.gaps[gap]));
+        }
+        self.inner(form);
+        self.words[RULES] += 1;
+        self.words[POSITIONS] = to as u64;
+    }
+
+    /// Makes room for the record of this id, all else in it zero; its place.
+    fn new_record(&mut self, id: u64) -> usize {
+        let rules = self.words[RULES] as usize;
+        let place = (0..rules).filter(|&a| self.words[record(a) + ID] < id).count();
+        self.words.copy_within(record(place)..record(rules), record(place + 1));
+        let at = record(place);
+        self.words[at..at + RECORD_WORDS].fill(0);
+        self.words[at + ID] = id;
+        place
+    }
+
+    fn put_all(&mut self, at: usize, positions: &[usize]) {
+        positions.iter().for_each(|p| put(self.words, at, self.from + p));
+    }
+
+    /// Writes which positions follow which, and which bytes each takes.
+    fn inner(&mut self, form: &Form) {
+        match form {
+            Form::Position(number, set) => {
+                for byte in (0..=255u8).filter(|&byte| set.has(byte)) {
+                    put(self.words, takers(byte), self.from + number);
+                }
+            }
+            Form::Assert(_) => {}
+            Form::Choice(branches) => branches.iter().for_each(|part| self.inner(part)),
+            Form::Optional(of) => self.inner(of),
+            Form::Plus(of) => {
+                self.inner(of);
+                self.link(of, of);
+            }
+            Form::Sequence(parts) => {
+                for (index, part) in parts.iter().enumerate() {
+                    self.inner(part);
+                    self.link(part, &Form::Sequence(parts[index + 1..].to_vec()));
+                }
+            }
+        }
+    }
+
+    /// Writes which positions of the second part follow which of the first, for each gap that may be
+    /// between them.
+    fn link(&mut self, part: &Form, next: &Form) {
+        for gap in 0..FOLLOW_GAPS {
+            let firsts = firsts(next, &self.gaps[gap]);
+            for last in lasts(part, &self.gaps[gap]) {
+                self.put_all(follow(gap, self.from + last), &firsts);
+            }
+        }
     }
 }
 
-/// The positions that can take a first byte after a gap of this world.
-fn firsts(form: &Form, world: World) -> Vec<usize> {
-    edge(form, world, false)
+/// Could it take no byte at this gap?
+fn null(form: &Form, gap: &Gap) -> bool {
+    match form {
+        Form::Position(..) => false,
+        Form::Assert(assertion) => gap.holds(*assertion),
+        Form::Sequence(parts) => parts.iter().all(|part| null(part, gap)),
+        Form::Choice(branches) => branches.iter().any(|branch| null(branch, gap)),
+        Form::Optional(_) => true,
+        Form::Plus(of) => null(of, gap),
+    }
 }
 
-/// The positions with which a way can end before a gap of this world.
-fn lasts(form: &Form, world: World) -> Vec<usize> {
-    edge(form, world, true)
+/// The positions that can take a first byte after this gap.
+fn firsts(form: &Form, gap: &Gap) -> Vec<usize> {
+    edge(form, gap, false)
 }
 
-fn edge(form: &Form, world: World, back: bool) -> Vec<usize> {
+/// The positions with which a way can end before this gap.
+fn lasts(form: &Form, gap: &Gap) -> Vec<usize> {
+    edge(form, gap, true)
+}
+
+fn edge(form: &Form, gap: &Gap, back: bool) -> Vec<usize> {
     match form {
         Form::Position(number, _) => vec![*number],
         Form::Assert(_) => Vec::new(),
@@ -136,53 +182,16 @@ fn edge(form: &Form, world: World, back: bool) -> Vec<usize> {
                 order.reverse();
             }
             for part in order {
-                found.extend(edge(part, world, back));
-                if !null(part, world) {
+                found.extend(edge(part, gap, back));
+                if !null(part, gap) {
                     break;
                 }
             }
             found
         }
         Form::Choice(branches) => {
-            branches.iter().flat_map(|branch| edge(branch, world, back)).collect()
+            branches.iter().flat_map(|branch| edge(branch, gap, back)).collect()
         }
-        Form::Optional(of) | Form::Plus(of) => edge(of, world, back),
-    }
-}
-
-/// Writes which positions follow which, and which bytes each takes.
-fn inner(words: &mut [u64], form: &Form, from: usize) {
-    match form {
-        Form::Position(number, set) => {
-            for byte in (0..=255u8).filter(|&byte| set.has(byte)) {
-                put(words, takers(byte), from + number);
-            }
-        }
-        Form::Assert(_) => {}
-        Form::Choice(branches) => branches.iter().for_each(|part| inner(words, part, from)),
-        Form::Optional(of) => inner(words, of, from),
-        Form::Plus(of) => {
-            inner(words, of, from);
-            link(words, from, of, of);
-        }
-        Form::Sequence(parts) => {
-            for (index, part) in parts.iter().enumerate() {
-                inner(words, part, from);
-                let rest = Form::Sequence(parts[index + 1..].to_vec());
-                link(words, from, part, &rest);
-            }
-        }
-    }
-}
-
-/// Writes which positions of the second part follow which of the first, the gap between them inside
-/// the stream, an end of the last line or not.
-fn link(words: &mut [u64], from: usize, part: &Form, next: &Form) {
-    let rows: [(fn(usize) -> usize, World); 2] = [(follow, INSIDE), (line_follow, AT_LINE)];
-    for (row, world) in rows {
-        let firsts = firsts(next, world);
-        for last in lasts(part, world) {
-            firsts.iter().for_each(|&first| put(words, row(from + last), from + first));
-        }
+        Form::Optional(of) | Form::Plus(of) => edge(of, gap, back),
     }
 }

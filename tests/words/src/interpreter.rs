@@ -3,6 +3,7 @@
 
 use crate::calls::{Answer, Calls};
 use crate::compiler;
+use crate::gaps::*;
 use crate::layout::*;
 
 pub struct Interpreter;
@@ -23,9 +24,9 @@ impl Table<'_> {
         self.0[record(place) + FLAGS] & SINGLE_MATCH != 0
     }
 
-    /// Has the rule a position of this set in the set at this word of its record?
-    fn ends(&self, positions: &[u64], place: usize, set: usize) -> bool {
-        (0..MAX_POSITIONS).any(|p| has(positions, 0, p) && has(self.0, record(place) + set, p))
+    /// Can a match of the rule end before this gap with one of these positions?
+    fn ends(&self, positions: &[u64], place: usize, gap: usize) -> bool {
+        (0..MAX_POSITIONS).any(|p| has(positions, 0, p) && has(self.0, last(place, gap), p))
     }
 
     /// The rules, as a word, that pass a test.
@@ -33,19 +34,19 @@ impl Table<'_> {
         (0..self.rules()).filter(|&a| test(a)).fold(0, |word, a| word | 1 << a)
     }
 
-    /// The positions that one more byte leads to, by the sets for the last line or the others.
-    fn reached(&self, live: &[u64], taken: u64, byte: u8, line: bool) -> [u64; 4] {
-        let first = match (line, taken) {
-            (false, 0) => FIRST_AT_START,
-            (false, _) => FIRST,
-            (true, 0) => LINE_FIRST_AT_START,
-            (true, _) => LINE_FIRST,
-        };
-        let row = if line { line_follow } else { follow };
+    /// The rules, as a word, that end at a gap with one of these positions, and did not with one of
+    /// the live ones where less was known.
+    fn newly(&self, gap: usize, positions: &[u64], less: usize, live: &[u64]) -> u64 {
+        self.rules_where(|a| self.ends(positions, a, gap) && !self.ends(live, a, less))
+    }
+
+    /// The positions that one more byte leads to, over a gap that has these numbers for those that
+    /// start there and for those that follow another.
+    fn reached(&self, live: &[u64], byte: u8, start: usize, inside: usize) -> [u64; 4] {
         let mut next = [0; 4];
         for q in 0..self.positions() {
-            let reached = has(self.0, first, q)
-                || (0..MAX_POSITIONS).any(|p| has(live, 0, p) && has(self.0, row(p), q));
+            let reached = has(self.0, first(start), q)
+                || (0..MAX_POSITIONS).any(|p| has(live, 0, p) && has(self.0, follow(inside, p), q));
             if reached && has(self.0, takers(byte), q) {
                 put(&mut next, 0, q);
             }
@@ -53,15 +54,32 @@ impl Table<'_> {
         next
     }
 
+    /// The live positions after one more byte.
+    fn next_live(&self, state: &[u64], byte: u8) -> [u64; 4] {
+        let inside = between(Side::in_state(state[SIDE]), Side::of(byte));
+        let start = if state[TAKEN] == 0 { at_start(Side::of(byte)) } else { inside };
+        self.reached(&state[..4], byte, start, inside)
+    }
+
     /// What is held after one more byte, which may be the last: positions, and pairs at the offset
     /// before it.
-    fn held(&self, live: &[u64], taken: u64, byte: u8) -> ([u64; 4], u64) {
+    fn held(&self, state: &[u64], byte: u8) -> ([u64; 4], u64) {
         if byte != b'\n' {
             return ([0; 4], 0);
         }
-        let waits = |a| self.ends(live, a, LINE_LAST) && !self.ends(live, a, LAST);
-        let pairs = if taken == 0 { 0 } else { self.rules_where(waits) };
-        (self.reached(live, taken, byte, true), pairs)
+        let (live, side) = (&state[..4], Side::in_state(state[SIDE]));
+        let inside = before_last(side);
+        if state[TAKEN] == 0 {
+            return (self.reached(live, byte, START_OF_LAST, inside), 0);
+        }
+        let pairs = self.newly(inside, live, between(side, Side::Newline), live);
+        (self.reached(live, byte, inside, inside), pairs)
+    }
+
+    /// The rules, as a word, with a pair before one more byte that needs it.
+    fn late(&self, state: &[u64], byte: u8) -> u64 {
+        let gap = between(Side::in_state(state[SIDE]), Side::of(byte));
+        self.newly(gap, &state[..4], UNSETTLED, &state[..4])
     }
 
     /// The rules, as a word, with a pair at the stream's end that needs it.
@@ -70,7 +88,7 @@ impl Table<'_> {
         for p in (0..MAX_POSITIONS).filter(|&p| has(state, 0, p) || has(state, HELD, p)) {
             put(&mut positions, 0, p);
         }
-        self.rules_where(|a| self.ends(&positions, a, LAST_AT_END) && !self.ends(state, a, LAST))
+        self.newly(at_end(Side::in_state(state[SIDE])), &positions, UNSETTLED, &state[..4])
     }
 
     /// Is the state valid for this table?
@@ -84,32 +102,36 @@ impl Table<'_> {
             && state[TAKEN] <= MAX_STREAM
     }
 
-    /// One run: a report for each of these rules that has no mark, at the front of the free slots, and
-    /// its mark if it is single-match; nothing if they do not all fit.
-    fn report(
-        &self,
-        found: u64,
-        end: u64,
-        marks: &mut u64,
-        ids: &mut [u32],
-        offsets: &mut [u64],
-        count: &mut usize,
-    ) -> bool {
-        let due: Vec<usize> =
-            (0..self.rules()).filter(|a| found >> a & 1 == 1 && *marks >> a & 1 == 0).collect();
-        if *count + due.len() > ids.len().min(offsets.len()) {
-            return false;
-        }
-        for place in due {
-            ids[*count] = self.0[record(place) + ID] as u32;
-            offsets[*count] = end;
-            *count += 1;
-            if self.single(place) {
-                *marks |= 1 << place;
+    /// The reports of two runs, each of some rules at an end, and the marks after them: a report for
+    /// each rule that has no mark, and its mark if it is single-match.
+    fn reports(&self, runs: [(u64, u64); 2], mut marks: u64) -> (Vec<(u32, u64)>, u64) {
+        let mut reports = Vec::new();
+        for (found, end) in runs {
+            for place in (0..self.rules()).filter(|a| found >> a & 1 == 1) {
+                if marks >> place & 1 == 1 {
+                    continue;
+                }
+                reports.push((self.0[record(place) + ID] as u32, end));
+                if self.single(place) {
+                    marks |= 1 << place;
+                }
             }
         }
-        true
+        (reports, marks)
     }
+}
+
+/// Writes reports at the front of the free slots, from `count` on; nothing if they do not all fit.
+fn write(reports: &[(u32, u64)], ids: &mut [u32], offsets: &mut [u64], count: &mut usize) -> bool {
+    if *count + reports.len() > ids.len().min(offsets.len()) {
+        return false;
+    }
+    for &(id, end) in reports {
+        ids[*count] = id;
+        offsets[*count] = end;
+        *count += 1;
+    }
+    true
 }
 
 /// The test of docs/TABLE.md.
@@ -123,7 +145,7 @@ fn table(words: &[u64]) -> Option<Table<'_>> {
     let mut before: Option<u64> = None;
     for place in 0..words[RULES] as usize {
         let of = &words[record(place)..];
-        let (id, flags, (from, to)) = (of[ID], of[FLAGS], from_to(of[SPAN]));
+        let (id, flags, from, to) = (of[ID], of[FLAGS], of[FROM], of[TO]);
         let rises = before.map_or(true, |before| before < id);
         let known = flags & !KNOWN_FLAGS == 0;
         if id >> 32 != 0 || !rises || !known || from > to || to > words[POSITIONS] {
@@ -216,22 +238,27 @@ impl Calls for Interpreter {
             Ok(table) => table,
             Err(number) => return refused(number),
         };
+        state[SIDE] = Side::in_state(state[SIDE]) as u64;
         let mut count = 0;
         let mut taken = 0;
         let mut used: u64 = 0;
         for &byte in block {
             let paid = used.checked_add(1 + u64::from(self.busy(state)));
             let Some(paid) = paid.filter(|&paid| paid <= allowance) else { break };
-            let live = table.reached(&state[..4], state[TAKEN], byte, false);
-            let ending = table.rules_where(|a| table.ends(&live, a, LAST));
-            let end = state[TAKEN] + 1;
-            if !table.report(ending, end, &mut state[MARKS], ids, offsets, &mut count) {
+            let live = table.next_live(state, byte);
+            let own = table.rules_where(|a| table.ends(&live, a, UNSETTLED));
+            let (before, end) = (state[TAKEN], state[TAKEN] + 1);
+            let runs = [(table.late(state, byte), before), (own, end)];
+            let (reports, marks) = table.reports(runs, state[MARKS]);
+            if !write(&reports, ids, offsets, &mut count) {
                 break;
             }
-            let (held, pairs) = table.held(&state[..4], state[TAKEN], byte);
+            let (held, pairs) = table.held(state, byte);
             state[..4].copy_from_slice(&live);
             state[HELD..HELD + 4].copy_from_slice(&held);
+            state[MARKS] = marks;
             state[PENDING] = pairs;
+            state[SIDE] = Side::of(byte) as u64;
             state[TAKEN] = end;
             taken += 1;
             used = paid;
@@ -255,11 +282,10 @@ impl Calls for Interpreter {
             (table.ends_at_end(state), state[TAKEN]),
         ];
         // The marks of the first run count in the second, and are not kept.
-        let mut marks = state[MARKS];
+        let (reports, _) = table.reports(runs, state[MARKS]);
         let mut count = 0;
-        for (found, end) in runs {
-            table.report(found, end, &mut marks, ids, offsets, &mut count);
-        }
+        write(&reports, ids, offsets, &mut count);
+        state[SIDE] = Side::in_state(state[SIDE]) as u64;
         state[CLOSED] = 1;
         Answer { number: 0, taken: 0, count, used: 0 }
     }

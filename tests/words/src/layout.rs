@@ -1,8 +1,10 @@
 //! The places of a table's words and of a state's words, as docs/TABLE.md and docs/EMBEDDING.md
 //! list them.
 
-pub const TABLE_WORDS: usize = 4_096;
-pub const FORMAT: u64 = 0x7761_7463_6865_7232;
+use crate::gaps::{FIRST_GAPS, FOLLOW_GAPS, LAST_GAPS};
+
+pub const TABLE_WORDS: usize = 16_384;
+pub const FORMAT: u64 = 0x7761_7463_6865_7233;
 pub const MAX_RULES: usize = 64;
 pub const MAX_POSITIONS: usize = 256;
 /// How many bytes a stream may have.
@@ -10,52 +12,47 @@ pub const MAX_STREAM: u64 = 1_099_511_627_775;
 
 pub const RULES: usize = 1;
 pub const POSITIONS: usize = 2;
-pub const FIRST: usize = 4;
-pub const FIRST_AT_START: usize = 8;
-pub const LINE_FIRST: usize = 12;
-pub const LINE_FIRST_AT_START: usize = 16;
-/// The words of these four sets.
-pub const FIRSTS: std::ops::Range<usize> = 4..20;
 
-/// The words of a record, from its first.
+/// The set of positions that can take a first byte after a gap.
+pub fn first(gap: usize) -> usize {
+    4 + 4 * gap
+}
+
+/// The words of these sets.
+pub const FIRSTS: std::ops::Range<usize> = 4..4 + 4 * FIRST_GAPS;
+
+/// The words of a record, from its first: after these the sets of `last`.
 pub const ID: usize = 0;
 pub const FLAGS: usize = 1;
-pub const SPAN: usize = 2;
-pub const LAST: usize = 3;
-pub const LAST_AT_END: usize = 7;
-pub const LINE_LAST: usize = 11;
-pub const RECORD_WORDS: usize = 15;
+/// The rule's first position, and the one after its last.
+pub const FROM: usize = 2;
+pub const TO: usize = 3;
+pub const LASTS: usize = 4;
+pub const RECORD_WORDS: usize = LASTS + 4 * LAST_GAPS;
 
-/// A rule's positions as one word, and back: its first, and the one after its last.
-pub fn span(from: u64, to: u64) -> u64 {
-    from + (to << 16)
-}
-
-pub fn from_to(span: u64) -> (u64, u64) {
-    (span & 0xffff, span >> 16)
-}
-
-pub const KNOWN_FLAGS: u64 = 1 + 2 + 8;
+pub const KNOWN_FLAGS: u64 = 1 + 2 + 4 + 8;
 pub const SINGLE_MATCH: u64 = 8;
 
 pub fn record(place: usize) -> usize {
-    64 + RECORD_WORDS * place
+    128 + RECORD_WORDS * place
 }
 
-pub fn follow(position: usize) -> usize {
-    1_024 + 4 * position
+/// The set of positions with which a match of the rule in this place can end before a gap.
+pub fn last(place: usize, gap: usize) -> usize {
+    record(place) + LASTS + 4 * gap
 }
 
 pub fn takers(byte: u8) -> usize {
-    2_048 + 4 * byte as usize
+    4_096 + 4 * byte as usize
 }
 
-pub fn line_follow(position: usize) -> usize {
-    3_072 + 4 * position
+/// The set of positions that can follow this one over a gap.
+pub fn follow(gap: usize, position: usize) -> usize {
+    5_120 + 1_024 * gap + 4 * position
 }
 
-/// The words of the follow sets and of the byte sets.
-pub const ROWS: std::ops::Range<usize> = 1_024..4_096;
+/// The words of the byte sets and of the follow sets.
+pub const ROWS: std::ops::Range<usize> = 4_096..5_120 + 1_024 * FOLLOW_GAPS;
 
 /// Is the position in the set whose four words begin at `at`?
 pub fn has(words: &[u64], at: usize, position: usize) -> bool {
@@ -71,10 +68,12 @@ pub fn put(words: &mut [u64], at: usize, position: usize) {
 pub const HELD: usize = 4;
 pub const MARKS: usize = 8;
 pub const PENDING: usize = 9;
-pub const TAKEN: usize = 10;
-pub const STATE_RULES: usize = 11;
-pub const STATE_POSITIONS: usize = 12;
-pub const CLOSED: usize = 13;
-pub const STATE_WORDS: usize = 14;
+/// What the last byte is to the assertions.
+pub const SIDE: usize = 10;
+pub const TAKEN: usize = 11;
+pub const STATE_RULES: usize = 12;
+pub const STATE_POSITIONS: usize = 13;
+pub const CLOSED: usize = 14;
+pub const STATE_WORDS: usize = 15;
 /// The number for fewer words than a state has.
 pub const SHORT_STATE: u32 = 100;

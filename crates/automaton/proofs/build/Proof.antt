@@ -33,7 +33,7 @@ returns c =
     let c-if1 = c .before .if1 in
     let v = c-start .args in
     let t = treeAt (v .nodes .now) (v .root) in
-    c-none .ensures ∙ parts-none t (v .base) (over t (v .base) (omega (arith, c-count .ensures, c-if1 .taken)))
+    c-none .ensures ∙ parts-none t (v .base) (v .world) (over t (v .base) (omega (arith, c-count .ensures, c-if1 .taken)))
 
 none-requires-2 : tie.Need-none-requires-2
 none-requires-2 c κs = tt
@@ -46,7 +46,7 @@ returns-2 c =
     let c-if2 = c .before .if2 in
     let v = c-start .args in
     let t = treeAt (v .nodes .now) (v .root) in
-    c-none2 .ensures ∙ parts-none t (v .base) (over t (v .base) (omega (arith, c-count .ensures, c-if2 .taken)))
+    c-none2 .ensures ∙ parts-none t (v .base) (v .world) (over t (v .base) (omega (arith, c-count .ensures, c-if2 .taken)))
 
 whole-requires : tie.Need-whole-requires
 whole-requires c κs =
@@ -67,7 +67,7 @@ returns-3 c =
     let c-if2 = c .before .if2 in
     let v = c-start .args in
     let t = treeAt (v .nodes .now) (v .root) in
-    c-whole .ensures ∙ parts-whole t (v .base) (within t (v .base) (omega (arith, c-count .ensures, c-if1 .left, c-if2 .left)))
+    c-whole .ensures ∙ parts-whole t (v .base) (v .world) (within t (v .base) (omega (arith, c-count .ensures, c-if1 .left, c-if2 .left)))
 
 pub build-spec : {M : Type 1} → statement M
 build-spec =

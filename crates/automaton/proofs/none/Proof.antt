@@ -1,4 +1,4 @@
--- `none` meets its contract: four empty sets, and zeros.
+-- `none` meets its contract: two empty sets, and zeros.
 use Rattle.automaton.proofs.none.Statement.{statement}
 use Rattle.automaton.proofs.none.Tie as tie
 

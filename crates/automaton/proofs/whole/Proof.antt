@@ -1,4 +1,4 @@
--- `whole` meets its contract: what was built over zeros, twice, with the rows moved to the front.
+-- `whole` meets its contract: what was built over zeros, with the rows moved to the front.
 use native.Mathlib.Omega.{arith}
 use borrow.Author.Needs.{needs}
 use Rattle.automaton.proofs.Padded.{handed-out}
@@ -20,26 +20,13 @@ mul-front-2 c = omega arith
 front-requires-2 : tie.Need-front-requires-2
 front-requires-2 c κs = omega arith
 
-node-requires-2 : tie.Need-node-requires-2
-node-requires-2 c κs = search needs
-
-mul-front-3 : tie.Need-mul-front-3
-mul-front-3 c = omega arith
-
-front-requires-3 : tie.Need-front-requires-3
-front-requires-3 c κs = omega arith
-
 returns : tie.Need-returns
 returns c =
-    let c-start = c .before .before .before .before .before .before .before .before .before .before .before .before .before .before .before .before .before in
-    let c-node = c .before .before .before .before .before .before .before .before .before .before .before .before .before .node in
-    let c-front = c .before .before .before .before .before .before .before .before .before .before .before .before .front in
-    let c-front2 = c .before .before .before .before .before .before .before .before .before .before .before .front2 in
-    let c-node2 = c .before .before .before .before .before .before .before .before .node2 in
-    let c-front3 = c .front3 in
-    handed-out (c-start .pre) (c-node .ensures) (c-node2 .ensures) (c-front .ensures) (λ i. search needs) (c-front2 .ensures) (c-front3 .ensures) (λ i. search needs)
+    let c-start = c .before .before .before .before .before .before .before .before in
+    let c-node = c .before .before .before .before .node in
+    let c-front = c .before .front in
+    let c-front2 = c .front2 in
+    handed-out (c-start .pre) (c-node .ensures) (c-front .ensures) (λ i. search needs) (c-front2 .ensures)
 
 pub whole-spec : {M : Type 1} → statement M
-whole-spec =
-    tie.close
-    (tie.spec node-requires mul-front front-requires mul-front-2 front-requires-2 node-requires-2 mul-front-3 front-requires-3 returns)
+whole-spec = tie.close (tie.spec node-requires mul-front front-requires mul-front-2 front-requires-2 returns)

@@ -1,4 +1,4 @@
--- `table::record_ok` meets its contract: it reads the record's three words and makes the definition's five tests.
+-- `table::record_ok` meets its contract: it reads the record's first four words and makes the definition's five tests.
 use native.Mathlib.Omega.{arith}
 use Rattle.table.specs.Table.{recordOk}
 use Rattle.table.proofs.record_ok.Statement.{statement}
@@ -28,19 +28,28 @@ mul-flags c = omega arith
 shared-slice-read-flags : tie.Need-shared-slice-read-flags
 shared-slice-read-flags c = omega arith
 
-add-span : tie.Need-add-span
-add-span c = omega arith
+add-from : tie.Need-add-from
+add-from c = omega arith
 
-mul-span : tie.Need-mul-span
-mul-span c = omega arith
+mul-from : tie.Need-mul-from
+mul-from c = omega arith
 
-shared-slice-read-span : tie.Need-shared-slice-read-span
-shared-slice-read-span c = omega arith
+shared-slice-read-from : tie.Need-shared-slice-read-from
+shared-slice-read-from c = omega arith
+
+add-to : tie.Need-add-to
+add-to c = omega arith
+
+mul-to : tie.Need-mul-to
+mul-to c = omega arith
+
+shared-slice-read-to : tie.Need-shared-slice-read-to
+shared-slice-read-to c = omega arith
 
 returns : tie.Need-returns
 unfolding recordOk
 returns c =
-    let start = c .before .before .before in
+    let start = c .before .before .before .before in
     rw (start .pre .2, start .pre .3)
 
 pub record-ok-spec : {M : Type 1} → statement M
@@ -55,7 +64,10 @@ record-ok-spec =
     add-flags
     mul-flags
     shared-slice-read-flags
-    add-span
-    mul-span
-    shared-slice-read-span
+    add-from
+    mul-from
+    shared-slice-read-from
+    add-to
+    mul-to
+    shared-slice-read-to
     returns)

@@ -23,7 +23,7 @@ slice-aggregate-add-rules-2 : tie.Need-slice-aggregate-add-rules-2
 slice-aggregate-add-rules-2 c = search needs
 
 add-rules-requires : tie.Need-add-rules-requires
-add-rules-requires c κs = emptied-from _ _ (omega (arith, length-replicate {A = ℕ} 4096 0)) (c .before .before .before .before .empty .ensures .1)
+add-rules-requires c κs = emptied-from _ _ (omega (arith, length-replicate {A = ℕ} 16384 0)) (c .before .before .before .before .empty .ensures .1)
 
 slice-aggregate-watch : tie.Need-slice-aggregate-watch
 slice-aggregate-watch c = search needs

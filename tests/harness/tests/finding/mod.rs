@@ -2,7 +2,7 @@
 
 use std::fmt::Debug;
 
-use harness::exhaustive::{self, Bounds, MEANING};
+use harness::exhaustive::{self, Alphabet, Bounds};
 use harness::model::Model;
 use harness::play::play;
 use harness::random;
@@ -33,8 +33,8 @@ pub fn at_random<W: Watcher + Debug>(slips: &[W], cases: u64) {
 }
 
 /// The exhaustive mode finds each slip within these bounds.
-pub fn among_all<W: Watcher + Debug>(slips: &[W], tokens: usize, bytes: usize) {
-    let bounds = Bounds { alphabet: MEANING, tokens, bytes, part: (0, 1) };
+pub fn among_all<W: Watcher + Debug>(slips: &[W], alphabet: Alphabet, tokens: usize, bytes: usize) {
+    let bounds = Bounds { alphabet, tokens, bytes, part: (0, 1) };
     for slip in slips {
         assert!(exhaustive::run(slip, &Model, bounds).is_err(), "{slip:?}");
     }

@@ -6,7 +6,6 @@ use native.Mathlib.Omega.{arith}
 use borrow.Fn.Kinds.{In}
 use borrow.Fn.PlainCycle.{Measures, is, falls, and}
 use Rattle.regex.specs.Form.{seq, positions, optionals}
-use Rattle.nodes.specs.Nodes.{xOf}
 use Rattle.nodes.specs.Invariants.{childAt}
 use Rattle.nodes.proofs.layout.word.Reads as word-reads
 use Rattle.automaton.specs.Invariants.{childForm, extra}
@@ -26,6 +25,7 @@ use Rattle.automaton.proofs.forms.+child+many+nested+node+repeat.Lts-no
 use Rattle.automaton.proofs.forms.repeat.Reads as repeat
 use Rattle.automaton.proofs.forms.repeat.Kinds as repeat-kinds
 use Rattle.automaton.proofs.forms.+child+many+nested+node+repeat.Lts-repeat as repeat-lts
+use Rattle.automaton.proofs.forms.holds.Reads as holds-reads
 use Rattle.automaton.proofs.forms.then.Reads as then-reads
 use Rattle.automaton.proofs.fragments.bare.Reads as bare-reads
 use Rattle.automaton.proofs.fragments.choice.Reads as choice-reads
@@ -96,7 +96,7 @@ abbrev nested-uses : ℕ → nested-lts.Claims
 nested-uses t = (bare-reads.Asked, bare-reads.Learnt, child-below t, child.Post, optional-reads.Asked, optional-reads.Learnt, nested-below t, nested.Post, then-reads.Asked, then-reads.Learnt)
 
 abbrev node-uses : ℕ → node-lts.Claims
-node-uses t = (word-reads.Asked, word-reads.Learnt, set-of-reads.Asked, set-of-reads.Learnt, put-reads.Asked, put-reads.Learnt, one-reads.Asked, one-reads.Learnt, bare-reads.Asked, bare-reads.Learnt, child-below t, child.Post, then-reads.Asked, then-reads.Learnt, choice-reads.Asked, choice-reads.Learnt, repeat-below t, repeat.Post)
+node-uses t = (word-reads.Asked, word-reads.Learnt, set-of-reads.Asked, set-of-reads.Learnt, put-reads.Asked, put-reads.Learnt, one-reads.Asked, one-reads.Learnt, holds-reads.Asked, holds-reads.Learnt, bare-reads.Asked, bare-reads.Learnt, child-below t, child.Post, then-reads.Asked, then-reads.Learnt, choice-reads.Asked, choice-reads.Learnt, repeat-below t, repeat.Post)
 
 abbrev repeat-uses : ℕ → repeat-lts.Claims
 repeat-uses t = (many-below t, many.Post, optional-reads.Asked, optional-reads.Learnt, nested-below t, nested.Post, child-below t, child.Post, repeat-below t, repeat.Post, then-reads.Asked, then-reads.Learnt)
@@ -271,19 +271,23 @@ module _ (t : ℕ) where
       let read = c-word .ensures in
       steps.built-take (steps.form-take (v .a .now) (v .k) w read (c-if1 .taken)) (c-set-of .ensures) (c-put .ensures) (c-one .ensures)
 
+  node-holds-requires : node-lts.Need-holds-requires (node-uses t) (node-at t) node.Post
+  node-holds-requires c κs = tt
+
   node-bare-requires : node-lts.Need-bare-requires (node-uses t) (node-at t) node.Post
   node-bare-requires c κs = tt
 
   node-returns-2 : node-lts.Need-returns-2 (node-uses t) (node-at t) node.Post
   node-returns-2 c =
-      let c-if2 = c .before .if2 in
+      let c-if2 = c .before .before .if2 in
+      let c-holds = c .before .holds in
       let c-bare = c .bare in
-      let c-word = c .before .before .before .word in
+      let c-word = c .before .before .before .before .word in
       let w = c-word .result in
-      let c-start = c .before .before .before .before .before in
+      let c-start = c .before .before .before .before .before .before in
       let v = c-start .args in
       let read = c-word .ensures in
-      steps.built-check (xOf w) (steps.form-check (v .a .now) (v .k) w read (c-if2 .taken)) (c-bare .ensures)
+      steps.built-check (steps.form-check (v .a .now) (v .k) w read (c-if2 .taken)) (c-holds .ensures) (c-bare .ensures)
 
   node-child-requires : node-lts.Need-child-requires (node-uses t) (node-at t) node.Post
   node-child-requires c κs =
@@ -557,5 +561,5 @@ pub +child+many+nested+node+repeat-spec : {M : Type 1} → statement M
     (λ t. child-lts.spec (child-uses t) (child-at t) child.Post (child-node-requires t) (child-returns t) (child-bare-requires t) (child-returns-2 t))
     (λ t. many-lts.spec (many-uses t) (many-at t) many.Post (many-child-requires t) (many-join-requires t) (many-returns t))
     (λ t. nested-lts.spec (nested-uses t) (nested-at t) nested.Post (nested-bare-requires t) (nested-returns t) (nested-child-requires t) (nested-optional-requires t) (nested-returns-2 t) (nested-sub-nested t) (nested-add-nested t) (nested-nested-requires t) (nested-then-requires t) (nested-optional-requires-2 t) (nested-returns-3 t))
-    (λ t. node-lts.spec (node-uses t) (node-at t) node.Post (node-word-requires t) (node-set-of-requires t) (node-put-requires t) (node-one-requires t) (node-returns t) (node-bare-requires t) (node-returns-2 t) (node-child-requires t) (node-add-child t) (node-child-requires-2 t) (node-then-requires t) (node-returns-3 t) (node-choice-requires t) (node-returns-4 t) (node-repeat-requires t) (node-returns-5 t) (node-bare-requires-2 t) (node-returns-6 t))
+    (λ t. node-lts.spec (node-uses t) (node-at t) node.Post (node-word-requires t) (node-set-of-requires t) (node-put-requires t) (node-one-requires t) (node-returns t) (node-holds-requires t) (node-bare-requires t) (node-returns-2 t) (node-child-requires t) (node-add-child t) (node-child-requires-2 t) (node-then-requires t) (node-returns-3 t) (node-choice-requires t) (node-returns-4 t) (node-repeat-requires t) (node-returns-5 t) (node-bare-requires-2 t) (node-returns-6 t))
     (λ t. repeat-lts.spec (repeat-uses t) (repeat-at t) repeat.Post (repeat-many-requires t) (repeat-optional-requires t) (repeat-returns t) (repeat-nested-requires t) (repeat-returns-2 t) (repeat-many-requires-2 t) (repeat-returns-3 t) (repeat-child-requires t) (repeat-returns-4 t) (repeat-sub-repeat t) (repeat-add-repeat t) (repeat-repeat-requires t) (repeat-then-requires t) (repeat-returns-5 t))

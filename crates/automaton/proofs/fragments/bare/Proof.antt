@@ -1,4 +1,4 @@
--- `fragments::bare` meets its contract: four empty sets.
+-- `fragments::bare` meets its contract: two empty sets.
 use Rattle.automaton.specs.Invariants.{bareOf}
 use Rattle.automaton.proofs.fragments.bare.Statement.{statement}
 use Rattle.automaton.proofs.fragments.bare.Tie as tie

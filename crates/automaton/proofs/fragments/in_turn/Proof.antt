@@ -10,31 +10,15 @@ with-if-requires c κs = tt
 with-if-requires-2 : tie.Need-with-if-requires-2
 with-if-requires-2 c κs = tt
 
-with-if-requires-3 : tie.Need-with-if-requires-3
-with-if-requires-3 c κs = tt
-
-with-if-requires-4 : tie.Need-with-if-requires-4
-with-if-requires-4 c κs = tt
-
-add-t15 : tie.Need-add-t15
-add-t15 c = omega arith
+add-t9 : tie.Need-add-t9
+add-t9 c = omega arith
 
 returns : tie.Need-returns
 returns c =
-    let c-start = c .before .before .before .before .before .before .before .before .before .before .before .before .before .before .before .before .before .before .before .before in
-    let c-with-if = c .before .before .before .before .before .before .before .before .before .before .before .before .before .before .before .before .before .with-if in
-    let c-with-if2 = c .before .before .before .before .before .before .before .before .before .before .before .before .before .before .with-if2 in
-    let c-with-if3 = c .before .before .before .before .before .before .before .before .before .before .before .with-if3 in
-    let c-with-if4 = c .before .before .before .before .before .before .before .before .with-if4 in
-    in-turn-is (c-start .args .f) (c-start .args .g) (c-with-if .ensures) (c-with-if2 .ensures) (c-with-if3 .ensures) (c-with-if4 .ensures)
+    let c-start = c .before .before .before .before .before .before .before .before .before .before in
+    let c-with-if = c .before .before .before .before .before .before .before .with-if in
+    let c-with-if2 = c .before .before .before .before .with-if2 in
+    in-turn-is (c-start .args .f) (c-start .args .g) (c-with-if .ensures) (c-with-if2 .ensures)
 
 pub in-turn-spec : {M : Type 1} → statement M
-in-turn-spec =
-    tie.close
-    (tie.spec
-    with-if-requires
-    with-if-requires-2
-    with-if-requires-3
-    with-if-requires-4
-    add-t15
-    returns)
+in-turn-spec = tie.close (tie.spec with-if-requires with-if-requires-2 add-t9 returns)

@@ -1,4 +1,4 @@
--- `fragments::one` meets its contract: the set of one position, four times.
+-- `fragments::one` meets its contract: the set of one position, twice.
 use native.Mathlib.Omega.{arith}
 use Rattle.automaton.specs.Invariants.{oneOf}
 use Rattle.automaton.proofs.fragments.one.Statement.{statement}

@@ -1,6 +1,7 @@
 -- `classes::classes::join` meets its contract, by cases on what the member starts with.
 use borrow.Author.Needs.{needs}
 use Rattle.classes.specs.Class.{joined}
+use Rattle.classes.proofs.Keys.{joined-other}
 use Rattle.classes.proofs.classes.join.Statement.{statement}
 use Rattle.classes.proofs.classes.join.Tie as tie
 
@@ -31,21 +32,6 @@ not-of-kind-requires c κs = tt
 union-requires-2 : tie.Need-union-requires-2
 union-requires-2 c κs = tt
 
-enum-told : tie.Need-enum-told
-enum-told c = search needs
-
-enum-told-2 : tie.Need-enum-told-2
-enum-told-2 c = search needs
-
-enum-told-3 : tie.Need-enum-told-3
-enum-told-3 c = search needs
-
-enum-told-4 : tie.Need-enum-told-4
-enum-told-4 c = search needs
-
-enum-told-5 : tie.Need-enum-told-5
-enum-told-5 c = search needs
-
 returns : tie.Need-returns
 unfolding joined
 returns c =
@@ -65,28 +51,12 @@ returns-3 c =
     rw (low3 .given .1, ← c .before .not-of-kind .ensures) (c .union2 .ensures)
 
 returns-4 : tie.Need-returns-4
-unfolding joined
-returns-4 c = rw (c .enum-told .given .1)
-
-returns-5 : tie.Need-returns-5
-unfolding joined
-returns-5 c = rw (c .enum-told2 .given .1)
-
-returns-6 : tie.Need-returns-6
-unfolding joined
-returns-6 c = rw (c .enum-told3 .given .1)
-
-returns-7 : tie.Need-returns-7
-unfolding joined
-returns-7 c = rw (c .enum-told4 .given .1)
-
-returns-8 : tie.Need-returns-8
-unfolding joined
-returns-8 c = rw (c .enum-told5 .given .1)
+returns-4 c =
+    let args = c .before .args in
+    joined-other (args .set) (args .low) (args .high) (c .match .keys4)
 
 pub join-spec : {M : Type 1} → statement M
 join-spec =
     tie.close
     (tie.spec enum-known-low byte-of-requires insert-range-requires enum-known-low-2 of-kind-requires union-requires enum-known-low-3
-    not-of-kind-requires union-requires-2 enum-told enum-told-2 enum-told-3 enum-told-4 enum-told-5 returns returns-2 returns-3 returns-4
-    returns-5 returns-6 returns-7 returns-8)
+    not-of-kind-requires union-requires-2 returns returns-2 returns-3 returns-4)

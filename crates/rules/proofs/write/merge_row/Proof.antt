@@ -14,24 +14,21 @@ below-requires c κs = tt
 union-requires : tie.Need-union-requires
 union-requires c κs = tt
 
-slice-aggregate-put-words : tie.Need-slice-aggregate-put-words
-slice-aggregate-put-words c = omega arith
-
-put-words-requires : tie.Need-put-words-requires
-put-words-requires c κs = omega arith
+put-set-requires : tie.Need-put-set-requires
+put-set-requires c κs = omega arith
 
 same-length : tie.Need-same-length
 same-length c = omega arith
 
 returns : tie.Need-returns
 returns c =
-    let c-start = c .before .before .before .before .before .before .before .before .before .before in
-    let c-put-words = c .before .before .put-words in
-    let c-row = c .before .before .before .before .before .before .before .row in
-    let c-below = c .before .before .before .before .before .before .below in
-    let c-union = c .before .before .before .before .before .union in
-    merge-is (now (c-start .args .words)) (c-put-words .last .0) (c-row .result) (c-below .result) (c-union .result) (c-start .args .new) (c-start .args .at) (c-start .args .n)
-    (c-row .ensures) (c-below .ensures) (c-union .ensures) (c-put-words .ensures)
+    let c-start = c .before .before .before .before .before .before .before .before .before in
+    let c-put-set = c .before .before .put-set in
+    let c-row = c .before .before .before .before .before .before .row in
+    let c-below = c .before .before .before .before .before .below in
+    let c-union = c .before .before .before .before .union in
+    merge-is (now (c-start .args .words)) (c-put-set .last .0) (c-row .result) (c-below .result) (c-union .result) (c-start .args .new) (c-start .args .at) (c-start .args .n)
+    (c-row .ensures) (c-below .ensures) (c-union .ensures) (c-put-set .ensures)
 
 pub merge-row-spec : {M : Type 1} → statement M
 merge-row-spec =
@@ -40,7 +37,6 @@ merge-row-spec =
     row-requires
     below-requires
     union-requires
-    slice-aggregate-put-words
-    put-words-requires
+    put-set-requires
     same-length
     returns)

@@ -44,9 +44,12 @@ returns c =
     let c-place-of = c .before .before .before .before .before .before .before .before .before .before .before .before .before .place-of in
     let c-mask-records = c .before .before .before .before .before .before .before .before .before .before .before .mask-records in
     let c-move-up = c .before .before .before .before .before .before .before .move-up in
-    let c-put-words = c .before .before .put-words in
-    record-is (c-start .args .rules) (c-start .args .n) (c-place-of .result) (c-start .args .t4) (now (c-start .args .words)) (c-mask-records .last .0) (c-move-up .last .0) (c-put-words .last .0)
-    (c-place-of .ensures .1) (c-mask-records .ensures) (c-move-up .ensures) (c-put-words .ensures)
+    let c-put-words = c .before .before .put-words in (
+      c-place-of .ensures .0,
+      c-place-of .ensures .1,
+      record-is (c-start .args .rules) (c-start .args .n) (c-place-of .result) (c-start .args .t4) (now (c-start .args .words)) (c-mask-records .last .0) (c-move-up .last .0) (c-put-words .last .0)
+          (c-place-of .ensures .1) (c-mask-records .ensures) (c-move-up .ensures) (c-put-words .ensures),
+    )
 
 pub put-record-spec : {M : Type 1} → statement M
 put-record-spec =

@@ -1,33 +1,25 @@
--- `steps::byte::firsts` meets its contract: the stream's start has its own set of first positions.
+-- `steps::byte::firsts` meets its contract: the gap has its set in the table.
 use mathlib.Core.Path.{_∙_}
 use denote.Ref.{now}
-use Rattle.steps.proofs.Steps.{starts-first, starts-later}
+use lib.ListN.{length}
+use Rattle.steps.proofs.Bounds.{first-offset-fits, first-fits, first-inside}
+use Rattle.steps.proofs.Steps.{first-row}
 use Rattle.steps.proofs.byte.firsts.Statement.{statement}
 use Rattle.steps.proofs.byte.firsts.Tie as tie
 
-firsts-at-start-requires : tie.Need-firsts-at-start-requires
-firsts-at-start-requires c κs =
-    let c-start = c .before .before in
-    c-start .pre
+mul-row : tie.Need-mul-row
+mul-row c = first-offset-fits (c .before .args .gap) (c .before .pre .1)
 
-firsts-inside-requires : tie.Need-firsts-inside-requires
-firsts-inside-requires c κs =
-    let c-start = c .before .before in
-    c-start .pre
+add-row : tie.Need-add-row
+add-row c = first-fits (c .before .args .gap) (c .before .pre .1)
+
+row-requires : tie.Need-row-requires
+row-requires c κs = first-inside (c .before .args .gap) (c .before .pre .1) (length (now (c .before .args .words))) (c .before .pre .0)
 
 returns : tie.Need-returns
 returns c =
-    let c-firsts-at-start = c .firsts-at-start in
-    let c-start = c .before .before .before in
-    let c-if1 = c .before .if1 in
-    c-firsts-at-start .ensures ∙ starts-first (now (c-start .args .words)) (c-start .args .line) (c-start .args .taken) (c-if1 .taken)
-
-returns-2 : tie.Need-returns-2
-returns-2 c =
-    let c-firsts-inside = c .firsts-inside in
-    let c-start = c .before .before .before in
-    let c-if1 = c .before .if1 in
-    c-firsts-inside .ensures ∙ starts-later (now (c-start .args .words)) (c-start .args .line) (c-start .args .taken) (c-if1 .left)
+    let c-start = c .before .before in
+    c .row .ensures ∙ first-row (now (c-start .args .words)) (c-start .args .gap) (c-start .pre .1)
 
 pub firsts-spec : {M : Type 1} → statement M
-firsts-spec = tie.close (tie.spec firsts-at-start-requires firsts-inside-requires returns returns-2)
+firsts-spec = tie.close (tie.spec mul-row add-row row-requires returns)

@@ -1,16 +1,15 @@
--- `steps::rows::closing` meets its contract: the digits of the rules that end at the stream's end, without those of the rules that end plainly.
-use mathlib.Core.Path.{sym, ap, _∙_}
-use mathlib.Core.Bool.{Bool, not, _&&_}
+-- `steps::rows::closing` meets its contract: the digits of the rules that end at the stream's end, without those of the rules that end whatever follows.
+use mathlib.Core.Path.{sym, ap₂, subst, _∙_}
 use mathlib.Core.List.{List}
-use Prim.Native.Nat.{ℕ, min}
+use Prim.Native.Nat.{ℕ, _<_}
 use denote.Ref.{now}
-use lib.Dec.{lit≤}
+use lib.Dec.{lit<}
 use Rattle.sets.specs.Set.{unionOf}
-use Rattle.table.specs.Layout.{maxRules, rulesOf}
+use Rattle.table.specs.Gaps.{atEnd, unsettled, lastGaps}
 use Rattle.table.specs.Automaton.{automaton}
-use Rattle.steps.specs.Step.{ends, endsAtEnd, rulesWhere}
-use Rattle.steps.proofs.Members.{placesBelow}
-use Rattle.steps.proofs.TableSets.{number-on, number-off, meeting, closing-word}
+use Rattle.table.proofs.GapBounds.{atEnd-last}
+use Rattle.steps.specs.Step.{ends, endsNewly, rulesWhere}
+use Rattle.steps.proofs.TableSets.{number-on, number-off, newly-word}
 use Rattle.steps.proofs.rows.closing.Statement.{statement}
 use Rattle.steps.proofs.rows.closing.Tie as tie
 
@@ -18,34 +17,41 @@ returns : tie.Need-returns
 returns c =
     let c-start = c .before .before in
     let c-if1 = c .if1 in
-    let w = automaton (now (c-start .args .words)) in
-    let live = c-start .args .live in
-    sym (number-off (now (c-start .args .words)) (rulesWhere w (λ a. endsAtEnd w (unionOf live (c-start .args .held)) a && not (ends w live a))) (c-if1 .taken))
+    let a = c-start .args in
+    let w = automaton (now (a .words)) in
+    sym (number-off (now (a .words)) (rulesWhere w (endsNewly w (atEnd (a .before)) (unionOf (a .live) (a .held)) unsettled (a .live))) (c-if1 .taken))
+
+at-end-requires : tie.Need-at-end-requires
+at-end-requires c κs = tt
 
 union-requires : tie.Need-union-requires
 union-requires c κs = tt
 
-meeting-requires : tie.Need-meeting-requires
-meeting-requires c κs =
-    let c-if1 = c .before .if1 in
-    (c-if1 .left, lit≤ tt)
+ending-at-requires : tie.Need-ending-at-requires
+ending-at-requires c κs =
+    let c-start = c .before .before .before .before in
+    let c-if1 = c .before .before .if1 in
+    let c-at-end = c .before .at-end in
+    (c-if1 .left, subst (λ (g : ℕ). g < lastGaps) (sym (c-at-end .ensures)) (atEnd-last (c-start .args .before)))
 
-ending-requires : tie.Need-ending-requires
-ending-requires c κs = tt
+ending-at-requires-2 : tie.Need-ending-at-requires-2
+ending-at-requires-2 c κs =
+    let c-if1 = c .before .before .before .if1 in
+    (c-if1 .left, lit< tt)
 
 returns-2 : tie.Need-returns-2
 returns-2 c =
-    let c-start = c .before .before .before .before .before in
-    let c-if1 = c .before .before .before .if1 in
+    let c-start = c .before .before .before .before .before .before in
+    let c-if1 = c .before .before .before .before .if1 in
+    let c-at-end = c .before .before .before .at-end in
     let c-union = c .before .before .union in
-    let c-meeting = c .before .meeting in
-    let c-ending = c .ending in
-    let t = now (c-start .args .words) in
-    let w = automaton t in
-    let live = c-start .args .live in
-    closing-word t _ live (c-meeting .result) (c-ending .result)
-    (c-meeting .ensures ∙ ap (λ (s : List ℕ). placesBelow (min (rulesOf t) maxRules) (meeting t s 7)) (c-union .ensures)) (c-ending .ensures ∙ number-on t (rulesWhere w (ends w live)) (c-if1 .left))
-    ∙ sym (number-on t (rulesWhere w (λ a. endsAtEnd w (unionOf live (c-start .args .held)) a && not (ends w live a))) (c-if1 .left))
+    let c-ending-at = c .before .ending-at in
+    let c-ending-at2 = c .ending-at2 in
+    let a = c-start .args in
+    let w = automaton (now (a .words)) in
+    newly-word w (atEnd (a .before)) (unionOf (a .live) (a .held)) unsettled (a .live) (c-ending-at .result) (c-ending-at2 .result)
+    (c-ending-at .ensures ∙ ap₂ (λ (g : ℕ) (s : List ℕ). rulesWhere w (ends w g s)) (c-at-end .ensures) (c-union .ensures)) (c-ending-at2 .ensures)
+    ∙ sym (number-on (now (a .words)) (rulesWhere w (endsNewly w (atEnd (a .before)) (unionOf (a .live) (a .held)) unsettled (a .live))) (c-if1 .left))
 
 pub closing-spec : {M : Type 1} → statement M
-closing-spec = tie.close (tie.spec returns union-requires meeting-requires ending-requires returns-2)
+closing-spec = tie.close (tie.spec returns at-end-requires union-requires ending-at-requires ending-at-requires-2 returns-2)

@@ -3,19 +3,19 @@ use mathlib.Core.Path.{_≡_, sym, ap, ap₂, _∙_}
 use Prim.Native.Nat.{_-_, _≤_, zero-le}
 use native.Mathlib.Nat.{le-refl, lt-of-lt-of-le}
 use denote.Ref.{now}
-use lib.Dec.{lit≤}
-use lib.ListN.{length}
+use lib.Dec.{lit<}
 use Rattle.sets.specs.Set.{unionOf}
 use Rattle.table.specs.Layout.{maxRules, rulesOf}
+use Rattle.table.specs.Gaps.{unsettled}
 use Rattle.table.specs.Automaton.{automaton}
 use Rattle.steps.specs.Step.{lastsOf}
-use Rattle.steps.proofs.Bounds.{up, reached, less-left, few-rules, place-fits, record-fits, field-fits, set-inside, next-place-fits}
-use Rattle.steps.proofs.TableSets.{set-on, set-off, lastsBelow, lasts-none, lasts-more, lasts-all}
+use Rattle.steps.proofs.Bounds.{up, reached, less-left, few-rules, next-place-fits}
+use Rattle.steps.proofs.TableSets.{set-on, set-off, joinedBelow, joined-none, joined-more, lasts-all}
 use Rattle.steps.proofs.rows.lasts.Statement.{statement}
 use Rattle.steps.proofs.rows.lasts.Tie as tie
 
 abbrev Inv-loop : tie.InvT-loop
-Inv-loop words rules s₀ a₀ s a = (rules ≤ maxRules) × (a ≤ rules) × (s ≡ lastsBelow words a)
+Inv-loop words rules s₀ a₀ s a = (rules ≤ maxRules) × (a ≤ rules) × (s ≡ joinedBelow (automaton words .last unsettled) a)
 
 abbrev μ-loop : tie.MeasureT-loop
 μ-loop words rules s₀ a₀ s a = rules - a
@@ -43,33 +43,14 @@ loop-holds c =
     let c-rule-count = c .before .rule-count in
     let c-start = c .before .before .before .before in
     let c-empty2 = c .empty2 in
-    (few-rules (c-rule-count .result) (rulesOf (now (c-start .args .words))) (c-rule-count .ensures), zero-le, c-empty2 .ensures ∙ lasts-none (now (c-start .args .words)))
+    (few-rules (c-rule-count .result) (rulesOf (now (c-start .args .words))) (c-rule-count .ensures), zero-le, c-empty2 .ensures ∙ joined-none (automaton (now (c-start .args .words)) .last unsettled))
 
-mul-row : tie.Need-mul-row Inv-loop μ-loop
-mul-row c =
+last-row-requires : tie.Need-last-row-requires Inv-loop μ-loop
+last-row-requires c κs =
     let c-loop = c .before .loop in
     let c-loop-test = c .loop-test in
-    place-fits (c-loop .a) (lt-of-lt-of-le (c-loop-test .taken) (c-loop .inv .0))
-
-add-row : tie.Need-add-row Inv-loop μ-loop
-add-row c =
-    let c-loop = c .before .loop in
-    let c-loop-test = c .loop-test in
-    record-fits (c-loop .a) (lt-of-lt-of-le (c-loop-test .taken) (c-loop .inv .0))
-
-add-row-2 : tie.Need-add-row-2 Inv-loop μ-loop
-add-row-2 c =
-    let c-loop = c .before .loop in
-    let c-loop-test = c .loop-test in
-    field-fits (c-loop .a) (lt-of-lt-of-le (c-loop-test .taken) (c-loop .inv .0)) _ (lit≤ tt)
-
-row-requires : tie.Need-row-requires Inv-loop μ-loop
-row-requires c κs =
-    let c-loop = c .before .loop in
-    let c-loop-test = c .loop-test in
-    let c-start = c .before .before .before .before .before .before in
     let c-if1 = c .before .before .before .before .if1 in
-    set-inside (c-loop .a) (lt-of-lt-of-le (c-loop-test .taken) (c-loop .inv .0)) _ (length (now (c-start .args .words))) (lit≤ tt) (c-if1 .left)
+    (c-if1 .left, lt-of-lt-of-le (c-loop-test .taken) (c-loop .inv .0), lit< tt)
 
 union-requires : tie.Need-union-requires Inv-loop μ-loop
 union-requires c κs = tt
@@ -93,9 +74,9 @@ loop-again c =
     let c-rule-count = c .before .before .before .before .before .rule-count in
     let c-loop-test = c .before .before .loop-test in
     let c-union = c .union in
-    let c-row = c .before .row in
+    let c-last-row = c .before .last-row in
     let c-start = c .before .before .before .before .before .before .before .before in
-    (c-loop .inv .0, up (c-loop .a) (c-rule-count .result) (c-loop-test .taken), c-union .ensures ∙ ap₂ unionOf (c-loop .inv .2) (c-row .ensures) ∙ lasts-more (now (c-start .args .words)) (c-loop .a))
+    (c-loop .inv .0, up (c-loop .a) (c-rule-count .result) (c-loop-test .taken), c-union .ensures ∙ ap₂ unionOf (c-loop .inv .2) (c-last-row .ensures) ∙ joined-more (automaton (now (c-start .args .words)) .last unsettled) (c-loop .a))
 
 returns-2 : tie.Need-returns-2 Inv-loop μ-loop
 returns-2 c =
@@ -105,7 +86,7 @@ returns-2 c =
     let c-loop-test = c .loop-test in
     let c-if1 = c .before .before .before .before .if1 in
     let t = now (c-start .args .words) in
-    c-loop .inv .2 ∙ ap (lastsBelow t) (reached (c-loop .a) (c-rule-count .result) (c-loop .inv .1) (c-loop-test .left) ∙ c-rule-count .ensures) ∙ lasts-all t
+    c-loop .inv .2 ∙ ap (joinedBelow (automaton t .last unsettled)) (reached (c-loop .a) (c-rule-count .result) (c-loop .inv .1) (c-loop-test .left) ∙ c-rule-count .ensures) ∙ lasts-all t
     ∙ sym (set-on t (lastsOf (automaton t)) (c-if1 .left))
 
 pub lasts-spec : {M : Type 1} → statement M
@@ -119,10 +100,7 @@ lasts-spec =
     rule-count-requires
     empty-requires-2
     loop-holds
-    mul-row
-    add-row
-    add-row-2
-    row-requires
+    last-row-requires
     union-requires
     add-a
     loop-less

@@ -56,10 +56,10 @@ module _ (base z : ℕ) (h : base ≤ 192) (l : z < 64) where
   row-words-fit : Fits w64 ((base + z) * 4)
   row-words-fit = record { fits = omega arith }
 
-  row-fits : (rows : ℕ) → rows ≤ 3072 → Fits w64 (rows + (base + z) * 4)
+  row-fits : (rows : ℕ) → rows ≤ 14336 → Fits w64 (rows + (base + z) * 4)
   row-fits rows g = record { fits = omega arith }
 
-  row-inside : (rows n : ℕ) → rows ≤ 3072 → tableWords ≤ n → rows + (base + z) * 4 + 4 ≤ n
+  row-inside : (rows n : ℕ) → rows ≤ 14336 → tableWords ≤ n → rows + (base + z) * 4 + 4 ≤ n
   row-inside rows n g m = omega arith
 
 digit-fits : (z : ℕ) → z < 64 → Fits w64 z

@@ -10,24 +10,25 @@ use denote.Ref.{now}
 use lib.Dec.{eqb}
 use lib.ListN.{length, getD}
 use borrow.Author.Tests.{not-false, eqb-false, ltb-false}
-use Rattle.sets.specs.Set.{has, any, setOf, keptBelow, emptySet}
+use Rattle.sets.specs.Set.{has, any, setOf, emptySet}
 use Rattle.sets.proofs.Laws.{empty-is}
+use Rattle.kinds.specs.Side.{sideOf}
 use Rattle.table.specs.Layout.{tableWords, maxPositions}
 use Rattle.table.specs.Automaton.{automaton}
 use Rattle.steps.proofs.Bounds.{words-good, less-left}
-use Rattle.steps.proofs.Steps.{first-in, next-quiet}
+use Rattle.steps.proofs.Steps.{next-quiet}
 use Rattle.steps.proofs.TableSets.{set-on}
-use Rattle.stream.specs.Invariants.{Skipped}
+use Rattle.stream.specs.Invariants.{inStream, Skipped}
 use Rattle.stream.proofs.Bounds.{sum-fits, after-fits}
-use Rattle.stream.proofs.Turns.{skipped-none, skipped-more, skipped-live}
+use Rattle.stream.proofs.Quiet.{skipped-none, skipped-more, skipped-live}
 use Rattle.stream.proofs.scan.ahead.Statement.{statement}
 use Rattle.stream.proofs.scan.ahead.Tie as tie
 
 abbrev Inv-loop : tie.InvT-loop
-Inv-loop taken words positions block from end first at₀ at = (0 < taken + from) × (first ≡ keptBelow (setOf (automaton words .first)) (automaton words .positions)) × Skipped (automaton words) emptySet block taken from end at
+Inv-loop taken words first block from end at₀ at = (0 < taken + from) × (first ≡ inStream words) × Skipped (automaton words) emptySet block taken from end at
 
 abbrev μ-loop : tie.MeasureT-loop
-μ-loop taken words positions block from end first at₀ at = end - at
+μ-loop taken words first block from end at₀ at = end - at
 
 neither : (x y z : Bool) → ((x || y) || z) ≡ false → (x ≡ false) × (y ≡ false) × (z ≡ false)
 neither true y z e = absurd (true≢false e)
@@ -55,29 +56,21 @@ returns c =
     let a = c-start .args in
     skipped-none (automaton (now (a .words))) (now (a .block)) (a .taken) (a .from) (a .live) (a .end) (c-start .pre .1)
 
-row-requires : tie.Need-row-requires Inv-loop μ-loop
-row-requires c κs = tt
-
-below-requires : tie.Need-below-requires Inv-loop μ-loop
-below-requires c κs = tt
-
 loop-holds : tie.Need-loop-holds Inv-loop μ-loop
 loop-holds c =
-    let c-start = c .before .before .before .before .before .before in
-    let c-is-empty = c .before .before .before .is-empty in
-    let c-if1 = c .before .before .if1 in
-    let c-below = c .below in
-    let c-row = c .before .row in
+    let c-start = c .before .before .before .before in
+    let c-is-empty = c .before .is-empty in
+    let c-if1 = c .if1 in
     let a = c-start .args in (
       positive (a .taken + a .from) (neither (not (c-is-empty .result)) (eqb (a .taken + a .from) 0) _ (c-if1 .left) .1),
-      c-below .ensures ∙ ap₂ keptBelow (c-row .ensures ∙ first-in (now (a .words)) false) (c-start .pre .0),
+      c-start .pre .0,
       skipped-none (automaton (now (a .words))) (now (a .block)) (a .taken) (a .from) emptySet (a .end) (c-start .pre .1),
     )
 
 shared-slice-read-takers : tie.Need-shared-slice-read-takers Inv-loop μ-loop
 shared-slice-read-takers c =
     let c-loop-test = c .before .loop-test in
-    let c-start = c .before .before .before .before .before .before .before .before .before in
+    let c-start = c .before .before .before .before .before .before .before in
     lt-of-lt-of-le (c-loop-test .taken) (c-start .pre .2)
 
 takers-requires : tie.Need-takers-requires Inv-loop μ-loop
@@ -88,9 +81,9 @@ meets-requires c κs = tt
 
 returns-2 : tie.Need-returns-2 Inv-loop μ-loop
 returns-2 c =
-    let c-start = c .before .before .before .before .before .before .before .before .before .before .before .before in
-    let c-is-empty = c .before .before .before .before .before .before .before .before .before .is-empty in
-    let c-if1 = c .before .before .before .before .before .before .before .before .if1 in
+    let c-start = c .before .before .before .before .before .before .before .before .before .before in
+    let c-is-empty = c .before .before .before .before .before .before .before .is-empty in
+    let c-if1 = c .before .before .before .before .before .before .if1 in
     let c-loop = c .before .before .before .before .before .loop in
     let a = c-start .args in
     let none = not-false (c-is-empty .result) (neither (not (c-is-empty .result)) (eqb (a .taken + a .from) 0) _ (c-if1 .left) .0) in
@@ -98,24 +91,25 @@ returns-2 c =
 
 add-at : tie.Need-add-at Inv-loop μ-loop
 add-at c =
-    let c-start = c .before .before .before .before .before .before .before .before .before .before .before .before in
+    let c-start = c .before .before .before .before .before .before .before .before .before .before in
     let c-loop = c .before .before .before .before .before .loop in
     let c-loop-test = c .before .before .before .before .loop-test in
     after-fits (c-start .args .taken) (c-loop .at) (length (now (c-start .args .block))) (c-start .pre .3) (lt-of-lt-of-le (c-loop-test .taken) (c-start .pre .2))
 
 loop-less : tie.Need-loop-less Inv-loop μ-loop
 loop-less c =
-    let c-start = c .before .before .before .before .before .before .before .before .before .before .before .before in
+    let c-start = c .before .before .before .before .before .before .before .before .before .before in
     let c-loop = c .before .before .before .before .before .loop in
     let c-loop-test = c .before .before .before .before .loop-test in
     less-left (c-start .args .end) (c-loop .at) (c-loop .at) (le-refl (c-loop .at)) (c-loop-test .taken)
 
 loop-again : tie.Need-loop-again Inv-loop μ-loop
+unfolding inStream
 loop-again c =
-    let c-start = c .before .before .before .before .before .before .before .before .before .before .before .before in
+    let c-start = c .before .before .before .before .before .before .before .before .before .before in
     let c-loop = c .before .before .before .before .before .loop in
-    let c-is-empty = c .before .before .before .before .before .before .before .before .before .is-empty in
-    let c-if1 = c .before .before .before .before .before .before .before .before .if1 in
+    let c-is-empty = c .before .before .before .before .before .before .before .is-empty in
+    let c-if1 = c .before .before .before .before .before .before .if1 in
     let c-takers = c .before .before .takers in
     let c-meets = c .before .meets in
     let c-if2 = c .if2 in
@@ -130,14 +124,14 @@ loop-again c =
       l .inv .0,
       l .inv .1,
       skipped-more (automaton t) (now (a .block)) (a .taken) (a .from) (a .end) (l .at) (l .inv .2) (c-loop-test .taken)
-          (next-quiet (automaton t) false (automaton t .positions) (a .taken + l .at) byte (positive-more (a .taken) (a .from) (l .at) (l .inv .0) (l .inv .2 .rises)) apart),
+          (λ before. next-quiet (automaton t) before (sideOf byte) (automaton t .positions) (a .taken + l .at) byte (positive-more (a .taken) (a .from) (l .at) (l .inv .0) (l .inv .2 .rises)) apart),
     )
 
 returns-3 : tie.Need-returns-3 Inv-loop μ-loop
 returns-3 c =
-    let c-start = c .before .before .before .before .before .before .before .before in
-    let c-is-empty = c .before .before .before .before .before .is-empty in
-    let c-if1 = c .before .before .before .before .if1 in
+    let c-start = c .before .before .before .before .before .before in
+    let c-is-empty = c .before .before .before .is-empty in
+    let c-if1 = c .before .before .if1 in
     let c-loop = c .before .loop in
     let a = c-start .args in
     let none = not-false (c-is-empty .result) (neither (not (c-is-empty .result)) (eqb (a .taken + a .from) 0) _ (c-if1 .left) .0) in
@@ -152,8 +146,6 @@ ahead-spec =
     is-empty-requires
     add-if1
     returns
-    row-requires
-    below-requires
     loop-holds
     shared-slice-read-takers
     takers-requires

@@ -1,5 +1,4 @@
 -- `stream::scan::left_waiting` meets its contract: nothing waits after any byte but a newline, and no pair before the first byte.
-use mathlib.Core.Path.{_∙_}
 use denote.Ref.{now}
 use lib.ListN.{length}
 use Rattle.table.specs.Automaton.{automaton}
@@ -19,7 +18,7 @@ returns c =
     let c-empty = c .empty in
     let a = c-start .args in
     let w = automaton (now (a .words)) in
-    let s = stateOf (a .live) 0 (a .taken) in
+    let s = stateOf (a .live) 0 (a .before) (a .taken) in
     (none-held w s (a .byte) (c-if1 .taken) (c-empty .result) (c-empty .ensures), none-pending w s (a .byte) (c-if1 .taken))
 
 shared-slice-read-positions : tie.Need-shared-slice-read-positions
@@ -27,34 +26,39 @@ shared-slice-read-positions c =
     let c-start = c .before .before .before in
     positions-word (length (now (c-start .args .words))) (c-start .pre)
 
+side-of-requires : tie.Need-side-of-requires
+side-of-requires c κs = tt
+
 step-requires : tie.Need-step-requires
 step-requires c κs = tt
 
 returns-2 : tie.Need-returns-2
 returns-2 c =
-    let c-start = c .before .before .before .before .before .before in
-    let c-if1 = c .before .before .before .before .if1 in
+    let c-start = c .before .before .before .before .before .before .before in
+    let c-if1 = c .before .before .before .before .before .if1 in
+    let c-side-of = c .before .before .before .side-of in
     let c-step = c .before .before .step in
     let c-if2 = c .if2 in
     let a = c-start .args in
     let t = now (a .words) in
-    let s = stateOf (a .live) 0 (a .taken) in
-    (line-held t (c-start .pre) s (a .byte) (c-if1 .left) (c-step .result .live) (c-step .ensures .0), start-pending t (c-start .pre) s (a .byte) (c-if1 .left) (c-if2 .taken))
+    let s = stateOf (a .live) 0 (a .before) (a .taken) in
+    (line-held t (c-start .pre) s (a .byte) (c-if1 .left) (c-side-of .result) (c-side-of .ensures) (c-step .result .live) (c-step .ensures .0), start-pending t (c-start .pre) s (a .byte) (c-if1 .left) (c-if2 .taken))
 
 line-ending-requires : tie.Need-line-ending-requires
 line-ending-requires c κs = tt
 
 returns-3 : tie.Need-returns-3
 returns-3 c =
-    let c-start = c .before .before .before .before .before .before .before in
-    let c-if1 = c .before .before .before .before .before .if1 in
+    let c-start = c .before .before .before .before .before .before .before .before in
+    let c-if1 = c .before .before .before .before .before .before .if1 in
+    let c-side-of = c .before .before .before .before .side-of in
     let c-step = c .before .before .before .step in
     let c-if2 = c .before .if2 in
     let c-line-ending = c .line-ending in
     let a = c-start .args in
     let t = now (a .words) in
-    let s = stateOf (a .live) 0 (a .taken) in
-    (line-held t (c-start .pre) s (a .byte) (c-if1 .left) (c-step .result .live) (c-step .ensures .0), line-pending t (c-start .pre) s (a .byte) (c-if1 .left) (c-if2 .left) (c-line-ending .result) (c-line-ending .ensures))
+    let s = stateOf (a .live) 0 (a .before) (a .taken) in
+    (line-held t (c-start .pre) s (a .byte) (c-if1 .left) (c-side-of .result) (c-side-of .ensures) (c-step .result .live) (c-step .ensures .0), line-pending t (c-start .pre) s (a .byte) (c-if1 .left) (c-if2 .left) (c-line-ending .result) (c-line-ending .ensures))
 
 pub left-waiting-spec : {M : Type 1} → statement M
 left-waiting-spec =
@@ -63,6 +67,7 @@ left-waiting-spec =
     empty-requires
     returns
     shared-slice-read-positions
+    side-of-requires
     step-requires
     returns-2
     line-ending-requires

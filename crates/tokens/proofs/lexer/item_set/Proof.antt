@@ -1,10 +1,34 @@
 -- `tokens::lexer::item_set` meets its contract, by cases on what the item stands for.
-use mathlib.Core.Path.{_≡_}
+use mathlib.Core.Path.{_≡_, refl, _∙_}
 use mathlib.Core.Bool.{true, false}
+use mathlib.Core.List.{[], _∷_}
 use borrow.Author.Needs.{needs}
+use types.Run.{OneOf, miss}
+use denote.Enum.Declared.{tagOf}
+use Rattle.sets.specs.Set.{emptySet}
+use Rattle.atoms.proofs.Atom as atom
+use Rattle.atoms.specs.declared.Atom.{Atom}
+use Rattle.atoms.specs.declared.Atom.the-variants.{Byte, OfKind, NotOfKind, Dot, NotNewline, Start, LastLine, End, Caret, Dollar, WordEdge, NoWordEdge}
+use Rattle.tokens.specs.declared.Options.{Options}
 use Rattle.tokens.specs.Token.{itemSet}
 use Rattle.tokens.proofs.lexer.item_set.Statement.{statement}
 use Rattle.tokens.proofs.lexer.item_set.Tie as tie
+
+-- all but the atoms that take a byte
+assertion : (o : Options) (a : Atom) → OneOf (5 ∷ 6 ∷ 7 ∷ 8 ∷ 9 ∷ 10 ∷ 11 ∷ []) (tagOf atom.the-type a) → emptySet ≡ itemSet o a
+unfolding itemSet
+assertion o (Byte b) h = absurd (miss (5 ∷ 6 ∷ 7 ∷ 8 ∷ 9 ∷ 10 ∷ 11 ∷ []) 0 tt h)
+assertion o (OfKind k) h = absurd (miss (5 ∷ 6 ∷ 7 ∷ 8 ∷ 9 ∷ 10 ∷ 11 ∷ []) 1 tt h)
+assertion o (NotOfKind k) h = absurd (miss (5 ∷ 6 ∷ 7 ∷ 8 ∷ 9 ∷ 10 ∷ 11 ∷ []) 2 tt h)
+assertion o Dot h = absurd (miss (5 ∷ 6 ∷ 7 ∷ 8 ∷ 9 ∷ 10 ∷ 11 ∷ []) 3 tt h)
+assertion o NotNewline h = absurd (miss (5 ∷ 6 ∷ 7 ∷ 8 ∷ 9 ∷ 10 ∷ 11 ∷ []) 4 tt h)
+assertion o Start h = refl
+assertion o LastLine h = refl
+assertion o End h = refl
+assertion o Caret h = refl
+assertion o Dollar h = refl
+assertion o WordEdge h = refl
+assertion o NoWordEdge h = refl
 
 enum-known-atom : tie.Need-enum-known-atom
 enum-known-atom c = search needs
@@ -52,23 +76,8 @@ enum-told-2 c = search needs
 all-but-newline-requires-2 : tie.Need-all-but-newline-requires-2
 all-but-newline-requires-2 c κs = tt
 
-enum-told-3 : tie.Need-enum-told-3
-enum-told-3 c = search needs
-
 empty-requires-2 : tie.Need-empty-requires-2
 empty-requires-2 c κs = tt
-
-enum-told-4 : tie.Need-enum-told-4
-enum-told-4 c = search needs
-
-empty-requires-3 : tie.Need-empty-requires-3
-empty-requires-3 c κs = tt
-
-enum-told-5 : tie.Need-enum-told-5
-enum-told-5 c = search needs
-
-empty-requires-4 : tie.Need-empty-requires-4
-empty-requires-4 c κs = tt
 
 returns-2 : tie.Need-returns-2
 unfolding itemSet
@@ -96,20 +105,13 @@ unfolding itemSet
 returns-6 c = rw (c .before .enum-told2 .given .1) (c .all-but-newline2 .ensures)
 
 returns-7 : tie.Need-returns-7
-unfolding itemSet
-returns-7 c = rw (c .before .enum-told3 .given .1) (c .empty2 .ensures)
-
-returns-8 : tie.Need-returns-8
-unfolding itemSet
-returns-8 c = rw (c .before .enum-told4 .given .1) (c .empty3 .ensures)
-
-returns-9 : tie.Need-returns-9
-unfolding itemSet
-returns-9 c = rw (c .before .enum-told5 .given .1) (c .empty4 .ensures)
+returns-7 c =
+    let args = c .before .before .args in
+    c .empty2 .ensures ∙ assertion (args .options) (args .atom) (c .before .match .keys6)
 
 pub item-set-spec : {M : Type 1} → statement M
 item-set-spec =
     tie.close
     (tie.spec enum-known-atom empty-requires insert-requires cased-requires enum-known-atom-2 of-kind-requires enum-known-atom-3 not-of-kind-requires
-    enum-told full-requires returns all-but-newline-requires enum-told-2 all-but-newline-requires-2 enum-told-3 empty-requires-2 enum-told-4
-    empty-requires-3 enum-told-5 empty-requires-4 returns-2 returns-3 returns-4 returns-5 returns-6 returns-7 returns-8 returns-9)
+    enum-told full-requires returns all-but-newline-requires enum-told-2 all-but-newline-requires-2 empty-requires-2 returns-2 returns-3 returns-4
+    returns-5 returns-6 returns-7)

@@ -8,18 +8,18 @@ use borrow.Author.Tests.{not-true, not-false}
 use lib.ListN.{length, drop}
 use Rattle.tokens.specs.Option.{lettersOf}
 use Rattle.atoms.proofs.Suffixes.{inside}
-use Rattle.tokens.proofs.Letters.{letters-i, letters-s, letters-off, letters-twice, letters-set, letters-open, letters-other}
+use Rattle.tokens.proofs.Letters.{letters-i, letters-s, letters-m, letters-off, letters-twice, letters-set, letters-open, letters-other}
 use Rattle.tokens.proofs.option.letters.Statement.{statement}
 use Rattle.tokens.proofs.option.letters.Tie as tie
 
 abbrev Inv-loop : tie.InvT-loop
-Inv-loop s at caseless₀ dotall₀ quoted on₀ any₀ i₀ size₀ caseless dotall on any i size =
+Inv-loop s at caseless₀ dotall₀ lines₀ quoted on₀ any₀ i₀ size₀ caseless dotall lines on any i size =
     (i ≤ length s) × (size ≤ i + 2)
-    × (lettersOf on any (record { caseless = caseless; dotall = dotall; quoted = quoted }) size (drop i s)
-    ≡ lettersOf true false (record { caseless = caseless₀; dotall = dotall₀; quoted = quoted }) 2 (drop at s))
+    × (lettersOf on any (record { caseless = caseless; dotall = dotall; lines = lines; quoted = quoted }) size (drop i s)
+    ≡ lettersOf true false (record { caseless = caseless₀; dotall = dotall₀; lines = lines₀; quoted = quoted }) 2 (drop at s))
 
 abbrev μ-loop : tie.MeasureT-loop
-μ-loop s at caseless₀ dotall₀ quoted on₀ any₀ i₀ size₀ caseless dotall on any i size = length s - i
+μ-loop s at caseless₀ dotall₀ lines₀ quoted on₀ any₀ i₀ size₀ caseless dotall lines on any i size = length s - i
 
 loop-holds : tie.Need-loop-holds Inv-loop μ-loop
 loop-holds c = (c .before .pre, omega arith, refl)
@@ -69,6 +69,24 @@ loop-again-2 c =
           ∙ inv .2,
     )
 
+loop-less-3 : tie.Need-loop-less-3 Inv-loop μ-loop
+loop-less-3 c =
+    let s = c .before .before .before .before .args .s .now in
+    omega (arith, inside s (c .before .before .loop .i) (λ z. omega (arith, c .before .peek .ensures)))
+
+loop-again-3 : tie.Need-loop-again-3 Inv-loop μ-loop
+loop-again-3 c =
+    let l = c .before .before .loop in
+    let s = c .before .before .before .before .args .s .now in
+    let peek = c .before .peek in
+    let inv = l .inv in
+    let here = inside s (l .i) (λ z. omega (arith, peek .ensures)) in (
+      omega arith,
+      omega (arith, inv .1),
+      sym (letters-m (l .on) (l .any) _ (l .size) s (l .i) (peek .result) (peek .ensures) (c .match .keys3))
+          ∙ inv .2,
+    )
+
 refused-requires : tie.Need-refused-requires Inv-loop μ-loop
 refused-requires c κs = tt
 
@@ -80,18 +98,18 @@ returns c =
     let inv = l .inv in
     c .refused .ensures
     ∙ sym
-    (letters-twice (l .on) (l .any) _ (l .size) s (l .i) (peek .result) (peek .ensures) (c .before .before .match .keys3)
+    (letters-twice (l .on) (l .any) _ (l .size) s (l .i) (peek .result) (peek .ensures) (c .before .before .match .keys4)
     (not-true _ (c .before .if1 .taken)))
     ∙ inv .2
 
-loop-less-3 : tie.Need-loop-less-3 Inv-loop μ-loop
-loop-less-3 c =
+loop-less-4 : tie.Need-loop-less-4 Inv-loop μ-loop
+loop-less-4 c =
     let s = c .before .before .before .before .before .args .s .now in
     let l = c .before .before .before .loop in
     omega (arith, inside s (l .i) (λ z. omega (arith, c .before .before .peek .ensures)))
 
-loop-again-3 : tie.Need-loop-again-3 Inv-loop μ-loop
-loop-again-3 c =
+loop-again-4 : tie.Need-loop-again-4 Inv-loop μ-loop
+loop-again-4 c =
     let l = c .before .before .before .loop in
     let s = c .before .before .before .before .before .args .s .now in
     let peek = c .before .before .peek in
@@ -100,7 +118,7 @@ loop-again-3 c =
       omega arith,
       omega (arith, inv .1),
       sym
-          (letters-off (l .on) (l .any) _ (l .size) s (l .i) (peek .result) (peek .ensures) (c .before .match .keys3) (not-false _ (c .if1 .left)))
+          (letters-off (l .on) (l .any) _ (l .size) s (l .i) (peek .result) (peek .ensures) (c .before .match .keys4) (not-false _ (c .if1 .left)))
           ∙ inv .2,
     )
 
@@ -113,7 +131,7 @@ returns-2 c =
     let s = c .before .before .before .before .before .args .s .now in
     let peek = c .before .before .peek in
     let inv = l .inv in
-    c .lettered .ensures ∙ sym (letters-set (l .on) (l .any) _ (l .size) s (l .i) (peek .result) (peek .ensures) (c .before .match .keys4)) ∙ inv .2
+    c .lettered .ensures ∙ sym (letters-set (l .on) (l .any) _ (l .size) s (l .i) (peek .result) (peek .ensures) (c .before .match .keys5)) ∙ inv .2
 
 lettered-requires-2 : tie.Need-lettered-requires-2 Inv-loop μ-loop
 lettered-requires-2 c κs = tt
@@ -125,7 +143,7 @@ returns-3 c =
     let peek = c .before .before .peek in
     let inv = l .inv in
     c .lettered2 .ensures
-    ∙ sym (letters-open (l .on) (l .any) _ (l .size) s (l .i) (peek .result) (peek .ensures) (c .before .match .keys5))
+    ∙ sym (letters-open (l .on) (l .any) _ (l .size) s (l .i) (peek .result) (peek .ensures) (c .before .match .keys6))
     ∙ inv .2
 
 refused-requires-2 : tie.Need-refused-requires-2 Inv-loop μ-loop
@@ -140,12 +158,12 @@ returns-4 c =
     let other = c .before .match .rest in
     c .refused2 .ensures
     ∙ sym
-    (letters-other (l .on) (l .any) _ (l .size) s (l .i) (peek .result) (peek .ensures) (other .0 .0 .0 .0 .1) (other .0 .0 .0 .1) (other .0 .0 .1)
-    (other .0 .1) (other .1))
+    (letters-other (l .on) (l .any) _ (l .size) s (l .i) (peek .result) (peek .ensures) (other .0 .0 .0 .0 .0 .1) (other .0 .0 .0 .0 .1)
+    (other .0 .0 .0 .1) (other .0 .0 .1) (other .0 .1) (other .1))
     ∙ inv .2
 
 pub letters-spec : {M : Type 1} → statement M
 letters-spec =
     tie.close
-    (tie.spec Inv-loop μ-loop loop-holds peek-requires add-i add-size loop-less loop-again loop-less-2 loop-again-2 refused-requires returns
-    loop-less-3 loop-again-3 lettered-requires returns-2 lettered-requires-2 returns-3 refused-requires-2 returns-4)
+    (tie.spec Inv-loop μ-loop loop-holds peek-requires add-i add-size loop-less loop-again loop-less-2 loop-again-2 loop-less-3 loop-again-3 refused-requires returns
+    loop-less-4 loop-again-4 lettered-requires returns-2 lettered-requires-2 returns-3 refused-requires-2 returns-4)

@@ -1,72 +1,82 @@
 -- `watcher_c::state::load` meets its contract: it reads the words that `stateOf` names.
-use mathlib.Core.Path.{refl}
-use Rattle.watcher_c.specs.State.{stateOf}
 use borrow.Author.Needs.{needs}
+use denote.Ref.{now}
+use Rattle.watcher_c.proofs.Words.{loaded}
 use Rattle.watcher_c.proofs.state.load.Statement.{statement}
 use Rattle.watcher_c.proofs.state.load.Tie as tie
 
-shared-slice-read-t5 : tie.Need-shared-slice-read-t5
-shared-slice-read-t5 c = search needs
+shared-slice-read-side-in : tie.Need-shared-slice-read-side-in
+shared-slice-read-side-in c = search needs
 
-shared-slice-read-t7 : tie.Need-shared-slice-read-t7
-shared-slice-read-t7 c = search needs
+shared-slice-read-t8 : tie.Need-shared-slice-read-t8
+shared-slice-read-t8 c = search needs
 
-shared-slice-read-t9 : tie.Need-shared-slice-read-t9
-shared-slice-read-t9 c = search needs
+shared-slice-read-t10 : tie.Need-shared-slice-read-t10
+shared-slice-read-t10 c = search needs
 
-shared-slice-read-t11 : tie.Need-shared-slice-read-t11
-shared-slice-read-t11 c = search needs
+shared-slice-read-t12 : tie.Need-shared-slice-read-t12
+shared-slice-read-t12 c = search needs
 
-shared-slice-read-t5-2 : tie.Need-shared-slice-read-t5-2
-shared-slice-read-t5-2 c = search needs
+shared-slice-read-side-in-2 : tie.Need-shared-slice-read-side-in-2
+shared-slice-read-side-in-2 c = search needs
 
-shared-slice-read-t11-2 : tie.Need-shared-slice-read-t11-2
-shared-slice-read-t11-2 c = search needs
+shared-slice-read-t12-2 : tie.Need-shared-slice-read-t12-2
+shared-slice-read-t12-2 c = search needs
 
-shared-slice-read-t9-2 : tie.Need-shared-slice-read-t9-2
-shared-slice-read-t9-2 c = search needs
+shared-slice-read-t10-2 : tie.Need-shared-slice-read-t10-2
+shared-slice-read-t10-2 c = search needs
 
-shared-slice-read-t7-2 : tie.Need-shared-slice-read-t7-2
-shared-slice-read-t7-2 c = search needs
+shared-slice-read-t8-2 : tie.Need-shared-slice-read-t8-2
+shared-slice-read-t8-2 c = search needs
 
-shared-slice-read-t5-3 : tie.Need-shared-slice-read-t5-3
-shared-slice-read-t5-3 c = search needs
+shared-slice-read-side-in-3 : tie.Need-shared-slice-read-side-in-3
+shared-slice-read-side-in-3 c = search needs
 
-shared-slice-read-t7-3 : tie.Need-shared-slice-read-t7-3
-shared-slice-read-t7-3 c = search needs
+side-in-requires : tie.Need-side-in-requires
+side-in-requires c κs = search needs
 
-shared-slice-read-t9-3 : tie.Need-shared-slice-read-t9-3
-shared-slice-read-t9-3 c = search needs
+shared-slice-read-t8-3 : tie.Need-shared-slice-read-t8-3
+shared-slice-read-t8-3 c = search needs
 
-shared-slice-read-t11-3 : tie.Need-shared-slice-read-t11-3
-shared-slice-read-t11-3 c = search needs
+shared-slice-read-t6 : tie.Need-shared-slice-read-t6
+shared-slice-read-t6 c = search needs
 
-shared-slice-read-t21 : tie.Need-shared-slice-read-t21
-shared-slice-read-t21 c = search needs
+shared-slice-read-t10-3 : tie.Need-shared-slice-read-t10-3
+shared-slice-read-t10-3 c = search needs
+
+shared-slice-read-t12-3 : tie.Need-shared-slice-read-t12-3
+shared-slice-read-t12-3 c = search needs
 
 shared-slice-read-t23 : tie.Need-shared-slice-read-t23
 shared-slice-read-t23 c = search needs
 
+shared-slice-read-t25 : tie.Need-shared-slice-read-t25
+shared-slice-read-t25 c = search needs
+
 returns : tie.Need-returns
-unfolding stateOf
-returns c = refl
+returns c =
+    let c-start = c .before .before .before .before .before .before .before .before .before .before .before .before .before .before .before .before .before in
+    let c-side-in = c .before .before .before .before .before .before .side-in in
+    loaded (now (c-start .args .words)) (c-side-in .result) (c-side-in .ensures)
 
 pub load-spec : {M : Type 1} → statement M
 load-spec =
     tie.close
     (tie.spec
-    shared-slice-read-t5
-    shared-slice-read-t7
-    shared-slice-read-t9
-    shared-slice-read-t11
-    shared-slice-read-t5-2
-    shared-slice-read-t11-2
-    shared-slice-read-t9-2
-    shared-slice-read-t7-2
-    shared-slice-read-t5-3
-    shared-slice-read-t7-3
-    shared-slice-read-t9-3
-    shared-slice-read-t11-3
-    shared-slice-read-t21
+    shared-slice-read-side-in
+    shared-slice-read-t8
+    shared-slice-read-t10
+    shared-slice-read-t12
+    shared-slice-read-side-in-2
+    shared-slice-read-t12-2
+    shared-slice-read-t10-2
+    shared-slice-read-t8-2
+    shared-slice-read-side-in-3
+    side-in-requires
+    shared-slice-read-t8-3
+    shared-slice-read-t6
+    shared-slice-read-t10-3
+    shared-slice-read-t12-3
     shared-slice-read-t23
+    shared-slice-read-t25
     returns)

@@ -18,35 +18,40 @@ Inv-loop words₀ from i₀ words i = (i ≤ stateWords) × Written 0 i (λ w. g
 abbrev μ-loop : tie.MeasureT-loop
 μ-loop words₀ from i₀ words i = stateWords - i
 
-array-read-t9 : tie.Need-array-read-t9 Inv-loop μ-loop
-array-read-t9 c = omega arith
+array-read-t10 : tie.Need-array-read-t10 Inv-loop μ-loop
+array-read-t10 c = omega arith
 
-array-read-t12 : tie.Need-array-read-t12 Inv-loop μ-loop
-array-read-t12 c = omega arith
+array-read-t13 : tie.Need-array-read-t13 Inv-loop μ-loop
+array-read-t13 c = omega arith
 
-array-read-t15 : tie.Need-array-read-t15 Inv-loop μ-loop
-array-read-t15 c = omega arith
+array-read-t16 : tie.Need-array-read-t16 Inv-loop μ-loop
+array-read-t16 c = omega arith
 
-array-read-t18 : tie.Need-array-read-t18 Inv-loop μ-loop
-array-read-t18 c = omega arith
+array-read-t19 : tie.Need-array-read-t19 Inv-loop μ-loop
+array-read-t19 c = omega arith
 
-array-read-t21 : tie.Need-array-read-t21 Inv-loop μ-loop
-array-read-t21 c = omega arith
+array-read-t22 : tie.Need-array-read-t22 Inv-loop μ-loop
+array-read-t22 c = omega arith
 
-array-read-t24 : tie.Need-array-read-t24 Inv-loop μ-loop
-array-read-t24 c = omega arith
+array-read-t25 : tie.Need-array-read-t25 Inv-loop μ-loop
+array-read-t25 c = omega arith
 
-array-read-t27 : tie.Need-array-read-t27 Inv-loop μ-loop
-array-read-t27 c = omega arith
+array-read-t28 : tie.Need-array-read-t28 Inv-loop μ-loop
+array-read-t28 c = omega arith
 
-array-read-t30 : tie.Need-array-read-t30 Inv-loop μ-loop
-array-read-t30 c = omega arith
+array-read-t31 : tie.Need-array-read-t31 Inv-loop μ-loop
+array-read-t31 c = omega arith
 
-cast-t31 : tie.Need-cast-t31 Inv-loop μ-loop
-cast-t31 c = search needs
+side-word-requires : tie.Need-side-word-requires Inv-loop μ-loop
+side-word-requires c κs = tt
+
+cast-t33 : tie.Need-cast-t33 Inv-loop μ-loop
+cast-t33 c = search needs
 
 loop-holds : tie.Need-loop-holds Inv-loop μ-loop
-loop-holds c = (omega arith, written-none (omega arith), c .before .before .before .pre)
+loop-holds c =
+    let c-start = c .before .before .before .before .before in
+    (omega arith, written-none (omega arith), c-start .pre)
 
 mul-words : tie.Need-mul-words Inv-loop μ-loop
 mul-words c = omega arith
@@ -76,11 +81,14 @@ same-length c = c .before .loop .inv .1 .long
 
 returns : tie.Need-returns Inv-loop μ-loop
 returns c =
-    let l = c .before .loop in
-    let a = c .before .before .before .before .before .args in
+    let c-loop = c .before .loop in
+    let c-start = c .before .before .before .before .before .before .before in
+    let c-side-word = c .before .before .before .side-word in
+    let l = c-loop in
+    let a = c-start .args in
     let done : l .i ≡ stateWords = omega arith in
     written-all (l .inv .1) done
-    ∙ ap (λ (f : List ℕ). over 0 stateWords (λ w. getD f w 0) (now (a .words))) (laid (a .s))
+    ∙ ap (λ (f : List ℕ). over 0 stateWords (λ w. getD f w 0) (now (a .words))) (laid (a .s) (c-side-word .result) (c-side-word .ensures))
     ∙ stored-is (a .s) (now (a .words)) (l .inv .2)
 
 pub store-spec : {M : Type 1} → statement M
@@ -89,15 +97,16 @@ store-spec =
     (tie.spec
     Inv-loop
     μ-loop
-    array-read-t9
-    array-read-t12
-    array-read-t15
-    array-read-t18
-    array-read-t21
-    array-read-t24
-    array-read-t27
-    array-read-t30
-    cast-t31
+    array-read-t10
+    array-read-t13
+    array-read-t16
+    array-read-t19
+    array-read-t22
+    array-read-t25
+    array-read-t28
+    array-read-t31
+    side-word-requires
+    cast-t33
     loop-holds
     mul-words
     array-read-words
