@@ -126,16 +126,17 @@ watcher_error_t watcher_open(const uint64_t *table, size_t table_words,
 
 /*
  * Scans a block. Reports are written from the front of both lists, ids[i] with
- * offsets[i], offsets never falling; slots past *reports keep what they held. A byte
- * brings first the matches that end before it and depended on it, as \b and \B
- * and, with WATCHER_FLAG_MULTILINE, $ may, then those that end with it, each by
- * rising id. The scan stops before the first byte that the units left of the
- * allowance do not pay for, or whose reports, of both kinds, do not all fit, so
- * *taken may be less than the length: take the reports out and call again with
- * the rest of the block. *used is what the bytes taken cost, 0 for a refusal. An
- * allowance of 0 takes nothing and is no refusal. Each accepted call with a byte
- * in its block and WATCHER_MAX_BYTE_UNITS units or more takes at least one; with
- * WATCHER_REPORT_SLOTS slots or more no call is refused for its space.
+ * offsets[i], offsets never falling; slots past *reports keep what they held. A
+ * byte brings first the matches that end before it and depended on it, as \b
+ * and \B and, with WATCHER_FLAG_MULTILINE, $ may, then those that end with it,
+ * each by rising id. The scan stops before the first byte that the units left
+ * of the allowance do not pay for, or whose reports, of both kinds, do not all
+ * fit, so *taken may be less than the length: take the reports out and call
+ * again with the rest of the block. *used is what the bytes taken cost, 0 for a
+ * refusal. An allowance of 0 takes nothing and is no refusal. Each accepted
+ * call with a byte in its block and WATCHER_MAX_BYTE_UNITS units or more takes
+ * at least one; with WATCHER_REPORT_SLOTS slots or more no call is refused for
+ * its space.
  */
 watcher_error_t watcher_scan(const uint64_t *table, size_t table_words,
                              uint64_t *state, size_t state_words,
