@@ -9,8 +9,9 @@
  * The library has no heap, no globals and no callbacks. The caller owns all
  * memory: WATCHER_TABLE_WORDS words for a table, WATCHER_STATE_WORDS words for a
  * stream, and two lists for reports. Both may be copied with memcpy and kept in a
- * file. Calls on different memory may run at once; a table is only read by
- * watcher_open, watcher_scan and watcher_close, so streams may share it.
+ * file; a table of another format than this library's is refused with
+ * WATCHER_NO_TABLE. Calls on different memory may run at once; a table is only
+ * read by watcher_open, watcher_scan and watcher_close, so streams may share it.
  *
  * Every function answers for any content of the words it is lent. What it asks
  * of its caller is what C cannot check: each pointer is valid for as many

@@ -53,7 +53,8 @@ impl Matcher {
         let words = table(rules);
         let count = words[RULES] as usize;
         let members = |at: usize| (0..MAX_POSITIONS).filter(|&p| has(&words, at, p)).collect();
-        let rule_at = |gap: usize, p: usize| (0..count).find(|&a| has(&words, last(a, gap), p));
+        let rule_at =
+            |gap: usize, p: usize| has(&words, last(gap), p).then(|| words[owner(p)] as usize);
         let position = |p: usize| Position {
             takes: std::array::from_fn(|byte| has(&words, takers(byte as u8), p)),
             follow: std::array::from_fn(|gap| members(follow(gap, p))),
@@ -62,8 +63,8 @@ impl Matcher {
         Matcher {
             positions: (0..words[POSITIONS] as usize).map(position).collect(),
             first: std::array::from_fn(|gap| members(first(gap))),
-            ids: (0..count).map(|a| words[record(a) + ID] as u32).collect(),
-            single: (0..count).map(|a| words[record(a) + FLAGS] & SINGLE_MATCH != 0).collect(),
+            ids: (0..count).map(|a| words[id(a)] as u32).collect(),
+            single: (0..count).map(|a| words[SINGLES] >> a & 1 == 1).collect(),
         }
     }
 

@@ -3,7 +3,7 @@
 use mathlib.Core.Path.{_≡_, refl, sym, ap, ap₂, _∙_}
 use mathlib.Core.Bool.{Bool, true, false, cond, not, _&&_, _||_}
 use mathlib.Core.List.{List, [], _∷_, _++_}
-use Prim.Native.Nat.{ℕ, zero, suc, _+_, _-_, _/_, _%_, _≤_, _<_}
+use Prim.Native.Nat.{ℕ, zero, suc, _+_, _-_, _≤_, _<_}
 use native.Mathlib.Nat.{lt-trans}
 use native.Mathlib.Omega.{arith}
 use native.Mathlib.Decide.{decLt}
@@ -18,9 +18,11 @@ use Rattle.kinds.specs.declared.Side.the-variants.{Newline}
 use Rattle.kinds.specs.Side.{sideOf}
 use Rattle.table.specs.Layout.{maxPositions}
 use Rattle.table.specs.Gaps.{between, beforeLast, unsettled, atEnd, gapOf, firstGap, firstGaps, followGaps, lastGaps}
-use Rattle.table.specs.Automaton.{Automaton}
+use Rattle.table.specs.Automaton.{Automaton, last, starts}
+use Rattle.table.proofs.Lates.{LatesAre}
 use Rattle.table.proofs.GapBounds.{between-inner, beforeLast-follow, atEnd-last, gapOf-follow, firstGap-first}
 use Rattle.steps.specs.Step.{stepped, ends, endsNewly}
+use Rattle.steps.proofs.Late.{late-newly}
 use Rattle.stream.specs.declared.Stream.{Stream}
 use Rattle.stream.specs.Byte.{nextLive, nextHeld, nextPending, runIds, runMarks, twoIds, twoEnds, twoMarks, lateTest, ownTest, heldTest, endTest, byteIds, byteEnds, byteState, stateAfter, idsOf, endsOf, costOf, fits, closeIds, closeEnds}
 
@@ -29,11 +31,13 @@ pub record Agree (w v : Automaton) : Type 0 where
   pub rules : w .rules ≡ v .rules
   pub positions : w .positions ≡ v .positions
   pub id : (a : ℕ) → a < w .rules → w .id a ≡ v .id a
-  pub flags : (a : ℕ) → a < w .rules → w .flags a ≡ v .flags a
-  pub first : (g q : ℕ) → g < firstGaps → q < w .positions → w .first g q ≡ v .first g q
+  pub once : (a : ℕ) → a < w .rules → w .once a ≡ v .once a
+  -- of a position that takes the byte
+  pub first : (g x q : ℕ) → g < firstGaps → x < 256 → q < w .positions → w .takes x q ≡ true → starts w g x q ≡ starts v g x q
   pub follow : (g p q : ℕ) → g < followGaps → q < w .positions → w .follow g p q ≡ v .follow g p q
   pub takes : (x q : ℕ) → x < 256 → q < w .positions → w .takes x q ≡ v .takes x q
-  pub last : (g a p : ℕ) → g < lastGaps → a < w .rules → p < w .positions → w .last g a p ≡ v .last g a p
+  pub last : (g a p : ℕ) → g < lastGaps → a < w .rules → p < w .positions → last w g a p ≡ last v g a p
+  pub lates : LatesAre w × LatesAre v
 
 -- below n two tests agree, and past it nothing is asked
 below : (n m q : ℕ) (b c : Bool) → n ≡ m → (q < n → b ≡ c) → (ltb q n && b) ≡ (ltb q m && c)
@@ -64,16 +68,17 @@ module _ (w v : Automaton) (same : Agree w v) where
     unfolding stepped
     step-agrees small =
         setOf-ext _ _ (λ q lt. below (w .positions) (v .positions) q _ _ (same .positions) (λ l.
-        ap₂ _&&_ (same .takes x q small l)
-        (ap₂ _||_ (same .first (firstGap line taken before after) q (firstGap-first line taken before after) l)
-        (any-ext maxPositions _ _ (λ p m. ap (λ (b : Bool). has live p && b) (same .follow (gapOf line before after) p q (gapOf-follow line before after) l))))))
+        both (w .takes x q) _ _ (λ takes.
+        ap₂ _||_ (same .first (firstGap line taken before after) x q (firstGap-first line taken before after) small l takes)
+        (any-ext maxPositions _ _ (λ p m. ap (λ (b : Bool). has live p && b) (same .follow (gapOf line before after) p q (gapOf-follow line before after) l))))
+        ∙ ap (λ (b : Bool). b && (starts v (firstGap line taken before after) x q || any maxPositions (λ p. has live p && v .follow (gapOf line before after) p q))) (same .takes x q small l)))
 
     step-inside : Within (stepped w line before after (w .positions) live taken x)
     unfolding stepped
     step-inside q lt h = go (decLt q (w .positions))
       where
         rest : ℕ → Bool
-        rest q = w .takes x q && (w .first (firstGap line taken before after) q || any maxPositions (λ p. has live p && w .follow (gapOf line before after) p q))
+        rest q = w .takes x q && (starts w (firstGap line taken before after) x q || any maxPositions (λ p. has live p && w .follow (gapOf line before after) p q))
 
         go : Dec (q < w .positions) → q < w .positions
         go (yes l) = l
@@ -127,7 +132,7 @@ module _ (w v : Automaton) (same : Agree w v) where
   unfolding runMarks
   marks-agree f g marks e =
       wordOf-ext 64 _ _ (λ a h. ap (λ (b : Bool). on marks a || b) (below (w .rules) (v .rules) a _ _ (same .rules)
-      (λ l. ap₂ (λ (i : ℕ) (b : Bool). eqb (i / 8 % 2) 1 && b) (same .flags a l) (e a l))))
+      (λ l. ap₂ (λ (i b : Bool). i && b) (same .once a l) (e a l))))
 
   run-agrees : (f g : ℕ → Bool) (marks : ℕ) → ((a : ℕ) → a < w .rules → f a ≡ g a) → runIds w f marks (w .rules) ≡ runIds v g marks (v .rules)
   run-agrees f g marks e = runs-agree f g marks (w .rules) (omega arith) e ∙ ap (runIds v g marks) (same .rules)
@@ -161,7 +166,9 @@ module _ (w v : Automaton) (same : Agree w v) where
   module _ (s : Stream) (inside : Within (s .live)) (x : ℕ) (small : x < 256) where
     late-agrees : (a : ℕ) → a < w .rules → lateTest w s x a ≡ lateTest v s x a
     late-agrees a lt =
-        newly-agrees (between (s .last) (sideOf x)) (lt-trans (between-inner (s .last) (sideOf x)) (lit< tt)) (s .live) inside unsettled (lit< tt) (s .live) inside a lt
+        late-newly w (same .lates .0) (s .live) (between (s .last) (sideOf x)) a (between-inner (s .last) (sideOf x))
+        ∙ newly-agrees (between (s .last) (sideOf x)) (lt-trans (between-inner (s .last) (sideOf x)) (lit< tt)) (s .live) inside unsettled (lit< tt) (s .live) inside a lt
+        ∙ sym (late-newly v (same .lates .1) (s .live) (between (s .last) (sideOf x)) a (between-inner (s .last) (sideOf x)))
 
     own-agrees : (a : ℕ) → a < w .rules → ownTest w s x a ≡ ownTest v s x a
     own-agrees a lt =

@@ -4,24 +4,26 @@ use mathlib.Core.Path.{_≡_, refl, sym, subst, ap, _∙_}
 use mathlib.Core.Logic.{_↔_}
 use mathlib.Core.Bool.{Bool}
 use mathlib.Core.List.{List, [], _∷_, map, List·Memᴰ, List·Memᴰ·head, List·Memᴰ·tail, Memᴰ·of-map, Memᴰ·map, Memᴰ·cast}
-use Prim.Native.Nat.{ℕ, _+_, _/_, _%_, _≤_, _<_}
+use Prim.Native.Nat.{ℕ, _+_, _≤_, _<_}
 use native.Mathlib.Decide.{decLt}
 use native.Mathlib.Omega.{arith}
-use lib.Dec.{T, eqb}
+use lib.Dec.{T}
 use lib.ListN.{length}
 use Rattle.sets.specs.Set.{has}
 use Rattle.table.specs.Layout.{maxRules, maxPositions, rulesOf, positionsOf}
 use Rattle.table.specs.Gaps.{firstGaps, followGaps, lastGaps}
-use Rattle.table.specs.Automaton.{Automaton, automaton, single}
+use Rattle.table.specs.Automaton.{Automaton, automaton, single, starts, last as lastIn}
+use Rattle.table.proofs.Lates.{LatesAre}
 use Rattle.regex.specs.Form.{Form, write, positions}
 use Rattle.regex.specs.Rule.{Rule, ByteSet, Assertion}
 use Rattle.regex.specs.Automaton.{first, last, follow}
 use Rattle.regex.proofs.Relations.{First, Last, Follow, Takes}
+use Rattle.regex.proofs.Logic.{true-T}
 use Rattle.regex.proofs.Computed.{first-T, last-T, follow-T}
 use Rattle.rules.specs.Additions.{Accepted, ruleOf, size, used}
 use Rattle.rules.proofs.Sorted.{Placed, at, laid, byId, byId-rule, byId-mem, mem-at, laid-mem}
-use Rattle.rules.proofs.Encodes.{Encodes, Of, itemOf, worldAt, takes-same, items-taken}
 use Rattle.rules.proofs.Additions.{Built}
+use Rattle.rules.proofs.Encodes.{Encodes, Of, itemOf, worldAt, takes-same, items-taken, starts-first}
 
 -- the written-out form of a rule
 abbrev pub formOf : Rule → Form ByteSet Assertion
@@ -44,9 +46,11 @@ pub record Carries (w : Automaton) (rule : ℕ → Rule) (from : ℕ → ℕ) (t
   pub takes : (a : ℕ) → a < w .rules → Takes tab (formOf (rule a)) (from a)
   pub takes-is : (q x : ℕ) → q < w .positions → x < 256 → T (w .takes x q) ↔ T (has (tab q) x)
   -- at each gap, by its number
-  pub first-is : (g a q : ℕ) → g < firstGaps → a < w .rules → Within (from a) (rule a) q → T (w .first g q) ↔ First (worldAt g) (formOf (rule a)) (from a) q
+  pub first-is : (g a x q : ℕ) → g < firstGaps → a < w .rules → x < 256 → Within (from a) (rule a) q → T (w .takes x q)
+      → T (starts w g x q) ↔ First (worldAt g) (formOf (rule a)) (from a) q
   pub follow-is : (g a p q : ℕ) → g < followGaps → a < w .rules → Within (from a) (rule a) q → T (w .follow g p q) ↔ Follow (worldAt g) (formOf (rule a)) (from a) p q
-  pub last-is : (g a p : ℕ) → g < lastGaps → a < w .rules → p < w .positions → T (w .last g a p) ↔ Last (worldAt g) (formOf (rule a)) (from a) p
+  pub lates-are : LatesAre w
+  pub last-is : (g a p : ℕ) → g < lastGaps → a < w .rules → p < w .positions → T (lastIn w g a p) ↔ Last (worldAt g) (formOf (rule a)) (from a) p
 
 -- ---- what additions built
 
@@ -78,7 +82,7 @@ unfolding automaton
 positions-at t = refl
 
 -- a computed set is its relation
-by-set : {P : Type 0} (b c : Bool) → b ≡ c → T c ↔ P → T b ↔ P
+pub by-set : {P : Type 0} (b c : Bool) → b ≡ c → T c ↔ P → T b ↔ P
 by-set b c e i = (λ h. i .0 (subst T e h), λ h. subst T (sym e) (i .1 h))
 
 same-positions : (rs : List Accepted) → positionsIn (map ruleOf rs) ≡ used rs
@@ -129,7 +133,7 @@ module _ (t : List ℕ) (rs : List Accepted) (b : Built t rs) where
     few-rules = omega (arith, b .passed .rules, rules-at t);
     few-positions = omega (arith, b .passed .positions, positions-at t);
     id-is = λ a lt. e .rule a (in-list a lt) .id-is;
-    single-is = λ a lt. ap (λ (f : ℕ). eqb (f / 8 % 2) 1) (e .rule a (in-list a lt) .flags-are);
+    single-is = λ a lt. e .rule a (in-list a lt) .once-is;
     rising = λ a c l m. e .rising a c l (in-list c m);
     inside = λ a lt. e .rule a (in-list a lt) .within;
     covered = λ q l. let c = e .covered q l in (c .0, in-table (c .0) (c .1), c .2);
@@ -138,9 +142,13 @@ module _ (t : List ℕ) (rs : List Accepted) (b : Built t rs) where
     takes-is = λ q x l small. let c = e .covered q l in
         by-set (w .takes x q) (has (tab q) x)
         (e .rule (c .0) (c .1) .takes-is x q small (c .2) ∙ ap (λ (s : ByteSet). has s x) (sym (tab-is (c .0) q (c .1) (c .2)))) (λ h. h, λ h. h);
-    first-is = λ g a q lg lt i. by-set (w .first g q) (first (worldAt g) (formOf (rule a)) (from a) q) (e .rule a (in-list a lt) .first-is g q lg i) (first-T (worldAt g) (formOf (rule a)) (from a) q);
+    first-is = λ g a x q lg lt small i takes.
+        by-set (starts w g x q) (first (worldAt g) (formOf (rule a)) (from a) q)
+        (starts-first w ps e g x q small (omega (arith, i .1, e .rule a (in-list a lt) .within, b .passed .positions, positions-at t)) (true-T (w .takes x q) takes) ∙ e .rule a (in-list a lt) .first-is g q lg i)
+        (first-T (worldAt g) (formOf (rule a)) (from a) q);
     follow-is = λ g a p q lg lt i. by-set (w .follow g p q) (follow (worldAt g) (formOf (rule a)) (from a) p q) (e .rule a (in-list a lt) .follow-is g p q lg i) (follow-T (worldAt g) (formOf (rule a)) (from a) p q);
-    last-is = λ g a p lg lt l. by-set (w .last g a p) (last (worldAt g) (formOf (rule a)) (from a) p) (e .rule a (in-list a lt) .last-is g p lg l) (last-T (worldAt g) (formOf (rule a)) (from a) p);
+    lates-are = e .lates-are;
+    last-is = λ g a p lg lt l. by-set (lastIn w g a p) (last (worldAt g) (formOf (rule a)) (from a) p) (e .rule a (in-list a lt) .last-is g p lg l) (last-T (worldAt g) (formOf (rule a)) (from a) p);
   }
 
   listed : (r : Rule) → List·Memᴰ r (map ruleOf rs) ↔ ((a : ℕ) × (a < w .rules) × (r ≡ rule a))

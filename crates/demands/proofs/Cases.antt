@@ -5,7 +5,7 @@ use mathlib.Core.Bool.{Bool, true, false, cond, _&&_}
 use mathlib.Core.List.{List, [], _∷_, map, zip, List·Memᴰ, List·Memᴰ·head, List·Memᴰ·tail, List·Memᴰ·not-nil, cons-ne-nil}
 use Prim.Native.Nat.{ℕ}
 use lib.Dec.{T, eqb, eqb→eq}
-use Rattle.sets.specs.Set.{on, has, setOf, wordOf, any, emptySet, insertedRange, unionOf, complementOf, inserted, fullSet}
+use Rattle.sets.specs.Set.{on, has, setOf, wordOf, any, emptySet, insertedRange, unionOf, complementOf, inserted, fullSet, intersectionOf}
 use Rattle.kinds.specs.Kind.{isDigit, isLower, isUpper, isBlank, isAlpha, isAlnum, isCntrl, isWord}
 use Rattle.kinds.specs.Side.{sideOf}
 use Rattle.kinds.specs.Case.{otherCase, caseClosed}
@@ -27,7 +27,7 @@ use Rattle.regex.specs.Automaton.{null, first, last, follow, items}
 use Rattle.regex.proofs.Logic.{and-T}
 use Rattle.pattern.specs.Walk.{chained, chosen, one, repeating, closing, opening, act, next, finish, walk}
 use Rattle.pattern.specs.Read.{judged, readOf, optionsOf}
-use Rattle.steps.specs.Step.{stepped, ends, endsNewly}
+use Rattle.steps.specs.Step.{stepped, ends, endsNewly, latesOf}
 use Rattle.stream.specs.Byte.{nextHeld, nextPending, runIds, runMarks, twoIds, twoEnds, twoMarks, byteIds, byteEnds, byteState, closeIds, closeEnds}
 use Rattle.rules.specs.declared.Added.{Added}
 use Rattle.rules.specs.Add.{answer, unknownFlag, placed, addWords}
@@ -36,7 +36,7 @@ use Rattle.rules.specs.Encoded.{addAll}
 use Rattle.rules.proofs.Sorted.{laid, insert, into}
 use Rattle.rules.proofs.Additions.{Built, built-none, built-next, answer-built, words-built}
 use Rattle.demands.specs.Cases.{bytes, Log, Case, Gives, AllGive, answerIn, logsIn, Alone, answersOf, additionsIn, cases, logs, WorkedCases}
-use Rattle.demands.proofs.Computing.{owner, computed, computedOf}
+use Rattle.demands.proofs.Computing.{owner, ownerPlace, computed, computedOf}
 use Rattle.demands.proofs.Logs.{same, pass, passed, final, follows, startOf, log-gives}
 
 -- ---- the cases without a table, which compute
@@ -70,7 +70,7 @@ nextAnswers rs (a ∷ l) = nextAnswer rs a ∷ nextAnswers (afterNext rs a) l
 computed-right : (failing right cases ≡ [])
     × (nextAnswers [] (additionsIn cases) ≡ map (λ (k : Case). answerIn (k .verdict)) cases)
     × (failing (runs (acceptedAfter [] (additionsIn cases))) logs ≡ [])
-unfolding allRun right failing nextAnswers on has setOf wordOf any emptySet insertedRange unionOf complementOf inserted fullSet isDigit isLower isUpper isBlank otherCase caseClosed digitOf digits valueFrom blanks numeralOf bracedOf shortOf flipped64 raised controlOf typeOf namedOf placedOf hexOf octalOf isAlpha isAlnum escapeOf lower isMark gapOf names begins named nameAmong nameOf bracketOf memberOf rangeFault jointOf memberAt membersOf classOf joined settled lettersOf beforeClose commentOf openingOf bounded open-ended bracesOf formOf marked quantifierOf escaped unquotedOf lexemeOf itemSet copied capped saturating nullable write positions repeated copies optionals null first last follow items chained chosen one repeating closing opening act next finish walk judged readOf optionsOf unknownFlag placed used taken nextAnswer withNew afterNext acceptedAfter laid insert into owner computed between beforeLast atEnd atStart gapBefore firstGap sideOf isWord stepped ends endsNewly nextHeld nextPending runIds runMarks twoIds twoEnds twoMarks byteIds byteEnds byteState closeIds closeEnds all bytes cases logs pass passed final follows same zip mathlib.Core.List.zipWith isCntrl anyRaw withRaw spelledAt spelledOf
+unfolding allRun right failing nextAnswers on has setOf wordOf any emptySet insertedRange unionOf complementOf inserted fullSet isDigit isLower isUpper isBlank otherCase caseClosed digitOf digits valueFrom blanks numeralOf bracedOf shortOf flipped64 raised controlOf typeOf namedOf placedOf hexOf octalOf isAlpha isAlnum escapeOf lower isMark gapOf names begins named nameAmong nameOf bracketOf memberOf rangeFault jointOf memberAt membersOf classOf joined settled lettersOf beforeClose commentOf openingOf bounded open-ended bracesOf formOf marked quantifierOf escaped unquotedOf lexemeOf itemSet copied capped saturating nullable write positions repeated copies optionals null first last follow items chained chosen one repeating closing opening act next finish walk judged readOf optionsOf unknownFlag placed used taken nextAnswer withNew afterNext acceptedAfter laid insert into owner ownerPlace computed between beforeLast atEnd atStart gapBefore firstGap sideOf isWord stepped ends endsNewly latesOf intersectionOf nextHeld nextPending runIds runMarks twoIds twoEnds twoMarks byteIds byteEnds byteState closeIds closeEnds all bytes cases logs pass passed final follows same zip mathlib.Core.List.zipWith isCntrl anyRaw withRaw spelledAt spelledOf
 computed-right = (refl, refl, refl)
 
 -- ---- carried to the calls

@@ -5,7 +5,7 @@ use mathlib.Core.List.{List, [], zip}
 use Prim.Native.Nat.{ℕ, _≤_}
 use native.Mathlib.Omega.{arith}
 use lib.ListN.{length}
-use Rattle.sets.specs.Set.{on, has, setOf, wordOf, any, count, sizeOf, emptySet, insertedRange, unionOf, complementOf, inserted, fullSet}
+use Rattle.sets.specs.Set.{on, has, setOf, wordOf, any, count, sizeOf, emptySet, insertedRange, unionOf, complementOf, inserted, fullSet, intersectionOf}
 use Rattle.kinds.specs.Kind.{isDigit, isLower, isUpper, isBlank, isAlpha, isAlnum, isCntrl, isWord}
 use Rattle.kinds.specs.Side.{sideOf}
 use Rattle.kinds.specs.Case.{otherCase, caseClosed}
@@ -29,7 +29,7 @@ use Rattle.regex.specs.Automaton.{null, first, last, follow, items as byteSets}
 use Rattle.regex.specs.Ordered.{Ordered}
 use Rattle.pattern.specs.Walk.{chained, chosen, one, repeating, closing, opening, act, next, finish, walk}
 use Rattle.pattern.specs.Read.{judged, readOf, optionsOf}
-use Rattle.steps.specs.Step.{stepped, ends, endsNewly}
+use Rattle.steps.specs.Step.{stepped, ends, endsNewly, latesOf}
 use Rattle.stream.specs.declared.Stream.{Stream}
 use Rattle.stream.specs.Byte.{nextHeld, nextPending, runIds, runMarks, twoIds, twoEnds, twoMarks, byteIds, byteEnds, byteState, stateAfter, idsOf, endsOf, costOf, fits, closeIds, closeEnds}
 use Rattle.stream.specs.Calls.{opened, scanNumber}
@@ -44,7 +44,7 @@ use Rattle.demands.specs.Demands.{Setting, Between, tableIn, acceptedIn,
 use Rattle.demands.specs.Cases.{bytes, rule}
 use Rattle.demands.specs.Example.{steps, items, outcomes, list, setting, Instance}
 use Rattle.demands.proofs.Chained.{refused-others, Refused, shut-scan}
-use Rattle.demands.proofs.Computing.{owner, computed, computedOf, built-agrees}
+use Rattle.demands.proofs.Computing.{owner, ownerPlace, computed, computedOf, built-agrees}
 use Rattle.demands.proofs.Outcomes.{callsIn, scanLeft, closeLeft, gives, moves, run, followed, BytesIn, runs-same, reportsIn-all, reports-joined, bytesIn-all, bytes-joined, Shuts, closes-seen}
 use Rattle.demands.proofs.Logs.{bytes-tested, startOf, opened-is, start-inside}
 use Rattle.demands.proofs.Theorems.{built, table, acceptance, demand3}
@@ -58,7 +58,7 @@ module _ (words : List ℕ) (long : tableWords ≤ length words) where
 
   -- by the accepted rule alone: its id is taken, and this is what the calls give
   computes : (nextAnswer (acceptedIn c) (rule 5 0 "a") .number ≡ 3) × (run (computedOf (acceptedIn c)) (startOf (acceptedIn c)) (callsIn items) ≡ outcomes)
-  unfolding callsIn scanLeft closeLeft gives moves run items outcomes on has setOf wordOf any emptySet insertedRange unionOf complementOf inserted fullSet isDigit isLower isUpper isBlank otherCase caseClosed digitOf digits valueFrom blanks numeralOf bracedOf shortOf flipped64 raised controlOf typeOf namedOf placedOf hexOf octalOf isAlpha isAlnum escapeOf lower isMark gapOf names begins named nameAmong nameOf bracketOf memberOf rangeFault jointOf memberAt membersOf classOf joined settled lettersOf beforeClose commentOf openingOf bounded open-ended bracesOf formOf marked quantifierOf escaped unquotedOf lexemeOf itemSet copied capped saturating nullable write positions repeated copies optionals null first last follow byteSets chained chosen one repeating closing opening act next finish walk judged readOf optionsOf unknownFlag placed used taken nextAnswer withNew afterNext acceptedAfter laid insert into owner computed gapBetween beforeLast atEnd atStart gapBefore firstGap sideOf isWord stepped ends endsNewly nextHeld nextPending runIds runMarks twoIds twoEnds twoMarks byteIds byteEnds byteState closeIds closeEnds all bytes stateAfter idsOf endsOf costOf fits sizeOf count zip mathlib.Core.List.zipWith additionsOf steps isCntrl anyRaw withRaw spelledAt spelledOf
+  unfolding callsIn scanLeft closeLeft gives moves run items outcomes on has setOf wordOf any emptySet insertedRange unionOf complementOf inserted fullSet isDigit isLower isUpper isBlank otherCase caseClosed digitOf digits valueFrom blanks numeralOf bracedOf shortOf flipped64 raised controlOf typeOf namedOf placedOf hexOf octalOf isAlpha isAlnum escapeOf lower isMark gapOf names begins named nameAmong nameOf bracketOf memberOf rangeFault jointOf memberAt membersOf classOf joined settled lettersOf beforeClose commentOf openingOf bounded open-ended bracesOf formOf marked quantifierOf escaped unquotedOf lexemeOf itemSet copied capped saturating nullable write positions repeated copies optionals null first last follow byteSets chained chosen one repeating closing opening act next finish walk judged readOf optionsOf unknownFlag placed used taken nextAnswer withNew afterNext acceptedAfter laid insert into owner ownerPlace computed gapBetween beforeLast atEnd atStart gapBefore firstGap sideOf isWord stepped ends endsNewly latesOf intersectionOf nextHeld nextPending runIds runMarks twoIds twoEnds twoMarks byteIds byteEnds byteState closeIds closeEnds all bytes stateAfter idsOf endsOf costOf fits sizeOf count zip mathlib.Core.List.zipWith additionsOf steps isCntrl anyRaw withRaw spelledAt spelledOf
   computes = (refl, refl)
 
   -- before the opening: the state is closed

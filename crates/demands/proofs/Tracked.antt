@@ -21,9 +21,10 @@ use Rattle.kinds.specs.declared.Side.the-variants.{Newline}
 use Rattle.kinds.specs.Side.{sideOf}
 use Rattle.table.specs.Layout.{maxPositions}
 use Rattle.table.specs.Gaps.{between, beforeLast, unsettled, atEnd, atStart, startOfLast, gapOf, firstGap, lastGaps}
-use Rattle.table.specs.Automaton.{Automaton}
+use Rattle.table.specs.Automaton.{Automaton, last as lastIn, starts as startsIn}
 use Rattle.table.proofs.GapBounds.{between-inner, beforeLast-follow, atEnd-last, gapOf-follow, firstGap-first}
 use Rattle.steps.specs.Step.{stepped, ends, endsNewly, rulesWhere}
+use Rattle.steps.proofs.Late.{late-newly}
 use Rattle.stream.specs.declared.Stream.{Stream}
 use Rattle.stream.specs.Byte.{nextLive, nextHeld, nextPending, lateTest, ownTest, heldTest, endTest, byteState, stateAfter}
 use Rattle.regex.specs.Tree.{Text}
@@ -41,7 +42,7 @@ use Rattle.regex.proofs.Base.{open-same, same, base-next, reach-ended}
 use Rattle.regex.proofs.Moments.{EndsAt, EndsLast, falls-own, falls-late, falls-end}
 use Rattle.rules.proofs.Encodes.{worldAt}
 use Rattle.rules.proofs.Worlds.{world-between, world-before-last, world-unsettled, world-at-end, world-at-start, world-start-of-last}
-use Rattle.demands.proofs.Carried.{Carries, Within, formOf}
+use Rattle.demands.proofs.Carried.{Carries, Within, formOf, by-set}
 use Rattle.demands.proofs.TwoRuns.{Marked, Turn, marks-next}
 use Rattle.demands.proofs.Endings.{newline-side, Ending, ends-from, last-from, Late, late-falls, only-byte, only-closing, none-at-zero}
 
@@ -103,17 +104,17 @@ module _ (w : Automaton) (rule : ℕ → Rule) (from : ℕ → ℕ) (tab : ℕ �
     unfolding ends
     raw = (
       λ h.
-          let c = any-T maxPositions (λ p. has set p && w .last g a p) .0 h in
-          let d = and-T (has set (c .0)) (w .last g a (c .0)) .0 (c .2) in
+          let c = any-T maxPositions (λ p. has set p && lastIn w g a p) .0 h in
+          let d = and-T (has set (c .0)) (lastIn w g a (c .0)) .0 (c .2) in
           let e = enc .last-is g a (c .0) there lt (inside (c .0) (c .1) (d .0)) .0 (d .1) in
           let l = reached (c .0) (last-inside (worldAt g) (formOf (rule a)) (from a) (c .0) e) .0 (d .0) in
           (l .0, c .0, l .1, e),
       λ h.
           let i = last-inside (worldAt g) (formOf (rule a)) (from a) (h .1) (h .3) in
-          any-T maxPositions (λ p. has set p && w .last g a p) .1 (
+          any-T maxPositions (λ p. has set p && lastIn w g a p) .1 (
             h .1,
             omega (arith, i .1, enc .inside a lt, enc .few-positions),
-            and-T (has set (h .1)) (w .last g a (h .1)) .1 (reached (h .1) i .1 (h .0, h .2), enc .last-is g a (h .1) there lt (omega (arith, i .1, enc .inside a lt)) .1 (h .3)),
+            and-T (has set (h .1)) (lastIn w g a (h .1)) .1 (reached (h .1) i .1 (h .0, h .2), enc .last-is g a (h .1) there lt (omega (arith, i .1, enc .inside a lt)) .1 (h .3)),
           ),
     )
 
@@ -208,7 +209,7 @@ module _ (w : Automaton) (rule : ℕ → Rule) (from : ℕ → ℕ) (tab : ℕ �
     comes line q p = has (s .live) p && w .follow (inner line) p q
 
     abbrev steps : Bool → ℕ → Bool
-    steps line q = ltb q (w .positions) && (w .takes x q && (w .first (outer line) q || any maxPositions (comes line q)))
+    steps line q = ltb q (w .positions) && (w .takes x q && (startsIn w (outer line) x q || any maxPositions (comes line q)))
 
     member : (line : Bool) (q : ℕ) → q < maxPositions → has (reachedIn line) q ≡ steps line q
     unfolding stepped
@@ -224,9 +225,9 @@ module _ (w : Automaton) (rule : ℕ → Rule) (from : ℕ → ℕ) (tab : ℕ �
         let newline : T line → x ≡ 10 = λ h. eqb-true x 10 (true-T (eqb x 10) (and-T ended (eqb x 10) .0 h .1)) in
         let inside : q < w .positions = omega (arith, i .1, enc .inside a lt) in
         let is : has (reachedIn line) q ≡ steps line q = member line q (omega (arith, enc .few-positions)) in
-        let starts : T (w .first (outer line) q) ↔ First (here line) f b q =
-        subst (λ (v : Assertion → Bool). T (w .first (outer line) q) ↔ First v f b q) (outer-is line newline)
-        (enc .first-is (outer line) a q (firstGap-first line (s .taken) (s .last) (sideOf x)) lt i) in
+        let starts : T (w .takes x q) → T (startsIn w (outer line) x q) ↔ First (here line) f b q =
+        λ takes. subst (λ (v : Assertion → Bool). T (startsIn w (outer line) x q) ↔ First v f b q) (outer-is line newline)
+        (enc .first-is (outer line) a x q (firstGap-first line (s .taken) (s .last) (sideOf x)) lt small i takes) in
         let follows : (p : ℕ) → T (w .follow (inner line) p q) ↔ Follow (worldAt (inner line)) f b p q =
         λ p. enc .follow-is (inner line) a p q (gapOf-follow line (s .last) (sideOf x)) lt i in
         let step = base-next tab f b (enc .takes a lt) (take k bytes) x ended q in
@@ -238,12 +239,12 @@ module _ (w : Automaton) (rule : ℕ → Rule) (from : ℕ → ℕ) (tab : ℕ �
         λ h. subst₂ (λ (l : List ℕ) (n : ℕ). Reached (stream l ended) f b q (suc n)) more (sym len) h in
         let some : (p : ℕ) → Reached (stream (take k bytes) false) f b p k → 0 < k = λ p h. omega (arith, reach-up (stream (take k bytes) false) f b (h .0) p k (h .1)) in (
           λ h.
-              let g = and-T (ltb q (w .positions)) (w .takes x q && (w .first (outer line) q || any maxPositions (comes line q))) .0 (subst T is h) in
-              let c = and-T (w .takes x q) (w .first (outer line) q || any maxPositions (comes line q)) .0 (g .1) in
+              let g = and-T (ltb q (w .positions)) (w .takes x q && (startsIn w (outer line) x q || any maxPositions (comes line q))) .0 (subst T is h) in
+              let c = and-T (w .takes x q) (startsIn w (outer line) x q || any maxPositions (comes line q)) .0 (g .1) in
               to (step .1 (
                 enc .takes-is q x inside small .0 (c .0),
-                elim (or-T (w .first (outer line) q) (any maxPositions (comes line q)) .0 (c .1)) [
-                  | inl y ↦ inl (starts .0 y)
+                elim (or-T (startsIn w (outer line) x q) (any maxPositions (comes line q)) .0 (c .1)) [
+                  | inl y ↦ inl (starts (c .0) .0 y)
                   | inr y ↦
                       let p = any-T maxPositions (comes line q) .0 y in
                       let d = and-T (has (s .live) (p .0)) (w .follow (inner line) (p .0) q) .0 (p .2) in
@@ -258,8 +259,8 @@ module _ (w : Automaton) (rule : ℕ → Rule) (from : ℕ → ℕ) (tab : ℕ �
               )),
           λ h.
               let g = step .0 (of h) in
-              let came : T (w .first (outer line) q || any maxPositions (comes line q)) = or-T (w .first (outer line) q) (any maxPositions (comes line q)) .1 (elim (g .1) [
-                | inl y ↦ inl (starts .1 y)
+              let came : T (startsIn w (outer line) x q || any maxPositions (comes line q)) = or-T (startsIn w (outer line) x q) (any maxPositions (comes line q)) .1 (elim (g .1) [
+                | inl y ↦ inl (starts (enc .takes-is q x inside small .1 (g .0)) .1 y)
                 | inr y ↦
                     let reached : Reached (stream (take k bytes) false) f b (y .0) k = subst (λ (n : ℕ). Reached (stream (take k bytes) false) f b (y .0) n) len (y .1) in
                     let fo : Follow (worldAt (inner line)) f b (y .0) q = subst (λ (v : Assertion → Bool). Follow v f b (y .0) q) (sym (inner-is line newline (some (y .0) reached))) (y .2) in
@@ -270,16 +271,16 @@ module _ (w : Automaton) (rule : ℕ → Rule) (from : ℕ → ℕ) (tab : ℕ �
                       and-T (has (s .live) (y .0)) (w .follow (inner line) (y .0) q) .1 (track .live a lt (y .0) j .1 reached, follows (y .0) .1 fo),
                     ))
               ]) in
-              let taking : T (w .takes x q && (w .first (outer line) q || any maxPositions (comes line q))) =
-              and-T (w .takes x q) (w .first (outer line) q || any maxPositions (comes line q)) .1 (enc .takes-is q x inside small .1 (g .0), came) in
+              let taking : T (w .takes x q && (startsIn w (outer line) x q || any maxPositions (comes line q))) =
+              and-T (w .takes x q) (startsIn w (outer line) x q || any maxPositions (comes line q)) .1 (enc .takes-is q x inside small .1 (g .0), came) in
               subst T (sym is)
-              (and-T (ltb q (w .positions)) (w .takes x q && (w .first (outer line) q || any maxPositions (comes line q))) .1 (lt→ltb q (w .positions) inside, taking)),
+              (and-T (ltb q (w .positions)) (w .takes x q && (startsIn w (outer line) x q || any maxPositions (comes line q))) .1 (lt→ltb q (w .positions) inside, taking)),
         )
 
     step-inside : (line : Bool) (q : ℕ) → q < maxPositions → T (has (reachedIn line) q) → q < w .positions
     step-inside line q lq h =
         ltb→lt q (w .positions)
-        (and-T (ltb q (w .positions)) (w .takes x q && (w .first (outer line) q || any maxPositions (comes line q))) .0 (subst T (member line q lq) h) .0)
+        (and-T (ltb q (w .positions)) (w .takes x q && (startsIn w (outer line) x q || any maxPositions (comes line q))) .0 (subst T (member line q lq) h) .0)
 
     goes-on : Alive (suc k) (byteState w s x)
     unfolding byteState
@@ -385,9 +386,11 @@ module _ (w : Automaton) (rule : ℕ → Rule) (from : ℕ → ℕ) (tab : ℕ �
       record {
         only = λ a c lt f. only-byte bytes (rule a) k c lk f;
         one-is = λ a lt.
-            both (newly (ends w (between (s .last) (sideOf x)) (s .live) a) (ends w unsettled (s .live) a)
+            by-set (lateTest w s x a) (endsNewly w (between (s .last) (sideOf x)) (s .live) unsettled (s .live) a)
+            (late-newly w (enc .lates-are) (s .live) (between (s .last) (sideOf x)) a (between-inner (s .last) (sideOf x)))
+            (both (newly (ends w (between (s .last) (sideOf x)) (s .live) a) (ends w unsettled (s .live) a)
             (ends-next-is k (omega arith) s (track .alive) a lt x) (ends-is k (omega arith) s (track .alive) a lt))
-            (both (back (falls-late bytes (rule a) k lk)) (λ f. (omega arith, f), λ f. f .1));
+            (both (back (falls-late bytes (rule a) k lk)) (λ f. (omega arith, f), λ f. f .1)));
         two-is = λ a lt. both (ends-is (suc k) lk (byteState w s x) (goes-on k lk small s (track .alive)) a lt) (back (falls-own bytes (rule a) (suc k) lk));
         marks-are = track .marks;
       }

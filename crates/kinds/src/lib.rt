@@ -194,9 +194,6 @@ pub fn close_case(s: [u64; 4]) -> [u64; 4]
     t
 }
 
-// The byte that ends a line.
-const NEWLINE: u8 = 10;
-
 // What a byte is to an assertion that looks at it from a gap beside it.
 pub enum Side {
     Other,
@@ -208,12 +205,9 @@ pub enum Side {
 pub fn side_of(b: u8) -> Side
     ensures { λ r. ⌜ r ≡ sideOf b ⌝ }
 {
-    if b == NEWLINE {
-        return Side::Newline;
-    }
-    if kinds_of(b) & WORD != 0 {
-        Side::Word
-    } else {
-        Side::Other
+    match b {
+        10 => Side::Newline,
+        48..=57 | 65..=90 | 95 | 97..=122 => Side::Word,
+        _ => Side::Other,
     }
 }

@@ -11,7 +11,7 @@ use lib.Dec.{eqb, ltb}
 use lib.ListN.{length, length-append}
 use borrow.Author.Tests.{lt-ltb, le-ltb, ne-eqb, eqb-true}
 use Rattle.sets.specs.Set.{any}
-use Rattle.table.specs.Layout.{tableWords, maxRules, rulesOf, positionsOf, recordWord}
+use Rattle.table.specs.Layout.{tableWords, maxRules, rulesOf, positionsOf, idWord}
 use Rattle.table.specs.Table.{isTable, emptied}
 use Rattle.table.specs.Automaton.{Automaton, automaton}
 use Rattle.table.proofs.Test.{Passes, passes, accepted, refused as no-table}
@@ -74,7 +74,7 @@ built-none t long =
       passed = passes (emptied t) (empty-passes t long);
       rules = none;
       positions = emptied-zero t long 2 (omega arith) (omega arith);
-      ids = λ id. ap (λ (n : ℕ). any n (λ a. eqb (recordWord (emptied t) a 0) id)) none;
+      ids = λ id. ap (λ (n : ℕ). any n (λ a. eqb (idWord (emptied t) a) id)) none;
       encodes = subst (λ (w : Automaton). Encodes w []) (sym (empty-automaton t long)) encodes-none;
     }
   where
@@ -114,24 +114,24 @@ module _ (t : List ℕ) (rs : List Accepted) (b : Built t rs) (a : Addition) (ok
   more = sized-parts x n (holdingAt 0) (omega (arith, b .positions, ok .room))
 
   -- the table has none with this id
-  fresh : (c : ℕ) → c < rulesOf t → recordWord t c 0 ≡ a .id → ⊥
+  fresh : (c : ℕ) → c < rulesOf t → idWord t c ≡ a .id → ⊥
   fresh = no-record t (a .id) (b .ids (a .id) ∙ ok .free)
 
   -- the ids of the records are those of the rules
-  word-id : (c : ℕ) → c < rulesOf t → recordWord t c 0 ≡ at ps c .rule .id
+  word-id : (c : ℕ) → c < rulesOf t → idWord t c ≡ at ps c .rule .id
   unfolding automaton
   word-id c h =
-      sym (ap (λ (y : Bool). cond y (recordWord t c 0) 0) (lt-ltb c maxRules (omega (arith, b .passed .rules))))
+      sym (ap (λ (y : Bool). cond y (idWord t c) 0) (lt-ltb c maxRules (omega (arith, b .passed .rules))))
       ∙ b .encodes .rule c (omega (arith, b .encodes .rules)) .id-is
 
   -- so the new rule's place is the same in both
   here : place new ps ≡ placeOf t (a .id)
   unfolding automaton placeOf
   here =
-      sym (count-to (rulesOf t) (place new ps) (λ c. ltb (recordWord t c 0) (a .id)) (omega (arith, place-within new ps, b .encodes .rules))
-      (λ c h. lt-ltb (recordWord t c 0) (a .id)
+      sym (count-to (rulesOf t) (place new ps) (λ c. ltb (idWord t c) (a .id)) (omega (arith, place-within new ps, b .encodes .rules))
+      (λ c h. lt-ltb (idWord t c) (a .id)
       (omega (arith, word-id c (omega (arith, place-within new ps, b .encodes .rules)), smaller-before new ps c h)))
-      (λ c h l. le-ltb (recordWord t c 0) (a .id) (omega (arith, word-id c l, above c h (omega (arith, b .encodes .rules)) (decLt (place new ps) c)))))
+      (λ c h l. le-ltb (idWord t c) (a .id) (omega (arith, word-id c l, above c h (omega (arith, b .encodes .rules)) (decLt (place new ps) c)))))
     where
       above : (c : ℕ) → place new ps ≤ c → c < length ps → Dec (place new ps < c) → a .id ≤ at ps c .rule .id
       above c h l (yes m) = omega (arith, larger-there new ps (omega arith), b .encodes .rising (place new ps) c m l)
@@ -151,7 +151,7 @@ module _ (t : List ℕ) (rs : List Accepted) (b : Built t rs) (a : Addition) (ok
   pub built-more : Built (added t (a .id) (a .flags) (partsAt x (positionsOf t))) (rs ++ (record { id = a .id; flags = a .flags; tree = x } ∷ []))
   built-more =
       record {
-        passed = passes-added t (a .id) (a .flags) parts (b .passed) (omega (arith, b .rules)) (omega (arith, b .positions, more)) (a .narrow) (ok .known) fresh;
+        passed = passes-added t (a .id) (a .flags) parts (b .passed) (omega (arith, b .rules)) (omega (arith, b .positions, more)) (a .narrow) fresh;
         rules = added-rules t (a .id) (a .flags) parts (b .passed .long) ∙ ap (λ (k : ℕ). k + 1) (b .rules) ∙ sym (length-append rs (r ∷ []));
         positions = added-positions t (a .id) (a .flags) parts (b .passed .long) ∙ ap₂ (λ (j k : ℕ). j + k) (b .positions) more ∙ sym (used-more rs r);
         ids = λ id.

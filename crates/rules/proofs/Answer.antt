@@ -11,7 +11,7 @@ use lib.ListN.{length}
 use borrow.Author.Tests.{eq-eqb, ne-eqb, le-leb, lt-leb, lt-ltb, le-ltb, leb-false, leb-true}
 use Rattle.sets.specs.Set.{any}
 use Rattle.sets.proofs.Laws.{any-at}
-use Rattle.table.specs.Layout.{maxRules, maxPositions, rulesOf, positionsOf, recordWord}
+use Rattle.table.specs.Layout.{maxRules, maxPositions, rulesOf, positionsOf, idWord}
 use Rattle.table.specs.Table.{isTable, knownFlags}
 use Rattle.table.proofs.Test.{Passes, passes}
 use Rattle.regex.specs.Form.{write, positions}
@@ -33,25 +33,25 @@ use Rattle.rules.specs.declared.Added.{Added}
 
 -- none of the first a records has it
 pub NoneBefore : List ℕ → (id a : ℕ) → Type 0
-NoneBefore t id a = any a (λ b. eqb (recordWord t b 0) id) ≡ false
+NoneBefore t id a = any a (λ b. eqb (idWord t b) id) ≡ false
 
 module _ (t : List ℕ) (id : ℕ) where
   pub none-first : NoneBefore t id 0
   unfolding NoneBefore any
   none-first = refl
 
-  pub none-more : (a : ℕ) → NoneBefore t id a → (recordWord t a 0 ≡ id → ⊥) → NoneBefore t id (a + 1)
+  pub none-more : (a : ℕ) → NoneBefore t id a → (idWord t a ≡ id → ⊥) → NoneBefore t id (a + 1)
   unfolding NoneBefore any
   none-more a n h =
-      ap (λ (k : ℕ). any k (λ b. eqb (recordWord t b 0) id)) (add-one a) ∙ ap₂ (λ (x y : Bool). x || y) n (ne-eqb (recordWord t a 0) id h)
+      ap (λ (k : ℕ). any k (λ b. eqb (idWord t b) id)) (add-one a) ∙ ap₂ (λ (x y : Bool). x || y) n (ne-eqb (idWord t a) id h)
 
-  pub id-found : (a : ℕ) → a < rulesOf t → recordWord t a 0 ≡ id → true ≡ hasId t id
+  pub id-found : (a : ℕ) → a < rulesOf t → idWord t a ≡ id → true ≡ hasId t id
   unfolding hasId
-  id-found a h e = sym (any-at (rulesOf t) (λ b. eqb (recordWord t b 0) id) a h (eq-eqb (recordWord t a 0) id e))
+  id-found a h e = sym (any-at (rulesOf t) (λ b. eqb (idWord t b) id) a h (eq-eqb (idWord t a) id e))
 
   pub id-missing : (a : ℕ) → a ≡ rulesOf t → NoneBefore t id a → false ≡ hasId t id
   unfolding NoneBefore hasId
-  id-missing a e n = sym (ap (λ (k : ℕ). any k (λ b. eqb (recordWord t b 0) id)) (sym e) ∙ n)
+  id-missing a e n = sym (ap (λ (k : ℕ). any k (λ b. eqb (idWord t b) id)) (sym e) ∙ n)
 
 -- ---- the checks before the pattern is read
 

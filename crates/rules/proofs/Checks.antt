@@ -11,7 +11,7 @@ use lib.Dec.{eqb, leb, ltb}
 use lib.ListN.{length}
 use borrow.Author.Tests.{le-ltb, lt-leb, eq-eqb, eqb-true, eqb-false, leb-false, ltb-false, not-false}
 use Rattle.sets.proofs.Laws.{any-none}
-use Rattle.table.specs.Layout.{maxRules, maxPositions, rulesOf, positionsOf, recordWord}
+use Rattle.table.specs.Layout.{maxRules, maxPositions, rulesOf, positionsOf, idWord}
 use Rattle.table.specs.Table.{knownFlags, isTable}
 use Rattle.table.proofs.Test.{passes, accepted}
 use Rattle.regex.specs.Form.{write, positions}
@@ -76,9 +76,9 @@ module _ (there : Bool) (rules used flags : ℕ) (pattern : List ℕ) where
   zero-if = (admits, λ c. ap (λ (d : Added). d .number) (admitted c))
 
 -- no record has an id that the words have not
-pub no-record : (t : List ℕ) (id : ℕ) → hasId t id ≡ false → (c : ℕ) → c < rulesOf t → recordWord t c 0 ≡ id → ⊥
+pub no-record : (t : List ℕ) (id : ℕ) → hasId t id ≡ false → (c : ℕ) → c < rulesOf t → idWord t c ≡ id → ⊥
 unfolding hasId
-no-record t id e c h = eqb-false (recordWord t c 0) id (any-none (rulesOf t) (λ c. eqb (recordWord t c 0) id) e c h)
+no-record t id e c h = eqb-false (idWord t c) id (any-none (rulesOf t) (λ c. eqb (idWord t c) id) e c h)
 
 -- ---- an addition that these words accept
 
@@ -118,4 +118,4 @@ module _ (t : List ℕ) (id flags : ℕ) (pattern : List ℕ) (ok : addAnswer t 
       ap isTable with-rule
       ∙ accepted (added t id flags parts)
       (passes-added t id flags parts (passes t (checks .0)) (checks .1 .few)
-      (omega (arith, checks .1 .room, sized-parts (checks .1 .read) (positionsOf t) (holdingAt 0) (checks .1 .room))) narrow (checks .1 .known) (no-record t id (checks .1 .free)))
+      (omega (arith, checks .1 .room, sized-parts (checks .1 .read) (positionsOf t) (holdingAt 0) (checks .1 .room))) narrow (no-record t id (checks .1 .free)))

@@ -2,23 +2,25 @@
 -- in the order of their ids and each at its own positions, at every gap in the world of that gap. It holds of no rules, and one rule more keeps it: the sets of the old positions are kept among
 -- themselves, the new rule's come from its parts, and no set of a form reaches outside the form's positions.
 use mathlib.Core.Path.{_≡_, refl, sym, ap, ap₂, _∙_, subst}
-use mathlib.Core.Bool.{Bool, false, _&&_, _||_, or-false}
+use mathlib.Core.Bool.{Bool, true, false, _&&_, _||_, or-false, and-false, and-true}
 use mathlib.Core.List.{List, [], _++_, map, append-nil, List·Memᴰ, Memᴰ·of-map}
 use mathlib.Core.Logic.{_⊎_, inl, inr}
-use Prim.Native.Nat.{ℕ, suc, _+_, _-_, _*_, _≤_, _<_}
+use Prim.Native.Nat.{ℕ, suc, _+_, _-_, _*_, _/_, _%_, _≤_, _<_}
 use native.Mathlib.Nat.{not-suc-le-zero}
-use native.Mathlib.Decide.{decLt}
+use native.Mathlib.Decide.{decLt, ℕ-discrete}
 use native.Mathlib.Omega.{arith}
-use lib.Dec.{ltb}
+use lib.Dec.{eqb, leb, ltb}
 use lib.ListN.{length, getD, replicate, length-replicate}
 use lib.Seq.{getD-append-add}
-use borrow.Author.Tests.{lt-ltb, le-ltb, eq-eqb, ne-eqb}
-use Rattle.sets.specs.Set.{has}
-use Rattle.table.specs.Layout.{maxPositions, bytes, rowHas, from-to}
-use Rattle.table.specs.Gaps.{firstGaps, followGaps, lastGaps}
-use Rattle.table.specs.Automaton.{Automaton}
+use borrow.Author.Tests.{lt-ltb, le-ltb, le-leb, lt-leb, eq-eqb, ne-eqb}
+use Rattle.sets.specs.Set.{has, any}
+use Rattle.sets.proofs.Laws.{any-at, any-never}
+use Rattle.table.specs.Layout.{maxRules, maxPositions, bytes, rowHas, from-to}
+use Rattle.table.specs.Gaps.{firstGaps, followGaps, lastGaps, innerGaps}
+use Rattle.table.specs.Automaton.{Automaton, starts, last as lastIn}
 use Rattle.table.proofs.Over.{from-to-in, from-to-below}
 use Rattle.table.proofs.Emptying.{noRules}
+use Rattle.table.proofs.Lates.{LatesAre}
 use Rattle.regex.specs.Form.{Form, eps, take, check, seq, alt, plus, opt, write, positions}
 use Rattle.regex.specs.Count.{nullable}
 use Rattle.regex.specs.Rule.{Assertion, ByteSet, Rule}
@@ -31,6 +33,7 @@ use Rattle.regex.proofs.Reports.{Distinct}
 use Rattle.automaton.specs.Parts.{worldOf, formParts}
 use Rattle.automaton.specs.declared.Parts.{Parts}
 use Rattle.rules.specs.Gaps.{holdingAt}
+use Rattle.rules.specs.Words.{raised}
 use Rattle.rules.specs.Additions.{Accepted, size, ruleOf}
 use Rattle.rules.proofs.Views.{putIn, Extended}
 use Rattle.rules.proofs.Parts.{parts-positions, parts-first, parts-last, parts-follow, parts-takes}
@@ -57,7 +60,7 @@ worldAt g = worldOf (holdingAt g)
 -- the rule p stands in place a of the automaton w
 pub record Stands (w : Automaton) (a : ℕ) (p : Placed) : Type 0 where
   pub id-is : w .id a ≡ p .rule .id
-  pub flags-are : w .flags a ≡ p .rule .flags
+  pub once-is : w .once a ≡ eqb (p .rule .flags / 8 % 2) 1
   -- it takes a byte at least
   pub full : nullable (p .rule .tree) ≡ false
   pub within : p .from + size (p .rule) ≤ w .positions
@@ -67,7 +70,7 @@ pub record Stands (w : Automaton) (a : ℕ) (p : Placed) : Type 0 where
   -- a position of another rule does not come before it
   pub follow-is : (g o q : ℕ) → g < followGaps → Of p q → w .follow g o q ≡ follow (worldAt g) (formOf p) (p .from) o q
   -- nor end it
-  pub last-is : (g q : ℕ) → g < lastGaps → q < w .positions → w .last g a q ≡ last (worldAt g) (formOf p) (p .from) q
+  pub last-is : (g q : ℕ) → g < lastGaps → q < w .positions → lastIn w g a q ≡ last (worldAt g) (formOf p) (p .from) q
 
 -- the automaton w is that of the rules ps, by rising id
 pub record Encodes (w : Automaton) (ps : List Placed) : Type 0 where
@@ -79,14 +82,30 @@ pub record Encodes (w : Automaton) (ps : List Placed) : Type 0 where
   pub apart : (a b q : ℕ) → a < length ps → b < length ps → Of (at ps a) q → Of (at ps b) q → a ≡ b
   -- nothing follows what is no position
   pub rest : (g o q : ℕ) → w .positions ≤ o → w .follow g o q ≡ false
+  pub lates-are : LatesAre w
+  -- a match can begin inside a stream with the bytes of the positions that are first at a gap between two bytes
+  pub opens-are : (x : ℕ) → x < bytes → w .opens x ≡ any maxPositions (λ q. w .takes x q && any innerGaps (λ g. w .first g q))
+
+-- a position that takes a byte is not kept from being first
+pub starts-first : (w : Automaton) (ps : List Placed) → Encodes w ps → (g x q : ℕ) → x < bytes → q < maxPositions → w .takes x q ≡ true → starts w g x q ≡ w .first g q
+starts-first w ps e g x q small l takes = go (decLt g innerGaps) (w .first g q) refl
+  where
+    go : Dec (g < innerGaps) → (b : Bool) → w .first g q ≡ b → (w .first g q && (leb innerGaps g || w .opens x)) ≡ w .first g q
+    go d false f = ap (λ (b : Bool). b && (leb innerGaps g || w .opens x)) f ∙ sym f
+    go (no d) true f = ap (λ (b : Bool). w .first g q && (b || w .opens x)) (le-leb innerGaps g (omega arith)) ∙ and-true (w .first g q)
+    go (yes d) true f =
+        let open-x : w .opens x ≡ true =
+        e .opens-are x small
+        ∙ any-at maxPositions (λ q. w .takes x q && any innerGaps (λ g. w .first g q)) q l (ap₂ (λ (b c : Bool). b && c) takes (any-at innerGaps (λ g. w .first g q) g d f)) in
+        ap₂ (λ (b c : Bool). w .first g q && (b || c)) (lt-leb innerGaps g d) open-x ∙ and-true (w .first g q)
 
 -- ---- no set of a form reaches outside its positions
 
 module _ (f : Form ByteSet Assertion) (b : ℕ) where
-  abbrev Out : ℕ → Type 0
+  abbrev pub Out : ℕ → Type 0
   Out q = (b ≤ q) → (q < b + positions f) → ⊥
 
-  last-out : (g : Assertion → Bool) (q : ℕ) → Out q → last g f b q ≡ false
+  pub last-out : (g : Assertion → Bool) (q : ℕ) → Out q → last g f b q ≡ false
   last-out g q n = false-T (last g f b q) (λ h. let i = last-inside g f b q (last-T g f b q .0 h) in n (i .0) (i .1))
 
   follow-out-from : (g : Assertion → Bool) (o q : ℕ) → Out o → follow g f b o q ≡ false
@@ -110,6 +129,8 @@ encodes-none =
       covered = λ q h. absurd (not-suc-le-zero h);
       apart = λ a b q h l i j. absurd (not-suc-le-zero h);
       rest = λ g o q h. refl;
+      lates-are = λ q h. sym (ap (λ (b : Bool). b && true) (any-never innerGaps (λ g. false) (λ g l. refl)));
+      opens-are = λ x h. sym (any-never maxPositions (λ q. false && any innerGaps (λ g. false)) (λ q l. refl));
     }
 
 -- ---- one rule more
@@ -154,8 +175,8 @@ module _ (w v : Automaton) (k : ℕ) (r : Accepted) (parts : ℕ → Parts) (x :
 
   -- ---- an old rule
 
-  module _ (p : Placed) (a c : ℕ) (s : Stands w a p) (id-kept : v .id c ≡ w .id a) (flags-kept : v .flags c ≡ w .flags a)
-      (last-kept : (g q : ℕ) → g < lastGaps → q < maxPositions → v .last g c q ≡ (ltb q n && w .last g a q)) where
+  module _ (p : Placed) (a c : ℕ) (s : Stands w a p) (id-kept : v .id c ≡ w .id a) (once-kept : v .once c ≡ w .once a)
+      (last-kept : (g q : ℕ) → g < lastGaps → q < n + positions f → lastIn v g c q ≡ (ltb q n && lastIn w g a q)) where
     -- its positions are old ones
     old : (q : ℕ) → Of p q → q < n
     old q h = omega (arith, s .within, h .1)
@@ -192,7 +213,7 @@ module _ (w v : Automaton) (k : ℕ) (r : Accepted) (parts : ℕ → Parts) (x :
     stands-old =
         record {
           id-is = id-kept ∙ s .id-is;
-          flags-are = flags-kept ∙ s .flags-are;
+          once-is = once-kept ∙ s .once-is;
           full = s .full;
           within = omega (arith, s .within, grown);
           takes-is = λ y q l h.
@@ -207,13 +228,13 @@ module _ (w v : Automaton) (k : ℕ) (r : Accepted) (parts : ℕ → Parts) (x :
               ∙ joined q below (w .first g q) (has (parts g .first) q) (new-first g q (omega arith) ∙ first-out f n (worldAt g) q (low q below))
               ∙ s .first-is g q z h;
           follow-is = kept-follow;
-          last-is = λ g q z h. last-kept g q z (omega (arith, grown)) ∙ ends q (omega (arith, grown)) (w .last g a q) (worldAt g) (λ l. s .last-is g q z l);
+          last-is = λ g q z h. last-kept g q z (omega (arith, grown)) ∙ ends q (omega (arith, grown)) (lastIn w g a q) (worldAt g) (λ l. s .last-is g q z l);
         }
 
   -- ---- the new rule
 
-  module _ (full : nullable (r .tree) ≡ false) (id-new : v .id k ≡ r .id) (flags-new : v .flags k ≡ r .flags)
-      (last-here : (g q : ℕ) → g < lastGaps → q < maxPositions → v .last g k q ≡ has (parts g .last) q)
+  module _ (full : nullable (r .tree) ≡ false) (id-new : v .id k ≡ r .id) (once-new : v .once k ≡ eqb (r .flags / 8 % 2) 1)
+      (last-here : (g q : ℕ) → g < lastGaps → q < n + positions f → lastIn v g k q ≡ has (parts g .last) q)
       (nothing-after : (g o q : ℕ) → n ≤ o → w .follow g o q ≡ false) where
     -- an old set has none of its positions
     masked : (q : ℕ) → n ≤ q → (b d : Bool) → ((ltb q n && b) || d) ≡ d
@@ -233,7 +254,7 @@ module _ (w v : Automaton) (k : ℕ) (r : Accepted) (parts : ℕ → Parts) (x :
     stands-new =
         record {
           id-is = id-new;
-          flags-are = flags-new;
+          once-is = once-new;
           full = full;
           within = omega (arith, grown);
           takes-is = λ y q l h.
@@ -278,6 +299,95 @@ module _ (w v : Automaton) (k : ℕ) (r : Accepted) (parts : ℕ → Parts) (x :
     put-after : {A : Type 0} (y : A) (g : ℕ → A) (a : ℕ) → k < a → putIn k y g a ≡ g (a - 1)
     put-after y g a h = rw (le-ltb a k (omega arith), ne-eqb a k (λ z. omega arith))
 
+    -- ---- the positions that end a match, by their owners
+
+    few : length ps < maxRules
+    few = omega (arith, x .few, e .rules)
+
+    -- where an old rule's place is now
+    abbrev Moved : (a c : ℕ) → Type 0
+    Moved a c = ((a < k) × (c ≡ a)) ⊎ ((k ≤ a) × (c ≡ a + 1))
+
+    not-new : (a c : ℕ) → Moved a c → k ≡ c → ⊥
+    not-new a c (inl d) y = omega arith
+    not-new a c (inr d) y = omega arith
+
+    raised-low : (o : ℕ) → o < k → raised k o ≡ o
+    unfolding raised
+    raised-low o h = rw (lt-ltb o k h)
+
+    raised-up : (o : ℕ) → k ≤ o → o < maxRules → raised k o ≡ o + 1
+    unfolding raised
+    raised-up o h l = rw (le-ltb o k h, lt-ltb o maxRules l)
+
+    raised-past : (o : ℕ) → k ≤ o → maxRules ≤ o → raised k o ≡ o
+    unfolding raised
+    raised-past o h l = rw (le-ltb o k h, le-ltb o maxRules l)
+
+    next-same : (o a : ℕ) → eqb (o + 1) (a + 1) ≡ eqb o a
+    next-same o a = go (ℕ-discrete o a)
+      where
+        go : Dec (o ≡ a) → eqb (o + 1) (a + 1) ≡ eqb o a
+        go (yes y) = eq-eqb (o + 1) (a + 1) (omega arith) ∙ sym (eq-eqb o a y)
+        go (no y) = ne-eqb (o + 1) (a + 1) (λ z. y (omega arith)) ∙ sym (ne-eqb o a y)
+
+    -- an owner is the same rule, in its place now
+    raised-is : (o a c : ℕ) → Moved a c → a < length ps → eqb (raised k o) c ≡ eqb o a
+    raised-is o a c d h = go d (decLt o k) (decLt o maxRules)
+      where
+        neither : (m : ℕ) → raised k o ≡ m → (m ≡ c → ⊥) → (o ≡ a → ⊥) → eqb (raised k o) c ≡ eqb o a
+        neither m y u v = ap (λ (b : ℕ). eqb b c) y ∙ ne-eqb m c u ∙ sym (ne-eqb o a v)
+
+        go : Moved a c → Dec (o < k) → Dec (o < maxRules) → eqb (raised k o) c ≡ eqb o a
+        go (inl d) (yes l) m = ap₂ eqb (raised-low o l) (d .1)
+        go (inl d) (no l) (yes m) = neither (o + 1) (raised-up o (omega arith) m) (λ y. omega arith) (λ y. omega arith)
+        go (inl d) (no l) (no m) = ap₂ eqb (raised-past o (omega arith) (omega arith)) (d .1)
+        go (inr d) (yes l) m = neither o (raised-low o l) (λ y. omega arith) (λ y. omega arith)
+        go (inr d) (no l) (yes m) = ap₂ eqb (raised-up o (omega arith) m) (d .1) ∙ next-same o a
+        go (inr d) (no l) (no m) = neither o (raised-past o (omega arith) (omega arith)) (λ y. omega (arith, few)) (λ y. omega (arith, few))
+
+    raised-not : (o : ℕ) → eqb (raised k o) k ≡ false
+    raised-not o = go (decLt o k) (decLt o maxRules)
+      where
+        other : (m : ℕ) → raised k o ≡ m → (m ≡ k → ⊥) → eqb (raised k o) k ≡ false
+        other m y u = ap (λ (b : ℕ). eqb b k) y ∙ ne-eqb m k u
+
+        go : Dec (o < k) → Dec (o < maxRules) → eqb (raised k o) k ≡ false
+        go (yes l) m = other o (raised-low o l) (λ y. omega arith)
+        go (no l) (yes m) = other (o + 1) (raised-up o (omega arith) m) (λ y. omega arith)
+        go (no l) (no m) = other o (raised-past o (omega arith) (omega arith)) (λ y. omega (arith, few, k-le))
+
+    new-low : (g q : ℕ) → q < n → has (parts g .last) q ≡ false
+    new-low g q h = new-last g q (omega arith) ∙ last-out f n (worldAt g) q (low q h)
+
+    last-old : (a c : ℕ) → Moved a c → a < length ps → (g q : ℕ) → g < lastGaps → q < n + positions f → lastIn v g c q ≡ (ltb q n && lastIn w g a q)
+    last-old a c d h g q z l = go (decLt q n)
+      where
+        go : Dec (q < n) → lastIn v g c q ≡ (ltb q n && lastIn w g a q)
+        go (yes m) =
+            ap₂ (λ (b : Bool) (o : ℕ). b && eqb o c)
+            (x .ending g q z (omega arith) ∙ ap₂ (λ (i j : Bool). (i && w .ending g q) || j) (lt-ltb q n m) (new-low g q m) ∙ or-false (w .ending g q)) (x .owner-old q m)
+            ∙ ap (λ (b : Bool). w .ending g q && b) (raised-is (w .owner q) a c d h)
+            ∙ sym (ap (λ (i : Bool). i && lastIn w g a q) (lt-ltb q n m))
+        go (no m) =
+            ap (λ (o : ℕ). v .ending g q && eqb o c) (x .owner-new q (omega arith) (omega (arith, more)))
+            ∙ ap (λ (b : Bool). v .ending g q && b) (ne-eqb k c (not-new a c d)) ∙ and-false (v .ending g q)
+            ∙ sym (ap (λ (i : Bool). i && lastIn w g a q) (le-ltb q n (omega arith)))
+
+    last-new : (g q : ℕ) → g < lastGaps → q < n + positions f → lastIn v g k q ≡ has (parts g .last) q
+    last-new g q z l = go (decLt q n)
+      where
+        go : Dec (q < n) → lastIn v g k q ≡ has (parts g .last) q
+        go (yes m) =
+            ap (λ (o : ℕ). v .ending g q && eqb o k) (x .owner-old q m) ∙ ap (λ (b : Bool). v .ending g q && b) (raised-not (w .owner q)) ∙ and-false (v .ending g q)
+            ∙ sym (new-low g q m)
+        go (no m) =
+            ap₂ (λ (b : Bool) (o : ℕ). b && eqb o k)
+            (x .ending g q z (omega arith) ∙ ap (λ (i : Bool). (i && w .ending g q) || has (parts g .last) q) (le-ltb q n (omega arith))) (x .owner-new q (omega arith) (omega (arith, more)))
+            ∙ ap (λ (b : Bool). has (parts g .last) q && b) (eq-eqb k k refl) ∙ and-true (has (parts g .last) q)
+
+    -- ---- each rule
+
     rule-in : (a : ℕ) → a < length ps + 1 → Stands v a (at qs a)
     rule-in a h = go (decLt a k) (decLt k a)
       where
@@ -286,22 +396,22 @@ module _ (w v : Automaton) (k : ℕ) (r : Accepted) (parts : ℕ → Parts) (x :
             subst (Stands v a) (sym (at-before a l))
             (stands-old (at ps a) a a (e .rule a (omega (arith, k-le)))
             (x .id-in a (omega (arith, e .rules)) ∙ put-before (r .id) (w .id) a l)
-            (x .flags-in a (omega (arith, e .rules)) ∙ put-before (r .flags) (w .flags) a l)
-            (λ g q z i. x .last g a q z (omega (arith, e .rules)) i ∙ put-before (has (parts g .last) q) (λ b. ltb q n && w .last g b q) a l))
+            (x .once-in a (omega (arith, e .rules)) ∙ put-before (eqb (r .flags / 8 % 2) 1) (w .once) a l)
+            (last-old a a (inl (l, refl)) (omega (arith, k-le))))
         go (no l) (yes m) =
             subst (Stands v a) (sym (at-after a m))
             (stands-old (at ps (a - 1)) (a - 1) a (e .rule (a - 1) (omega arith))
             (x .id-in a (omega (arith, e .rules)) ∙ put-after (r .id) (w .id) a m)
-            (x .flags-in a (omega (arith, e .rules)) ∙ put-after (r .flags) (w .flags) a m)
-            (λ g q z i. x .last g a q z (omega (arith, e .rules)) i ∙ put-after (has (parts g .last) q) (λ b. ltb q n && w .last g b q) a m))
+            (x .once-in a (omega (arith, e .rules)) ∙ put-after (eqb (r .flags / 8 % 2) 1) (w .once) a m)
+            (last-old (a - 1) a (inr (omega arith, omega arith)) (omega arith)))
         go (no l) (no m) =
             let z : k ≡ a = omega arith in
             subst (λ (b : ℕ). Stands v b (at qs b)) z
             (subst (Stands v k) (sym (at-here k refl))
             (stands-new full
             (x .id-in k (omega (arith, e .rules)) ∙ put-here (r .id) (w .id))
-            (x .flags-in k (omega (arith, e .rules)) ∙ put-here (r .flags) (w .flags))
-            (λ g q z i. x .last g k q z (omega (arith, e .rules)) i ∙ put-here (has (parts g .last) q) (λ b. ltb q n && w .last g b q))
+            (x .once-in k (omega (arith, e .rules)) ∙ put-here (eqb (r .flags / 8 % 2) 1) (w .once))
+            last-new
             (e .rest)))
 
     -- ids rise
@@ -399,6 +509,8 @@ module _ (w v : Automaton) (k : ℕ) (r : Accepted) (parts : ℕ → Parts) (x :
           covered = λ q h. let s = some-place q (omega (arith, grown)) in (s .0, omega (arith, long, s .1), s .2);
           apart = λ a b q h l i j. one-place a b q (omega (arith, long)) (omega (arith, long)) i j;
           rest = λ g o q h. nothing-past g o q (omega (arith, grown));
+          lates-are = x .lates;
+          opens-are = x .opens;
         }
 
 -- ---- as the theory of the position automaton wants it

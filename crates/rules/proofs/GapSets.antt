@@ -11,14 +11,13 @@ use lib.Dec.{ltb}
 use lib.ListN.{length, getD}
 use borrow.Author.Tests.{lt-ltb}
 use Rattle.sets.specs.Set.{setOf, emptySet}
-use Rattle.table.specs.Layout.{tableWords, maxRules, maxPositions, firstAt, lastAt, followAt, rowHas, from-to}
+use Rattle.table.specs.Layout.{tableWords, maxPositions, firstAt, lastAt, followAt, rowHas, from-to}
 use Rattle.table.specs.Gaps.{firstGaps, lastGaps, followGaps}
 use Rattle.table.proofs.Over.{from-to-below, from-to-above, over, length-over, over-in, over-below, over-above}
 use Rattle.table.proofs.Rows.{under}
-use Rattle.table.proofs.Writes.{copied}
 use Rattle.automaton.specs.declared.Parts.{Parts}
 use Rattle.rules.specs.Invariants.{mergedRow, merged, rowsWord, mergedRows, maskedRows, followPut, gapPut, gapsPut}
-use Rattle.rules.proofs.Rows.{merged-none}
+use Rattle.rules.proofs.Rows.{merged-none, merged-same}
 
 -- ---- words outside a range
 
@@ -108,17 +107,17 @@ module _ (at n : ℕ) (follow : List ℕ) (more : ℕ) (s : List ℕ) (room : n 
 
 -- ---- the sets of a gap
 
-module _ (n k : ℕ) where
+module _ (n : ℕ) where
   -- no set of gap g has word w
   abbrev pub Free : (g w : ℕ) → Type 0
-  Free g w = Out (firstAt g) (firstAt g + 4) w × (g < lastGaps → Out (lastAt k g) (lastAt k g + 4) w) × (g < followGaps → Out (followAt g 0) (followAt g 0 + 1024) w)
+  Free g w = Out (firstAt g) (firstAt g + 4) w × (g < lastGaps → Out (lastAt g) (lastAt g + 4) w) × (g < followGaps → Out (followAt g 0) (followAt g 0 + 1024) w)
 
   module _ (g : ℕ) (parts : Parts) (room : n + parts .positions ≤ maxPositions) (s : List ℕ) where
     abbrev pub withFirst : List ℕ
     withFirst = merged (firstAt g) n (parts .first) s
 
     abbrev pub withLast : List ℕ
-    withLast = cond (ltb g lastGaps) (copied (lastAt k g) 4 (parts .last) withFirst) withFirst
+    withLast = cond (ltb g lastGaps) (merged (lastAt g) n (parts .last) withFirst) withFirst
 
     abbrev pub withFollow : List ℕ
     withFollow = followPut (followAt g 0) n (parts .follow) (parts .positions) withLast
@@ -128,11 +127,12 @@ module _ (n k : ℕ) where
     length-first = length-over (firstAt g) (firstAt g + 4) (λ w. getD (mergedRow s (firstAt g) n (parts .first)) (w - firstAt g) 0) s
 
     pub length-last : length withLast ≡ length s
+    unfolding merged
     length-last =
-        under lastGaps g (λ b. length (cond b (copied (lastAt k g) 4 (parts .last) withFirst) withFirst)) (λ b. length s)
-        (λ l. length-over (lastAt k g) (lastAt k g + 4) (λ w. getD (parts .last) (w - lastAt k g) 0) withFirst ∙ length-first) length-first
+        under lastGaps g (λ b. length (cond b (merged (lastAt g) n (parts .last) withFirst) withFirst)) (λ b. length s)
+        (λ l. length-over (lastAt g) (lastAt g + 4) (λ w. getD (mergedRow withFirst (lastAt g) n (parts .last)) (w - lastAt g) 0) withFirst ∙ length-first) length-first
 
-    length-gap : length (gapPut g n k parts s) ≡ length s
+    length-gap : length (gapPut g n parts s) ≡ length s
     unfolding gapPut
     length-gap =
         under followGaps g (λ b. length (cond b withFollow withLast)) (λ b. length s)
@@ -142,22 +142,23 @@ module _ (n k : ℕ) where
     unfolding merged
     first-out w o = over-out (firstAt g) (firstAt g + 4) (λ w. getD (mergedRow s (firstAt g) n (parts .first)) (w - firstAt g) 0) s w o
 
-    pub last-out : (w : ℕ) → (g < lastGaps → Out (lastAt k g) (lastAt k g + 4) w) → getD withLast w 0 ≡ getD withFirst w 0
+    pub last-out : (w : ℕ) → (g < lastGaps → Out (lastAt g) (lastAt g + 4) w) → getD withLast w 0 ≡ getD withFirst w 0
+    unfolding merged
     last-out w o =
-        under lastGaps g (λ b. getD (cond b (copied (lastAt k g) 4 (parts .last) withFirst) withFirst) w 0) (λ b. getD withFirst w 0)
-        (λ l. over-out (lastAt k g) (lastAt k g + 4) (λ w. getD (parts .last) (w - lastAt k g) 0) withFirst w (o l)) refl
+        under lastGaps g (λ b. getD (cond b (merged (lastAt g) n (parts .last) withFirst) withFirst) w 0) (λ b. getD withFirst w 0)
+        (λ l. over-out (lastAt g) (lastAt g + 4) (λ w. getD (mergedRow withFirst (lastAt g) n (parts .last)) (w - lastAt g) 0) withFirst w (o l)) refl
 
-    rows-out : (w : ℕ) → (g < followGaps → Out (followAt g 0) (followAt g 0 + 1024) w) → getD (gapPut g n k parts s) w 0 ≡ getD withLast w 0
+    rows-out : (w : ℕ) → (g < followGaps → Out (followAt g 0) (followAt g 0 + 1024) w) → getD (gapPut g n parts s) w 0 ≡ getD withLast w 0
     unfolding gapPut
     rows-out w o =
         under followGaps g (λ b. getD (cond b withFollow withLast) w 0) (λ b. getD withLast w 0)
         (λ l. follow-out (followAt g 0) n (parts .follow) (parts .positions) withLast room w (o l)) refl
 
-    gap-out : (w : ℕ) → Free g w → getD (gapPut g n k parts s) w 0 ≡ getD s w 0
+    gap-out : (w : ℕ) → Free g w → getD (gapPut g n parts s) w 0 ≡ getD s w 0
     gap-out w o = rows-out w (o .2) ∙ last-out w (o .1) ∙ first-out w (o .0)
 
     module _ (long : tableWords ≤ length s) (in-range : g < firstGaps) where
-      pub gap-first : (i : ℕ) → i < 4 → getD (gapPut g n k parts s) (firstAt g + i) 0 ≡ getD (mergedRow s (firstAt g) n (parts .first)) i 0
+      pub gap-first : (i : ℕ) → i < 4 → getD (gapPut g n parts s) (firstAt g + i) 0 ≡ getD (mergedRow s (firstAt g) n (parts .first)) i 0
       unfolding merged
       gap-first i h =
           let e : firstAt g + i - firstAt g ≡ i = omega arith in
@@ -165,39 +166,41 @@ module _ (n k : ℕ) where
           ∙ over-in (firstAt g) (firstAt g + 4) (λ w. getD (mergedRow s (firstAt g) n (parts .first)) (w - firstAt g) 0) s (firstAt g + i) (omega arith) (omega arith) (omega arith)
           ∙ ap (λ (j : ℕ). getD (mergedRow s (firstAt g) n (parts .first)) j 0) e
 
-      pub gap-last : g < lastGaps → k < maxRules → (i : ℕ) → i < 4 → getD (gapPut g n k parts s) (lastAt k g + i) 0 ≡ getD (parts .last) i 0
-      gap-last low few i h =
-          let e : lastAt k g + i - lastAt k g ≡ i = omega arith in
-          rows-out (lastAt k g + i) (λ l x y. omega arith)
-          ∙ ap (λ (b : Bool). getD (cond b (copied (lastAt k g) 4 (parts .last) withFirst) withFirst) (lastAt k g + i) 0) (lt-ltb g lastGaps low)
-          ∙ over-in (lastAt k g) (lastAt k g + 4) (λ w. getD (parts .last) (w - lastAt k g) 0) withFirst (lastAt k g + i) (omega arith) (omega arith) (omega (arith, length-first))
-          ∙ ap (λ (j : ℕ). getD (parts .last) j 0) e
+      pub gap-last : g < lastGaps → (i : ℕ) → i < 4 → getD (gapPut g n parts s) (lastAt g + i) 0 ≡ getD (mergedRow s (lastAt g) n (parts .last)) i 0
+      unfolding merged
+      gap-last low i h =
+          let e : lastAt g + i - lastAt g ≡ i = omega arith in
+          rows-out (lastAt g + i) (λ l x y. omega arith)
+          ∙ ap (λ (b : Bool). getD (cond b (merged (lastAt g) n (parts .last) withFirst) withFirst) (lastAt g + i) 0) (lt-ltb g lastGaps low)
+          ∙ over-in (lastAt g) (lastAt g + 4) (λ w. getD (mergedRow withFirst (lastAt g) n (parts .last)) (w - lastAt g) 0) withFirst (lastAt g + i) (omega arith) (omega arith) (omega (arith, length-first))
+          ∙ ap (λ (j : ℕ). getD (mergedRow withFirst (lastAt g) n (parts .last)) j 0) e
+          ∙ ap (λ (r : List ℕ). getD r i 0) (merged-same withFirst s (lastAt g) n (parts .last) (λ j k. first-out (lastAt g + j) (λ x y. omega arith)))
 
-    pub gap-follow : g < followGaps → (w : ℕ) → getD (gapPut g n k parts s) w 0 ≡ getD withFollow w 0
+    pub gap-follow : g < followGaps → (w : ℕ) → getD (gapPut g n parts s) w 0 ≡ getD withFollow w 0
     unfolding gapPut
     gap-follow low w = ap (λ (b : Bool). getD (cond b withFollow withLast) w 0) (lt-ltb g followGaps low)
 
   -- ---- and of the gaps, one after the other
 
   module _ (parts : ℕ → Parts) (room : (g : ℕ) → n + parts g .positions ≤ maxPositions) (s : List ℕ) where
-    pub length-gaps : (m : ℕ) → length (gapsPut m n k parts s) ≡ length s
+    pub length-gaps : (m : ℕ) → length (gapsPut m n parts s) ≡ length s
     unfolding gapsPut
     length-gaps zero = refl
-    length-gaps (suc m) = length-gap m (parts m) (room m) (gapsPut m n k parts s) ∙ length-gaps m
+    length-gaps (suc m) = length-gap m (parts m) (room m) (gapsPut m n parts s) ∙ length-gaps m
 
     -- a word that no gap has stays
-    pub gaps-out : (m w : ℕ) → ((g : ℕ) → g < m → Free g w) → getD (gapsPut m n k parts s) w 0 ≡ getD s w 0
+    pub gaps-out : (m w : ℕ) → ((g : ℕ) → g < m → Free g w) → getD (gapsPut m n parts s) w 0 ≡ getD s w 0
     unfolding gapsPut
     gaps-out zero w o = refl
-    gaps-out (suc m) w o = gap-out m (parts m) (room m) (gapsPut m n k parts s) w (o m (omega arith)) ∙ gaps-out m w (λ g h. o g (omega arith))
+    gaps-out (suc m) w o = gap-out m (parts m) (room m) (gapsPut m n parts s) w (o m (omega arith)) ∙ gaps-out m w (λ g h. o g (omega arith))
 
     -- a word that no later gap has is as the gap leaves it
-    pub gaps-at : (m g w : ℕ) → g < m → ((h : ℕ) → g < h → h < m → Free h w) → getD (gapsPut m n k parts s) w 0 ≡ getD (gapPut g n k (parts g) (gapsPut g n k parts s)) w 0
+    pub gaps-at : (m g w : ℕ) → g < m → ((h : ℕ) → g < h → h < m → Free h w) → getD (gapsPut m n parts s) w 0 ≡ getD (gapPut g n (parts g) (gapsPut g n parts s)) w 0
     unfolding gapsPut
     gaps-at zero g w h later = absurd (not-suc-le-zero h)
     gaps-at (suc m) g w h later = go (decLt g m) (λ l. gaps-at m g w l (λ j x y. later j x (omega arith)))
       where
-        go : Dec (g < m) → (g < m → getD (gapsPut m n k parts s) w 0 ≡ getD (gapPut g n k (parts g) (gapsPut g n k parts s)) w 0)
-            → getD (gapPut m n k (parts m) (gapsPut m n k parts s)) w 0 ≡ getD (gapPut g n k (parts g) (gapsPut g n k parts s)) w 0
-        go (yes l) ih = gap-out m (parts m) (room m) (gapsPut m n k parts s) w (later m l (omega arith)) ∙ ih l
-        go (no l) ih = let e : m ≡ g = omega arith in ap (λ (j : ℕ). getD (gapPut j n k (parts j) (gapsPut j n k parts s)) w 0) e
+        go : Dec (g < m) → (g < m → getD (gapsPut m n parts s) w 0 ≡ getD (gapPut g n (parts g) (gapsPut g n parts s)) w 0)
+            → getD (gapPut m n (parts m) (gapsPut m n parts s)) w 0 ≡ getD (gapPut g n (parts g) (gapsPut g n parts s)) w 0
+        go (yes l) ih = gap-out m (parts m) (room m) (gapsPut m n parts s) w (later m l (omega arith)) ∙ ih l
+        go (no l) ih = let e : m ≡ g = omega arith in ap (λ (j : ℕ). getD (gapPut j n (parts j) (gapsPut j n parts s)) w 0) e

@@ -1,7 +1,7 @@
 -- Words beyond the first 16,384 count for nothing in an addition either: lists that agree up to there get the same answer and agree up to there afterwards, and
 -- each keeps its own words beyond. Every word that the definitions read stands at a place below 16,384.
 use mathlib.Core.Path.{_≡_, refl, sym, ap, ap₂, _∙_}
-use mathlib.Core.Bool.{Bool, true, false, true≢false, cond, _&&_, _||_}
+use mathlib.Core.Bool.{Bool, true, false, true≢false, cond, not, _&&_, _||_}
 use mathlib.Core.List.{List, [], _∷_, _++_}
 use Prim.Native.Nat.{ℕ, zero, suc, _+_, _-_, _*_, _/_, _%_, _≤_, _<_}
 use native.Mathlib.Omega.{arith}
@@ -9,10 +9,10 @@ use lib.Dec.{eqb, leb, ltb}
 use lib.ListN.{getD, take, drop}
 use lib.Seq.{take-at, drop-at}
 use borrow.Author.Tests.{leb-true, ltb-true}
-use Rattle.sets.specs.Set.{has, setOf, any, count}
-use Rattle.sets.proofs.Laws.{any-ext, count-ext}
-use Rattle.table.specs.Layout.{tableWords, maxRules, maxPositions, bytes, rulesOf, positionsOf, firstAt, stride, recordAt, lastAt, followAt, takersAt, recordWord, rowHas, from-to}
-use Rattle.table.specs.Gaps.{firstGaps, followGaps}
+use Rattle.sets.specs.Set.{has, setOf, any, asOne, count}
+use Rattle.sets.proofs.Laws.{any-ext, count-ext, setOf-ext}
+use Rattle.table.specs.Layout.{tableWords, maxRules, maxPositions, bytes, rulesOf, positionsOf, firstAt, idAt, idWord, openerAt, ownerAt, lastAt, latesAt, followAt, takersAt, rowHas, from-to}
+use Rattle.table.specs.Gaps.{firstGaps, followGaps, lastGaps, innerGaps, unsettled}
 use Rattle.table.specs.Table.{isTable}
 use Rattle.table.proofs.Rows.{row-same}
 use Rattle.table.proofs.Test.{passes}
@@ -21,7 +21,7 @@ use Rattle.pattern.specs.Walk.{Read, tree, refused}
 use Rattle.pattern.specs.Read.{readOf, optionsOf}
 use Rattle.automaton.specs.declared.Parts.{Parts}
 use Rattle.rules.specs.Gaps.{partsAt}
-use Rattle.rules.specs.Words.{wordsOf, oldRow, joinedRow, placeOf, newRecord, oldRecord, recordWords, firstWords, followWords, newTaker, takersWords, addedWord, added}
+use Rattle.rules.specs.Words.{wordsOf, oldRow, joinedRow, placeOf, singlesWith, ownerWith, idWords, singlesWord, ownerWords, lastWords, lateWords, opener, firstWords, followWords, newTaker, takersWords, addedWord, added}
 use Rattle.rules.specs.Add.{hasId, addAnswer, withRule, addWords}
 use Rattle.rules.specs.declared.Added.{Added}
 use Rattle.rules.proofs.Regions.{length-wordsOf}
@@ -49,8 +49,8 @@ module _ (t u : List ℕ) (same : take tableWords t ≡ take tableWords u) where
   positions : positionsOf t ≡ positionsOf u
   positions = same-word t u same 2 (omega arith)
 
-  field : (a i : ℕ) → a < maxRules → i < stride → recordWord t a i ≡ recordWord u a i
-  field a i h l = same-word t u same (recordAt a + i) (omega arith)
+  field : (a : ℕ) → a < maxRules → idWord t a ≡ idWord u a
+  field a h = same-word t u same (idAt a) (omega arith)
 
   old-row : (at : ℕ) → at + 4 ≤ tableWords → oldRow t at ≡ oldRow u at
   unfolding oldRow
@@ -60,34 +60,53 @@ module _ (t u : List ℕ) (same : take tableWords t ≡ take tableWords u) where
     has-id : (id : ℕ) → hasId t id ≡ hasId u id
     unfolding hasId
     has-id id =
-        any-ext (rulesOf t) (λ a. eqb (recordWord t a 0) id) (λ a. eqb (recordWord u a 0) id) (λ a h. ap (λ (x : ℕ). eqb x id) (field a 0 (omega arith) (omega arith)))
-        ∙ ap (λ (n : ℕ). any n (λ a. eqb (recordWord u a 0) id)) rules
+        any-ext (rulesOf t) (λ a. eqb (idWord t a) id) (λ a. eqb (idWord u a) id) (λ a h. ap (λ (x : ℕ). eqb x id) (field a (omega arith)))
+        ∙ ap (λ (n : ℕ). any n (λ a. eqb (idWord u a) id)) rules
 
     module _ (id flags : ℕ) (parts : ℕ → Parts) where
       place : placeOf t id ≡ placeOf u id
       unfolding placeOf
       place =
-          count-ext (rulesOf t) (λ a. ltb (recordWord t a 0) id) (λ a. ltb (recordWord u a 0) id) (λ a h. ap (λ (x : ℕ). ltb x id) (field a 0 (omega arith) (omega arith)))
-          ∙ ap (λ (n : ℕ). count n (λ a. ltb (recordWord u a 0) id)) rules
+          count-ext (rulesOf t) (λ a. ltb (idWord t a) id) (λ a. ltb (idWord u a) id) (λ a h. ap (λ (x : ℕ). ltb x id) (field a (omega arith)))
+          ∙ ap (λ (n : ℕ). count n (λ a. ltb (idWord u a) id)) rules
 
-      new-record : (i : ℕ) → newRecord t id flags parts i ≡ newRecord u id flags parts i
-      unfolding newRecord
-      new-record i =
-          ap (λ (n : ℕ). cond (eqb i 0) id (cond (eqb i 1) flags (cond (eqb i 2) n (cond (eqb i 3) (n + parts 0 .positions)
-          (getD (parts ((i - 4) / 4) .last) ((i - 4) % 4) 0))))) positions
+      id-words : (a : ℕ) → a < maxRules → idWords t id flags parts a ≡ idWords u id flags parts a
+      unfolding idWords
+      id-words a h = λ j.
+          cond (ltb a (place j)) (field a h j)
+          (cond (eqb a (place j)) id
+          (cond (leb a (rules j)) (field (a - 1) (omega arith) j)
+          (field a h j)))
 
-      old-record : (a i : ℕ) → a < maxRules → i < stride → oldRecord t id flags parts a i ≡ oldRecord u id flags parts a i
-      unfolding oldRecord
-      old-record a i h l = λ j.
-          cond (ltb i 4) (field a i h l j) (getD (setOf (old-row (lastAt a ((i - 4) / 4)) (omega arith) j)) ((i - 4) % 4) 0)
+      singles-word : singlesWord t id flags parts ≡ singlesWord u id flags parts
+      unfolding singlesWord
+      singles-word = λ j. singlesWith (place j) (eqb (flags / 8 % 2) 1) (same-word t u same 3 (omega arith) j)
 
-      record-words : (a i : ℕ) → a < maxRules → i < stride → recordWords t id flags parts a i ≡ recordWords u id flags parts a i
-      unfolding recordWords
-      record-words a i h l = λ j.
-          cond (ltb a (place j)) (old-record a i h l j)
-          (cond (eqb a (place j)) (new-record i j)
-          (cond (leb a (rules j)) (old-record (a - 1) i (omega arith) l j)
-          (field a i h l j)))
+      owner-words : (q : ℕ) → q < maxPositions → ownerWords t id flags parts q ≡ ownerWords u id flags parts q
+      unfolding ownerWords
+      owner-words q h = λ j. ownerWith (positions j) (parts 0 .positions) (place j) q (same-word t u same (ownerAt q) (omega arith) j)
+
+      last-words : (g i : ℕ) → g < lastGaps → lastWords t id flags parts g i ≡ lastWords u id flags parts g i
+      unfolding lastWords joinedRow
+      last-words g i h = λ j. getD (setOf (λ q. old-row (lastAt g) (omega arith) j q || has (parts g .last) q)) i 0
+
+      late-words : (i : ℕ) → lateWords t id flags parts i ≡ lateWords u id flags parts i
+      unfolding lateWords
+      late-words i =
+          ap (λ (s : List ℕ). getD s i 0) (setOf-ext _ _ (λ q l.
+          ap₂ (λ (b c : Bool). b && not c) (any-ext innerGaps _ _ (λ g m. λ j. old-row (lastAt g) (omega arith) j q || has (parts g .last) q))
+          (λ j. old-row (lastAt unsettled) (omega arith) j q || has (parts unsettled .last) q)))
+
+      new-taker : (x q : ℕ) → newTaker t id flags parts x q ≡ newTaker u id flags parts x q
+      unfolding newTaker
+      new-taker x q = λ j. from-to (positions j) (positions j + parts 0 .positions) q && rowHas (parts 0 .takes) ((q - positions j) * 4) x
+
+      opener-word : (x : ℕ) → x < bytes → opener t id flags parts x ≡ opener u id flags parts x
+      unfolding opener
+      opener-word x h =
+          ap asOne (any-ext maxPositions _ _ (λ q l.
+          ap₂ (λ (b c : Bool). b && c) (λ j. old-row (takersAt x) (omega arith) j q || new-taker x q j)
+          (any-ext innerGaps _ _ (λ g m. λ j. old-row (firstAt g) (omega arith) j q || has (parts g .first) q))))
 
       first-words : (g i : ℕ) → g < firstGaps → firstWords t id flags parts g i ≡ firstWords u id flags parts g i
       unfolding firstWords joinedRow
@@ -109,17 +128,21 @@ module _ (t u : List ℕ) (same : take tableWords t ≡ take tableWords u) where
       word : (w : ℕ) → w < tableWords → addedWord t id flags parts w ≡ addedWord u id flags parts w
       unfolding addedWord
       word w h =
-          header _ _ _ _ _ _ rules positions
+          header _ _ _ _ _ _ _ _ rules positions singles-word
+          (within (lastAt 0) (lastAt lastGaps) w _ _ _ _ (λ a b. last-words ((w - lastAt 0) / 4) ((w - lastAt 0) % 4) (omega arith))
+          (within latesAt (latesAt + 4) w _ _ _ _ (λ a b. late-words (w - latesAt))
           (within (firstAt 0) (firstAt firstGaps) w _ _ _ _ (λ a b. first-words ((w - firstAt 0) / 4) ((w - firstAt 0) % 4) (omega arith))
-          (within (recordAt 0) (recordAt maxRules) w _ _ _ _ (λ a b. record-words ((w - recordAt 0) / stride) ((w - recordAt 0) % stride) (omega arith) (omega arith))
+          (within (idAt 0) (idAt maxRules) w _ _ _ _ (λ a b. id-words (w - idAt 0) (omega arith))
+          (within (openerAt 0) (openerAt bytes) w _ _ _ _ (λ a b. opener-word (w - openerAt 0) (omega arith))
+          (within (ownerAt 0) (ownerAt maxPositions) w _ _ _ _ (λ a b. owner-words (w - ownerAt 0) (omega arith))
           (within (takersAt 0) (takersAt bytes) w _ _ _ _ (λ a b. takers-words ((w - takersAt 0) / 4) ((w - takersAt 0) % 4) (omega arith))
           (within (followAt 0 0) (followAt followGaps 0) w _ _ _ _
           (λ a b. follow-words ((w - followAt 0 0) / 1024) ((w - followAt 0 0) % 1024 / 4) ((w - followAt 0 0) % 4) (omega arith) (omega arith) (omega arith))
-          (same-word t u same w h)))))
+          (same-word t u same w h)))))))))
         where
-          header : (r r' p p' x x' : ℕ) → r ≡ r' → p ≡ p' → x ≡ x'
-              → cond (eqb w 1) (r + 1) (cond (eqb w 2) (p + parts 0 .positions) x) ≡ cond (eqb w 1) (r' + 1) (cond (eqb w 2) (p' + parts 0 .positions) x')
-          header r r' p p' x x' e f g = λ j. cond (eqb w 1) (e j + 1) (cond (eqb w 2) (f j + parts 0 .positions) (g j))
+          header : (r r' p p' s s' x x' : ℕ) → r ≡ r' → p ≡ p' → s ≡ s' → x ≡ x'
+              → cond (eqb w 1) (r + 1) (cond (eqb w 2) (p + parts 0 .positions) (cond (eqb w 3) s x)) ≡ cond (eqb w 1) (r' + 1) (cond (eqb w 2) (p' + parts 0 .positions) (cond (eqb w 3) s' x'))
+          header r r' p p' s s' x x' e f i g = λ j. cond (eqb w 1) (e j + 1) (cond (eqb w 2) (f j + parts 0 .positions) (cond (eqb w 3) (i j) (g j)))
 
       added-local : take tableWords (added t id flags parts) ≡ take tableWords (added u id flags parts)
       unfolding added

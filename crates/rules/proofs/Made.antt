@@ -1,31 +1,31 @@
 -- The writers make the table with one rule more. Each writer's part is read word by word, and left alone by the others; a list of words is then the defined
 -- one because each of its words is, region by region.
-use mathlib.Core.Path.{_≡_, refl, sym, ap, ap₂, _∙_}
-use mathlib.Core.Bool.{cond, _&&_}
+use mathlib.Core.Path.{_≡_, sym, ap, ap₂, _∙_}
+use mathlib.Core.Bool.{Bool, not, _&&_, _||_}
 use mathlib.Core.List.{List, [], _∷_}
 use Prim.Native.Nat.{ℕ, zero, suc, _+_, _-_, _*_, _/_, _%_, _≤_, _<_}
 use native.Mathlib.Decide.{decLt}
 use native.Mathlib.Omega.{arith}
-use lib.Dec.{ltb}
+use lib.Dec.{eqb, ltb}
 use lib.ListN.{length, getD}
 use lib.Seq.{ext-getD}
 use borrow.Author.Tests.{lt-ltb, le-ltb, le-leb, lt-leb, eq-eqb, ne-eqb}
-use Rattle.sets.specs.Set.{setOf, emptySet, count}
-use Rattle.sets.proofs.Laws.{below-four}
-use Rattle.table.specs.Layout.{tableWords, maxRules, maxPositions, bytes, rulesOf, positionsOf, firstAt, stride, recordAt, lastAt, followAt, takersAt, rowHas}
-use Rattle.table.specs.Gaps.{firstGaps, lastGaps, followGaps}
+use Rattle.sets.specs.Set.{has, setOf, emptySet, any, asOne}
+use Rattle.sets.proofs.Laws.{setOf-ext, any-ext}
+use Rattle.table.specs.Layout.{tableWords, maxRules, maxPositions, bytes, rulesOf, positionsOf, singlesOf, firstAt, idAt, openerAt, ownerAt, lastAt, latesAt, followAt, takersAt, rowHas}
+use Rattle.table.specs.Gaps.{firstGaps, lastGaps, followGaps, innerGaps, unsettled}
 use Rattle.table.proofs.Over.{length-over, over-in, over-below, over-above}
-use Rattle.table.proofs.Writes.{copied, movedUp}
+use Rattle.table.proofs.Writes.{movedUp}
 use Rattle.regex.specs.Form.{write, positions}
 use Rattle.nodes.specs.Nodes.{Syntax}
 use Rattle.automaton.specs.declared.Parts.{Parts}
 use Rattle.rules.specs.Gaps.{holdingAt, partsAt}
-use Rattle.rules.specs.Words.{oldRow, joinedRow, placeOf, newRecord, oldRecord, recordWords, firstWords, followWords, newTaker, takersWords, addedWord, added}
-use Rattle.rules.specs.Invariants.{mergedRow, rowsWord, mergedRows, maskedWord, recordsWord, maskedRecords, smaller, recordOf, recordAtPlace, recordPut, followPut, newTakers, takersPut, gapPut, gapsPut, countsPut}
-use Rattle.rules.proofs.Rows.{merged-same, merged-none, merged-new}
+use Rattle.rules.specs.Words.{oldRow, joinedRow, placeOf, singlesWith, ownerWith, idWords, singlesWord, ownerWords, lastWords, lateWords, opener, firstWords, followWords, newTaker, takersWords, addedWord, added}
+use Rattle.rules.specs.Invariants.{mergedRow, rowsWord, mergedRows, idPut, singlesPut, ownersPut, placePut, followPut, newTakers, takersPut, gapPut, gapsPut, openerOf, openersPut, lateSet, latesPut, countsPut}
+use Rattle.rules.proofs.Rows.{row-set, merged-same, merged-none, merged-new}
 use Rattle.rules.proofs.Parts.{sized-parts}
 use Rattle.rules.proofs.Place.{place-le}
-use Rattle.rules.proofs.Regions.{word-other, word-first, word-record, word-takers, word-follow, length-added, added-word, added-beyond}
+use Rattle.rules.proofs.Regions.{word-other, word-last, word-late, word-first, word-id, word-opener, word-owner, word-takers, word-follow, length-added, added-word, added-beyond}
 use Rattle.rules.proofs.GapSets.{Out, side, split, from-to-out, over-out, follow-high, follow-old, follow-new, Free, withLast, length-last, first-out, last-out, gap-first, gap-last, gap-follow, length-gaps, gaps-out, gaps-at}
 
 -- ---- the takers of each byte
@@ -83,125 +83,144 @@ module _ (rules positions : ℕ) (s : List ℕ) where
   unfolding countsPut
   counts-positions m = over-in 1 (1 + 2) figures s 2 (omega arith) (omega arith) (omega arith)
 
--- ---- the records
+-- ---- the ids
 
-module _ (t : List ℕ) (id flags : ℕ) (parts : ℕ → Parts) where
-  -- a masked record is an old one
-  masked-old : (a i : ℕ) → maskedWord t (positionsOf t) a i ≡ oldRecord t id flags parts a i
-  unfolding maskedWord oldRecord oldRow
-  masked-old a i =
-      ap (λ (r : List ℕ). cond (ltb i 4) (getD t (recordAt a + i) 0) (getD r ((i - 4) % 4) 0)) (merged-none t (lastAt a ((i - 4) / 4)) (positionsOf t))
+module _ (t : List ℕ) (id flags : ℕ) (parts : ℕ → Parts) (long : tableWords ≤ length t) (few : rulesOf t < maxRules) where
+  abbrev k : ℕ
+  k = placeOf t id
 
-  abbrev theRecord : List ℕ
-  theRecord = recordOf id flags (positionsOf t) (positionsOf t + parts 0 .positions)
+  k-le : k ≤ rulesOf t
+  k-le = place-le t id
 
-  -- the new record before its sets are put in
-  new-record : (i : ℕ) → i < 4 → getD theRecord i 0 ≡ newRecord t id flags parts i
-  unfolding newRecord
-  new-record = below-four (λ (i : ℕ). getD theRecord i 0 ≡ newRecord t id flags parts i) refl refl refl refl
+  abbrev moved : List ℕ
+  moved = movedUp (idAt k) (rulesOf t - k) t
 
-  -- and its sets
-  new-set : (i : ℕ) → 4 ≤ i → newRecord t id flags parts i ≡ getD (parts ((i - 4) / 4) .last) ((i - 4) % 4) 0
-  unfolding newRecord
-  new-set i h = rw (ne-eqb i 0 (λ z. omega arith), ne-eqb i 1 (λ z. omega arith), ne-eqb i 2 (λ z. omega arith), ne-eqb i 3 (λ z. omega arith))
+  abbrev up : ℕ → ℕ
+  up w = getD t (w - 1) 0
 
-  -- the words that `put_record` leaves
-  module _ (long : tableWords ≤ length t) (few : rulesOf t < maxRules) where
-    abbrev k : ℕ
-    k = placeOf t id
+  length-moved : length moved ≡ length t
+  length-moved = length-over (idAt k + 1) (idAt k + 1 + (rulesOf t - k)) up t
 
-    k-le : k ≤ rulesOf t
-    k-le = place-le t id
+  abbrev put : List ℕ
+  put = idPut (rulesOf t) k id t
 
-    -- the words once they are masked, and once they are moved up
-    abbrev masked : List ℕ
-    masked = maskedRecords (rulesOf t) (positionsOf t) t
+  abbrev new : ℕ → ℕ
+  new w = getD (id ∷ []) (w - idAt k) 0
 
-    abbrev moved : List ℕ
-    moved = movedUp (recordAt k) ((rulesOf t - k) * stride) masked
+  length-put : length put ≡ length t
+  unfolding idPut
+  length-put = length-over (idAt k) (idAt k + 1) new moved ∙ length-moved
 
-    length-masked : length masked ≡ length t
-    unfolding maskedRecords
-    length-masked = length-over (recordAt 0) (recordAt (rulesOf t)) (recordsWord (positionsOf t) t) t
+  put-low : (w : ℕ) → w < idAt k → getD put w 0 ≡ getD t w 0
+  unfolding idPut
+  put-low w h = over-below (idAt k) (idAt k + 1) new moved w h ∙ over-below (idAt k + 1) (idAt k + 1 + (rulesOf t - k)) up t w (omega arith)
 
-    length-moved : length moved ≡ length t
-    length-moved = length-over (recordAt k + stride) (recordAt k + stride + (rulesOf t - k) * stride) (λ w. getD masked (w - stride) 0) masked ∙ length-masked
+  put-here : getD put (idAt k) 0 ≡ id
+  unfolding idPut
+  put-here =
+      let e : idAt k - idAt k ≡ 0 = omega arith in
+      over-in (idAt k) (idAt k + 1) new moved (idAt k) (omega arith) (omega arith) (omega (arith, length-moved, k-le)) ∙ ap (λ (j : ℕ). getD (id ∷ []) j 0) e
 
-    masked-low : (w : ℕ) → w < recordAt 0 → getD masked w 0 ≡ getD t w 0
-    unfolding maskedRecords
-    masked-low w h = over-below (recordAt 0) (recordAt (rulesOf t)) (recordsWord (positionsOf t) t) t w h
+  put-up : (w : ℕ) → idAt k < w → w ≤ idAt (rulesOf t) → getD put w 0 ≡ getD t (w - 1) 0
+  unfolding idPut
+  put-up w h l =
+      over-above (idAt k) (idAt k + 1) new moved w (omega arith)
+      ∙ over-in (idAt k + 1) (idAt k + 1 + (rulesOf t - k)) up t w (omega arith) (omega (arith, k-le)) (omega arith)
 
-    masked-high : (w : ℕ) → recordAt (rulesOf t) ≤ w → getD masked w 0 ≡ getD t w 0
-    unfolding maskedRecords
-    masked-high w h = over-above (recordAt 0) (recordAt (rulesOf t)) (recordsWord (positionsOf t) t) t w h
+  put-high : (w : ℕ) → idAt (rulesOf t) < w → getD put w 0 ≡ getD t w 0
+  unfolding idPut
+  put-high w h =
+      over-above (idAt k) (idAt k + 1) new moved w (omega (arith, k-le))
+      ∙ over-above (idAt k + 1) (idAt k + 1 + (rulesOf t - k)) up t w (omega (arith, k-le))
 
-    -- record a, once it is masked
-    masked-in : (a i : ℕ) → a < rulesOf t → i < stride → getD masked (recordAt a + i) 0 ≡ oldRecord t id flags parts a i
-    unfolding maskedRecords recordsWord
-    masked-in a i h l =
-        let e : (recordAt a + i - recordAt 0) / stride ≡ a = omega arith in
-        let f : (recordAt a + i - recordAt 0) % stride ≡ i = omega arith in
-        over-in (recordAt 0) (recordAt (rulesOf t)) (recordsWord (positionsOf t) t) t (recordAt a + i) (omega arith) (omega arith) (omega arith)
-        ∙ ap₂ (maskedWord t (positionsOf t)) e f ∙ masked-old a i
+  -- outside the ids nothing changes
+  put-out : (w : ℕ) → Out (idAt 0) (idAt maxRules) w → getD put w 0 ≡ getD t w 0
+  put-out w o = side (idAt 0) (idAt maxRules) w (λ h. put-low w (omega arith)) (λ x y. absurd (o x y)) (λ h. put-high w (omega arith))
 
-    moved-low : (w : ℕ) → w < recordAt k + stride → getD moved w 0 ≡ getD masked w 0
-    moved-low w h = over-below (recordAt k + stride) (recordAt k + stride + (rulesOf t - k) * stride) (λ w. getD masked (w - stride) 0) masked w h
+  put-id : (a : ℕ) → a < maxRules → getD put (idAt a) 0 ≡ idWords t id flags parts a
+  unfolding idWords
+  put-id a h = go (decLt a k) (decLt k a) (decLt (rulesOf t) a)
+    where
+      go : Dec (a < k) → Dec (k < a) → Dec (rulesOf t < a) → getD put (idAt a) 0 ≡ idWords t id flags parts a
+      go (yes p) q r = rw (lt-ltb a k p) (put-low (idAt a) (omega arith))
+      go (no p) (no q) r =
+          let e : a ≡ k = omega arith in
+          rw (le-ltb a k (omega arith), eq-eqb a k e) (ap (λ (j : ℕ). getD put (idAt j) 0) e ∙ put-here)
+      go (no p) (yes q) (no r) =
+          let e : idAt a - 1 ≡ idAt (a - 1) = omega arith in
+          rw (le-ltb a k (omega arith), ne-eqb a k (λ z. omega arith), le-leb a (rulesOf t) (omega arith))
+          (put-up (idAt a) (omega arith) (omega arith) ∙ ap (λ (j : ℕ). getD t j 0) e)
+      go (no p) (yes q) (yes r) =
+          rw (le-ltb a k (omega arith), ne-eqb a k (λ z. omega arith), lt-leb a (rulesOf t) r) (put-high (idAt a) (omega arith))
 
-    moved-high : (w : ℕ) → recordAt (rulesOf t + 1) ≤ w → getD moved w 0 ≡ getD masked w 0
-    moved-high w h = over-above (recordAt k + stride) (recordAt k + stride + (rulesOf t - k) * stride) (λ w. getD masked (w - stride) 0) masked w (omega (arith, k-le))
+-- ---- the digits of the single-match rules
 
-    moved-in : (w : ℕ) → recordAt k + stride ≤ w → w < recordAt (rulesOf t + 1) → getD moved w 0 ≡ getD masked (w - stride) 0
-    moved-in w h l =
-        over-in (recordAt k + stride) (recordAt k + stride + (rulesOf t - k) * stride) (λ w. getD masked (w - stride) 0) masked w h (omega (arith, k-le)) (omega (arith, length-masked))
+module _ (k : ℕ) (single : Bool) (s : List ℕ) where
+  abbrev marked : ℕ → ℕ
+  marked w = getD (singlesWith k single (singlesOf s) ∷ []) (w - 3) 0
 
-    abbrev put : List ℕ
-    put = recordPut (rulesOf t) (positionsOf t) theRecord t
+  length-singles : length (singlesPut k single s) ≡ length s
+  unfolding singlesPut
+  length-singles = length-over 3 (3 + 1) marked s
 
-    put-is : put ≡ copied (recordAt k) stride theRecord moved
-    unfolding recordPut recordAtPlace placeOf
-    put-is = refl
+  singles-out : (w : ℕ) → Out 3 4 w → getD (singlesPut k single s) w 0 ≡ getD s w 0
+  unfolding singlesPut
+  singles-out w o = over-out 3 (3 + 1) marked s w o
 
-    length-put : length put ≡ length t
-    length-put = ap length put-is ∙ length-over (recordAt k) (recordAt k + stride) (λ w. getD theRecord (w - recordAt k) 0) moved ∙ length-moved
+  singles-in : tableWords ≤ length s → getD (singlesPut k single s) 3 0 ≡ singlesWith k single (singlesOf s)
+  unfolding singlesPut
+  singles-in m = over-in 3 (3 + 1) marked s 3 (omega arith) (omega arith) (omega arith)
 
-    put-low : (w : ℕ) → w < recordAt k → getD put w 0 ≡ getD masked w 0
-    put-low w h =
-        ap (λ (l : List ℕ). getD l w 0) put-is ∙ over-below (recordAt k) (recordAt k + stride) (λ w. getD theRecord (w - recordAt k) 0) moved w h ∙ moved-low w (omega arith)
+-- ---- the owners
 
-    put-here : (i : ℕ) → i < 4 → getD put (recordAt k + i) 0 ≡ newRecord t id flags parts i
-    put-here i h =
-        let e : recordAt k + i - recordAt k ≡ i = omega arith in
-        ap (λ (l : List ℕ). getD l (recordAt k + i) 0) put-is
-        ∙ over-in (recordAt k) (recordAt k + stride) (λ w. getD theRecord (w - recordAt k) 0) moved (recordAt k + i) (omega arith) (omega arith) (omega (arith, length-moved, k-le))
-        ∙ ap (λ (j : ℕ). getD theRecord j 0) e ∙ new-record i h
+module _ (n more k : ℕ) (s : List ℕ) where
+  abbrev owned : ℕ → ℕ
+  owned w = ownerWith n more k (w - ownerAt 0) (getD s w 0)
 
-    put-high : (w : ℕ) → recordAt k + stride ≤ w → getD put w 0 ≡ getD moved w 0
-    put-high w h = ap (λ (l : List ℕ). getD l w 0) put-is ∙ over-above (recordAt k) (recordAt k + stride) (λ w. getD theRecord (w - recordAt k) 0) moved w h
+  length-owners : length (ownersPut n more k s) ≡ length s
+  unfolding ownersPut
+  length-owners = length-over (ownerAt 0) (ownerAt maxPositions) owned s
 
-    -- outside the records nothing changes
-    put-out : (w : ℕ) → Out (recordAt 0) (recordAt maxRules) w → getD put w 0 ≡ getD t w 0
-    put-out w o =
-        side (recordAt 0) (recordAt maxRules) w (λ h. put-low w (omega arith) ∙ masked-low w h) (λ x y. absurd (o x y))
-        (λ h. put-high w (omega (arith, k-le)) ∙ moved-high w (omega arith) ∙ masked-high w (omega arith))
+  owners-out : (w : ℕ) → Out (ownerAt 0) (ownerAt maxPositions) w → getD (ownersPut n more k s) w 0 ≡ getD s w 0
+  unfolding ownersPut
+  owners-out w o = over-out (ownerAt 0) (ownerAt maxPositions) owned s w o
 
-    -- and the records are the defined ones, but for the new sets
-    put-record : (a i : ℕ) → a < maxRules → i < stride → (a ≡ k → i < 4) → getD put (recordAt a + i) 0 ≡ recordWords t id flags parts a i
-    unfolding recordWords
-    put-record a i h l plain = go (decLt a k) (decLt k a) (decLt (rulesOf t) a)
-      where
-        go : Dec (a < k) → Dec (k < a) → Dec (rulesOf t < a) → getD put (recordAt a + i) 0 ≡ recordWords t id flags parts a i
-        go (yes p) q r = rw (lt-ltb a k p) (put-low (recordAt a + i) (omega arith) ∙ masked-in a i (omega (arith, k-le)) l)
-        go (no p) (no q) r =
-            let e : a ≡ k = omega arith in
-            rw (le-ltb a k (omega arith), eq-eqb a k e) (ap (λ (j : ℕ). getD put (recordAt j + i) 0) e ∙ put-here i (plain e))
-        go (no p) (yes q) (no r) =
-            let e : recordAt a + i - stride ≡ recordAt (a - 1) + i = omega arith in
-            rw (le-ltb a k (omega arith), ne-eqb a k (λ z. omega arith), le-leb a (rulesOf t) (omega arith))
-            (put-high (recordAt a + i) (omega arith) ∙ moved-in (recordAt a + i) (omega arith) (omega arith)
-            ∙ ap (λ (j : ℕ). getD masked j 0) e ∙ masked-in (a - 1) i (omega arith) l)
-        go (no p) (yes q) (yes r) =
-            rw (le-ltb a k (omega arith), ne-eqb a k (λ z. omega arith), lt-leb a (rulesOf t) r)
-            (put-high (recordAt a + i) (omega arith) ∙ moved-high (recordAt a + i) (omega arith) ∙ masked-high (recordAt a + i) (omega arith))
+  owners-in : tableWords ≤ length s → (w : ℕ) → ownerAt 0 ≤ w → w < ownerAt maxPositions → getD (ownersPut n more k s) w 0 ≡ ownerWith n more k (w - ownerAt 0) (getD s w 0)
+  unfolding ownersPut
+  owners-in m w h l = over-in (ownerAt 0) (ownerAt maxPositions) owned s w h l (omega arith)
+
+-- ---- the openers
+
+module _ (s : List ℕ) where
+  abbrev opened : ℕ → ℕ
+  opened w = openerOf s (w - openerAt 0)
+
+  length-openers : length (openersPut s) ≡ length s
+  unfolding openersPut
+  length-openers = length-over (openerAt 0) (openerAt bytes) opened s
+
+  openers-out : (w : ℕ) → Out (openerAt 0) (openerAt bytes) w → getD (openersPut s) w 0 ≡ getD s w 0
+  unfolding openersPut
+  openers-out w o = over-out (openerAt 0) (openerAt bytes) opened s w o
+
+  openers-in : tableWords ≤ length s → (w : ℕ) → openerAt 0 ≤ w → w < openerAt bytes → getD (openersPut s) w 0 ≡ openerOf s (w - openerAt 0)
+  unfolding openersPut
+  openers-in m w h l = over-in (openerAt 0) (openerAt bytes) opened s w h l (omega arith)
+
+-- ---- the positions that wait for the next byte
+
+module _ (s : List ℕ) where
+  length-lates : length (latesPut s) ≡ length s
+  unfolding latesPut
+  length-lates = length-over latesAt (latesAt + 4) (λ w. getD (lateSet s) (w - latesAt) 0) s
+
+  lates-out : (w : ℕ) → Out latesAt (latesAt + 4) w → getD (latesPut s) w 0 ≡ getD s w 0
+  unfolding latesPut
+  lates-out w o = over-out latesAt (latesAt + 4) (λ w. getD (lateSet s) (w - latesAt) 0) s w o
+
+  lates-in : tableWords ≤ length s → (w : ℕ) → latesAt ≤ w → w < latesAt + 4 → getD (latesPut s) w 0 ≡ getD (lateSet s) (w - latesAt) 0
+  unfolding latesPut
+  lates-in m w h l = over-in latesAt (latesAt + 4) (λ w. getD (lateSet s) (w - latesAt) 0) s w h l (omega arith)
 
 -- ---- follow sets as the definition has them, where the words before were the table's
 
@@ -259,11 +278,21 @@ module _ (t : List ℕ) (id flags : ℕ) (parts : ℕ → Parts) (even : (g : �
   place-few : place < maxRules
   place-few = omega (arith, place-le t id)
 
+  abbrev single : Bool
+  single = eqb (flags / 8 % 2) 1
+
+  -- the id, its digit, the owners
+  abbrev a1 : List ℕ
+  a1 = idPut (rulesOf t) place id t
+
+  abbrev a2 : List ℕ
+  a2 = singlesPut place single a1
+
   abbrev s1 : List ℕ
-  s1 = recordPut (rulesOf t) n (theRecord t id flags parts) t
+  s1 = ownersPut n more place a2
 
   abbrev before : ℕ → List ℕ
-  before g = gapsPut g n place parts s1
+  before g = gapsPut g n parts s1
 
   abbrev s2 : List ℕ
   s2 = before firstGaps
@@ -272,163 +301,267 @@ module _ (t : List ℕ) (id flags : ℕ) (parts : ℕ → Parts) (even : (g : �
   s3 = takersPut n (parts 0 .takes) more s2
 
   abbrev s4 : List ℕ
-  s4 = countsPut (rulesOf t + 1) (n + more) s3
+  s4 = openersPut s3
+
+  abbrev s5 : List ℕ
+  s5 = latesPut s4
+
+  abbrev s6 : List ℕ
+  s6 = countsPut (rulesOf t + 1) (n + more) s5
 
   rooms : (g : ℕ) → n + parts g .positions ≤ maxPositions
   rooms g = omega (arith, even g)
 
+  length-a1 : length a1 ≡ length t
+  length-a1 = length-put t id flags parts long few
+
+  length-a2 : length a2 ≡ length t
+  length-a2 = length-singles place single a1 ∙ length-a1
+
   length-1 : length s1 ≡ length t
-  length-1 = length-put t id flags parts long few
+  length-1 = length-owners n more place a2 ∙ length-a2
 
   length-before : (g : ℕ) → length (before g) ≡ length t
-  length-before g = length-gaps n place parts rooms s1 g ∙ length-1
+  length-before g = length-gaps n parts rooms s1 g ∙ length-1
 
   length-3 : length s3 ≡ length t
   length-3 = length-takers n (parts 0 .takes) more s2 ∙ length-before firstGaps
 
-  -- the regions of the gaps as the later writers leave them
-  after-gaps : (w : ℕ) → 3 ≤ w → Out (takersAt 0) (takersAt bytes) w → getD s4 w 0 ≡ getD s2 w 0
-  after-gaps w h o = counts-high (rulesOf t + 1) (n + more) s3 w h ∙ takers-out n (parts 0 .takes) more s2 w o
+  length-4 : length s4 ≡ length t
+  length-4 = length-openers s3 ∙ length-3
+
+  length-5 : length s5 ≡ length t
+  length-5 = length-lates s4 ∙ length-4
+
+  -- the regions as the later writers leave them
+  after-openers : (w : ℕ) → 3 ≤ w → Out latesAt (latesAt + 4) w → getD s6 w 0 ≡ getD s4 w 0
+  after-openers w h e = counts-high (rulesOf t + 1) (n + more) s5 w h ∙ lates-out s4 w e
+
+  after-takers : (w : ℕ) → 3 ≤ w → Out latesAt (latesAt + 4) w → Out (openerAt 0) (openerAt bytes) w → getD s6 w 0 ≡ getD s3 w 0
+  after-takers w h e o = after-openers w h e ∙ openers-out s3 w o
+
+  after-gaps : (w : ℕ) → 3 ≤ w → Out latesAt (latesAt + 4) w → Out (openerAt 0) (openerAt bytes) w → Out (takersAt 0) (takersAt bytes) w → getD s6 w 0 ≡ getD s2 w 0
+  after-gaps w h e o p = after-takers w h e o ∙ takers-out n (parts 0 .takes) more s2 w p
 
   -- the word of a gap, and what it was before
-  at-gap : (g w : ℕ) → g < firstGaps → ((h : ℕ) → g < h → h < firstGaps → Free n place h w) → getD s2 w 0 ≡ getD (gapPut g n place (parts g) (before g)) w 0
-  at-gap = gaps-at n place parts rooms s1 firstGaps
+  at-gap : (g w : ℕ) → g < firstGaps → ((h : ℕ) → g < h → h < firstGaps → Free n h w) → getD s2 w 0 ≡ getD (gapPut g n (parts g) (before g)) w 0
+  at-gap = gaps-at n parts rooms s1 firstGaps
 
-  was : (g w : ℕ) → ((h : ℕ) → h < g → Free n place h w) → Out (recordAt 0) (recordAt maxRules) w → getD (before g) w 0 ≡ getD t w 0
-  was g w o p = gaps-out n place parts rooms s1 g w o ∙ put-out t id flags parts long few w p
+  -- a word that the rule's place does not touch
+  still : (w : ℕ) → Out (idAt 0) (idAt maxRules) w → Out 3 4 w → Out (ownerAt 0) (ownerAt maxPositions) w → getD s1 w 0 ≡ getD t w 0
+  still w i d o = owners-out n more place a2 w o ∙ singles-out place single a1 w d ∙ put-out t id flags parts long few w i
 
-  -- ---- the sets of first positions
+  was : (g w : ℕ) → ((h : ℕ) → h < g → Free n h w) → Out (idAt 0) (idAt maxRules) w → Out 3 4 w → Out (ownerAt 0) (ownerAt maxPositions) w → getD (before g) w 0 ≡ getD t w 0
+  was g w f i d o = gaps-out n parts rooms s1 g w f ∙ still w i d o
+
+  -- ---- the sets of first positions, and of last ones
 
   first-in : (g i : ℕ) → g < firstGaps → i < 4 → getD s2 (firstAt g + i) 0 ≡ firstWords t id flags parts g i
   unfolding firstWords joinedRow oldRow mergedRow
   first-in g i h l =
       at-gap g (firstAt g + i) h (λ j x y. (λ a b. omega arith, λ c a b. omega arith, λ c a b. omega arith))
-      ∙ gap-first n place g (parts g) (rooms g) (before g) (omega (arith, length-before g)) h i l
+      ∙ gap-first n g (parts g) (rooms g) (before g) (omega (arith, length-before g)) h i l
       ∙ ap (λ (r : List ℕ). getD r i 0)
       (merged-same (before g) t (firstAt g) n (parts g .first)
-      (λ j x. was g (firstAt g + j) (λ m y. (λ a b. omega arith, λ c a b. omega arith, λ c a b. omega arith)) (λ a b. omega arith)))
+      (λ j x. was g (firstAt g + j) (λ m y. (λ a b. omega arith, λ c a b. omega arith, λ c a b. omega arith)) (λ a b. omega arith) (λ a b. omega arith) (λ a b. omega arith)))
 
-  -- ---- the records
-
-  record-in : (a i : ℕ) → a < maxRules → i < stride → getD s2 (recordAt a + i) 0 ≡ recordWords t id flags parts a i
-  unfolding recordWords
-  record-in a i h l = go (decLt a place) (decLt place a) (decLt i 4)
-    where
-      -- no set of a gap is there
-      apart : ((g : ℕ) → g < lastGaps → Out (lastAt place g) (lastAt place g + 4) (recordAt a + i)) → (a ≡ place → i < 4) → getD s2 (recordAt a + i) 0 ≡ recordWords t id flags parts a i
-      apart o p =
-          gaps-out n place parts rooms s1 firstGaps (recordAt a + i) (λ g x. (λ b c. omega arith, o g, λ d b c. omega arith))
-          ∙ put-record t id flags parts long few a i h l p
-
-      go : Dec (a < place) → Dec (place < a) → Dec (i < 4) → getD s2 (recordAt a + i) 0 ≡ recordWords t id flags parts a i
-      go (yes p) q r = apart (λ g x b c. omega arith) (λ e. omega arith)
-      go (no p) (yes q) r = apart (λ g x b c. omega arith) (λ e. omega arith)
-      go (no p) (no q) (yes r) = apart (λ g x b c. omega arith) (λ e. r)
-      go (no p) (no q) (no r) =
-          let g = (i - 4) / 4 in
-          let j = (i - 4) % 4 in
-          let e : recordAt a + i ≡ lastAt place ((i - 4) / 4) + (i - 4) % 4 = omega arith in
-          rw (le-ltb a place (omega arith), eq-eqb a place (omega arith))
-          (ap (λ (w : ℕ). getD s2 w 0) e
-          ∙ at-gap g (lastAt place g + j) (omega arith) (λ m x y. (λ b c. omega arith, λ d b c. omega arith, λ d b c. omega arith))
-          ∙ gap-last n place g (parts g) (rooms g) (before g) (omega (arith, length-before g)) (omega arith) (omega arith) place-few j (omega arith)
-          ∙ sym (new-set t id flags parts i (omega arith)))
+  last-in : (g i : ℕ) → g < lastGaps → i < 4 → getD s2 (lastAt g + i) 0 ≡ lastWords t id flags parts g i
+  unfolding lastWords joinedRow oldRow mergedRow
+  last-in g i h l =
+      at-gap g (lastAt g + i) (omega arith) (λ j x y. (λ a b. omega arith, λ c a b. omega arith, λ c a b. omega arith))
+      ∙ gap-last n g (parts g) (rooms g) (before g) (omega (arith, length-before g)) (omega arith) h i l
+      ∙ ap (λ (r : List ℕ). getD r i 0)
+      (merged-same (before g) t (lastAt g) n (parts g .last)
+      (λ j x. was g (lastAt g + j) (λ m y. (λ a b. omega arith, λ c a b. omega arith, λ c a b. omega arith)) (λ a b. omega arith) (λ a b. omega arith) (λ a b. omega arith)))
 
   -- ---- the follow sets
 
   follow-in : (g p i : ℕ) → g < followGaps → p < maxPositions → i < 4 → getD s2 (followAt g p + i) 0 ≡ followWords t id flags parts g p i
   follow-in g p i h m l =
-      at-gap g (followAt g p + i) (omega arith) (λ j x y. (λ a b. omega arith, λ c a b. omega (arith, place-few), λ c a b. omega arith))
-      ∙ gap-follow n place g (parts g) (rooms g) (before g) h (followAt g p + i)
-      ∙ follow-made t id flags parts even room g h (withLast n place g (parts g) (rooms g) (before g)) (omega (arith, length-last n place g (parts g) (rooms g) (before g), length-before g))
+      at-gap g (followAt g p + i) (omega arith) (λ j x y. (λ a b. omega arith, λ c a b. omega arith, λ c a b. omega arith))
+      ∙ gap-follow n g (parts g) (rooms g) (before g) h (followAt g p + i)
+      ∙ follow-made t id flags parts even room g h (withLast n g (parts g) (rooms g) (before g)) (omega (arith, length-last n g (parts g) (rooms g) (before g), length-before g))
       (λ w x y.
-      last-out n place g (parts g) (rooms g) (before g) w (λ c a b. omega (arith, place-few)) ∙ first-out n place g (parts g) (rooms g) (before g) w (λ a b. omega arith)
-      ∙ was g w (λ j z. (λ a b. omega arith, λ c a b. omega (arith, place-few), λ c a b. omega arith)) (λ a b. omega arith)) p i m l
+      last-out n g (parts g) (rooms g) (before g) w (λ c a b. omega arith) ∙ first-out n g (parts g) (rooms g) (before g) w (λ a b. omega arith)
+      ∙ was g w (λ j z. (λ a b. omega arith, λ c a b. omega arith, λ c a b. omega arith)) (λ a b. omega arith) (λ a b. omega arith) (λ a b. omega arith)) p i m l
 
   -- ---- a word by its region
 
-  first-word : (w : ℕ) → firstAt 0 ≤ w → w < firstAt firstGaps → getD s4 w 0 ≡ addedWord t id flags parts w
+  last-word : (w : ℕ) → lastAt 0 ≤ w → w < lastAt lastGaps → getD s6 w 0 ≡ addedWord t id flags parts w
+  last-word w h l =
+      let e : w ≡ lastAt ((w - lastAt 0) / 4) + (w - lastAt 0) % 4 = omega arith in
+      after-gaps w (omega arith) (λ a b. omega arith) (λ a b. omega arith) (λ a b. omega arith) ∙ ap (λ (j : ℕ). getD s2 j 0) e
+      ∙ last-in ((w - lastAt 0) / 4) ((w - lastAt 0) % 4) (omega arith) (omega arith) ∙ sym (word-last t id flags parts w h l)
+
+  first-word : (w : ℕ) → firstAt 0 ≤ w → w < firstAt firstGaps → getD s6 w 0 ≡ addedWord t id flags parts w
   first-word w h l =
       let e : w ≡ firstAt ((w - firstAt 0) / 4) + (w - firstAt 0) % 4 = omega arith in
-      after-gaps w (omega arith) (λ a b. omega arith) ∙ ap (λ (j : ℕ). getD s2 j 0) e
+      after-gaps w (omega arith) (λ a b. omega arith) (λ a b. omega arith) (λ a b. omega arith) ∙ ap (λ (j : ℕ). getD s2 j 0) e
       ∙ first-in ((w - firstAt 0) / 4) ((w - firstAt 0) % 4) (omega arith) (omega arith) ∙ sym (word-first t id flags parts w h l)
 
-  record-word : (w : ℕ) → recordAt 0 ≤ w → w < recordAt maxRules → getD s4 w 0 ≡ addedWord t id flags parts w
-  record-word w h l =
-      let e : w ≡ recordAt ((w - recordAt 0) / stride) + (w - recordAt 0) % stride = omega arith in
-      after-gaps w (omega arith) (λ a b. omega arith) ∙ ap (λ (j : ℕ). getD s2 j 0) e
-      ∙ record-in ((w - recordAt 0) / stride) ((w - recordAt 0) % stride) (omega arith) (omega arith) ∙ sym (word-record t id flags parts w h l)
+  -- a word that no gap has
+  no-gap : (w : ℕ) → Out (firstAt 0) (firstAt firstGaps) w → Out (lastAt 0) (lastAt lastGaps) w → Out (followAt 0 0) (followAt followGaps 0) w → getD s2 w 0 ≡ getD s1 w 0
+  no-gap w f r g =
+      gaps-out n parts rooms s1 firstGaps w
+      (λ h x. (λ a b. f (omega arith) (omega arith), λ c a b. r (omega arith) (omega arith), λ c a b. g (omega arith) (omega arith)))
 
-  follow-word : (w : ℕ) → followAt 0 0 ≤ w → w < followAt followGaps 0 → getD s4 w 0 ≡ addedWord t id flags parts w
+  id-word : (w : ℕ) → idAt 0 ≤ w → w < idAt maxRules → getD s6 w 0 ≡ addedWord t id flags parts w
+  id-word w h l =
+      let e : w ≡ idAt (w - idAt 0) = omega arith in
+      after-gaps w (omega arith) (λ a b. omega arith) (λ a b. omega arith) (λ a b. omega arith) ∙ no-gap w (λ a b. omega arith) (λ a b. omega arith) (λ a b. omega arith)
+      ∙ owners-out n more place a2 w (λ a b. omega arith) ∙ singles-out place single a1 w (λ a b. omega arith)
+      ∙ ap (λ (j : ℕ). getD a1 j 0) e ∙ put-id t id flags parts long few (w - idAt 0) (omega arith) ∙ sym (word-id t id flags parts w h l)
+
+  owner-word : (w : ℕ) → ownerAt 0 ≤ w → w < ownerAt maxPositions → getD s6 w 0 ≡ addedWord t id flags parts w
+  unfolding ownerWords
+  owner-word w h l =
+      let e : w ≡ ownerAt (w - ownerAt 0) = omega arith in
+      after-gaps w (omega arith) (λ a b. omega arith) (λ a b. omega arith) (λ a b. omega arith) ∙ no-gap w (λ a b. omega arith) (λ a b. omega arith) (λ a b. omega arith)
+      ∙ owners-in n more place a2 (omega (arith, length-a2)) w h l
+      ∙ ap (ownerWith n more place (w - ownerAt 0))
+      (singles-out place single a1 w (λ a b. omega arith) ∙ put-out t id flags parts long few w (λ a b. omega arith) ∙ ap (λ (j : ℕ). getD t j 0) e)
+      ∙ sym (word-owner t id flags parts w h l)
+
+  follow-word : (w : ℕ) → followAt 0 0 ≤ w → w < followAt followGaps 0 → getD s6 w 0 ≡ addedWord t id flags parts w
   follow-word w h l =
       let e : w ≡ followAt ((w - followAt 0 0) / 1024) ((w - followAt 0 0) % 1024 / 4) + (w - followAt 0 0) % 4 = omega arith in
-      after-gaps w (omega arith) (λ a b. omega arith) ∙ ap (λ (j : ℕ). getD s2 j 0) e
+      after-gaps w (omega arith) (λ a b. omega arith) (λ a b. omega arith) (λ a b. omega arith) ∙ ap (λ (j : ℕ). getD s2 j 0) e
       ∙ follow-in ((w - followAt 0 0) / 1024) ((w - followAt 0 0) % 1024 / 4) ((w - followAt 0 0) % 4) (omega arith) (omega arith) (omega arith)
       ∙ sym (word-follow t id flags parts w h l)
 
-  -- a word that no gap and no record has
-  kept-word : (w : ℕ) → Out (firstAt 0) (firstAt firstGaps) w → Out (recordAt 0) (recordAt maxRules) w → Out (followAt 0 0) (followAt followGaps 0) w → getD s2 w 0 ≡ getD t w 0
-  kept-word w f r g =
-      was firstGaps w
-      (λ h x. (λ a b. f (omega arith) (omega arith), λ c a b. r (omega arith) (omega (arith, place-few)), λ c a b. g (omega arith) (omega arith))) r
-
-  takers-word : (w : ℕ) → takersAt 0 ≤ w → w < takersAt bytes → getD s4 w 0 ≡ addedWord t id flags parts w
+  taker-in : (x i : ℕ) → x < bytes → i < 4 → getD s3 (takersAt x + i) 0 ≡ takersWords t id flags parts x i
   unfolding takersWords newTaker oldRow newTakers
-  takers-word w h l =
-      counts-high (rulesOf t + 1) (n + more) s3 w (omega arith) ∙ ap (λ (j : ℕ). getD s3 j 0) e
-      ∙ takers-in n (parts 0 .takes) more s2 (omega (arith, length-before firstGaps)) x i (omega arith) (omega arith)
+  taker-in x i h l =
+      takers-in n (parts 0 .takes) more s2 (omega (arith, length-before firstGaps)) x i h l
       ∙ ap (λ (r : List ℕ). getD r i 0)
-      (merged-same s2 t (takersAt x) n (newTakers (parts 0 .takes) n more x) (λ j k. kept-word (takersAt x + j) (λ a b. omega arith) (λ a b. omega arith) (λ a b. omega arith))
+      (merged-same s2 t (takersAt x) n (newTakers (parts 0 .takes) n more x)
+      (λ j k. no-gap (takersAt x + j) (λ a b. omega arith) (λ a b. omega arith) (λ a b. omega arith) ∙ still (takersAt x + j) (λ a b. omega arith) (λ a b. omega arith) (λ a b. omega arith))
       ∙ merged-new t (takersAt x) n (newTaker t id flags parts x))
-      ∙ sym (word-takers t id flags parts w h l)
+
+  takers-word : (w : ℕ) → takersAt 0 ≤ w → w < takersAt bytes → getD s6 w 0 ≡ addedWord t id flags parts w
+  takers-word w h l =
+      let e : w ≡ takersAt ((w - takersAt 0) / 4) + (w - takersAt 0) % 4 = omega arith in
+      after-takers w (omega arith) (λ a b. omega arith) (λ a b. omega arith) ∙ ap (λ (j : ℕ). getD s3 j 0) e
+      ∙ taker-in ((w - takersAt 0) / 4) ((w - takersAt 0) % 4) (omega arith) (omega arith) ∙ sym (word-takers t id flags parts w h l)
+
+  -- a set of last positions, read from its four words
+  last-row-of : (g q : ℕ) → g < lastGaps → q < maxPositions → ((i : ℕ) → g < lastGaps → i < 4 → getD s4 (lastAt g + i) 0 ≡ lastWords t id flags parts g i)
+      → rowHas s4 (lastAt g) q ≡ (oldRow t (lastAt g) q || has (parts g .last) q)
+  unfolding lastWords joinedRow
+  last-row-of g q h l e = row-set s4 (lastAt g) (λ q. oldRow t (lastAt g) q || has (parts g .last) q) (λ i m. e i h m) q l
+
+  -- the openers read the sets of the takers and of the first positions, which are written by then
+  opener-in : (x : ℕ) → x < bytes → openerOf s3 x ≡ opener t id flags parts x
+  unfolding openerOf opener takersWords firstWords joinedRow
+  opener-in x h =
+      ap asOne (any-ext maxPositions _ _ (λ q l. ap₂ (λ (b c : Bool). b && c)
+      (row-set s3 (takersAt x) (λ q. oldRow t (takersAt x) q || newTaker t id flags parts x q) (λ i m. taker-in x i h m) q l)
+      (any-ext innerGaps _ _ (λ g m.
+      row-set s3 (firstAt g) (λ q. oldRow t (firstAt g) q || has (parts g .first) q)
+      (λ i k. takers-out n (parts 0 .takes) more s2 (firstAt g + i) (λ a b. omega arith) ∙ first-in g i (omega arith) k) q l))))
+
+  opener-word : (w : ℕ) → openerAt 0 ≤ w → w < openerAt bytes → getD s6 w 0 ≡ addedWord t id flags parts w
+  opener-word w h l =
+      after-openers w (omega arith) (λ a b. omega arith) ∙ openers-in s3 (omega (arith, length-3)) w h l
+      ∙ opener-in (w - openerAt 0) (omega arith) ∙ sym (word-opener t id flags parts w h l)
+
+  -- so do the positions that wait for the next byte, of the last ones
+  late-in : lateSet s4 ≡ setOf (λ q. any innerGaps (λ g. oldRow t (lastAt g) q || has (parts g .last) q) && not (oldRow t (lastAt unsettled) q || has (parts unsettled .last) q))
+  unfolding lateSet
+  late-in = setOf-ext _ _ (λ q l. ap₂ (λ (b c : Bool). b && not c) (any-ext innerGaps _ _ (λ g m. ending g q (omega arith) l)) (ending unsettled q (omega arith) l))
     where
-      x : ℕ
-      x = (w - takersAt 0) / 4
+      still-last : (g i : ℕ) → g < lastGaps → i < 4 → getD s4 (lastAt g + i) 0 ≡ lastWords t id flags parts g i
+      still-last g i h l =
+          openers-out s3 (lastAt g + i) (λ a b. omega arith) ∙ takers-out n (parts 0 .takes) more s2 (lastAt g + i) (λ a b. omega arith) ∙ last-in g i h l
 
-      i : ℕ
-      i = (w - takersAt 0) % 4
+      ending : (g q : ℕ) → g < lastGaps → q < maxPositions → rowHas s4 (lastAt g) q ≡ (oldRow t (lastAt g) q || has (parts g .last) q)
+      ending g q h l = last-row-of g q h l (λ i h m. still-last g i h m)
 
-      e : w ≡ takersAt x + i
-      e = omega arith
+  late-word : (w : ℕ) → latesAt ≤ w → w < latesAt + 4 → getD s6 w 0 ≡ addedWord t id flags parts w
+  unfolding lateWords
+  late-word w h l =
+      counts-high (rulesOf t + 1) (n + more) s5 w (omega arith) ∙ lates-in s4 (omega (arith, length-4)) w h l
+      ∙ ap (λ (s : List ℕ). getD s (w - latesAt) 0) late-in ∙ sym (word-late t id flags parts w h l)
 
-  header-word : (w : ℕ) → w < 3 → getD s4 w 0 ≡ addedWord t id flags parts w
-  unfolding addedWord
+  header-word : (w : ℕ) → w < 4 → getD s6 w 0 ≡ addedWord t id flags parts w
+  unfolding addedWord singlesWord
   header-word zero h =
-      counts-low (rulesOf t + 1) (n + more) s3 ∙ takers-out n (parts 0 .takes) more s2 0 (λ a b. omega arith)
-      ∙ kept-word 0 (λ a b. omega arith) (λ a b. omega arith) (λ a b. omega arith)
-  header-word (suc zero) h = counts-rules (rulesOf t + 1) (n + more) s3 (omega (arith, length-3))
-  header-word (suc (suc zero)) h = counts-positions (rulesOf t + 1) (n + more) s3 (omega (arith, length-3))
-  header-word (suc (suc (suc w))) h = absurd (omega arith)
+      counts-low (rulesOf t + 1) (n + more) s5 ∙ lates-out s4 0 (λ a b. omega arith) ∙ openers-out s3 0 (λ a b. omega arith) ∙ takers-out n (parts 0 .takes) more s2 0 (λ a b. omega arith)
+      ∙ no-gap 0 (λ a b. omega arith) (λ a b. omega arith) (λ a b. omega arith) ∙ still 0 (λ a b. omega arith) (λ a b. omega arith) (λ a b. omega arith)
+  header-word (suc zero) h = counts-rules (rulesOf t + 1) (n + more) s5 (omega (arith, length-5))
+  header-word (suc (suc zero)) h = counts-positions (rulesOf t + 1) (n + more) s5 (omega (arith, length-5))
+  header-word (suc (suc (suc zero))) h =
+      after-gaps 3 (omega arith) (λ a b. omega arith) (λ a b. omega arith) (λ a b. omega arith) ∙ no-gap 3 (λ a b. omega arith) (λ a b. omega arith) (λ a b. omega arith)
+      ∙ owners-out n more place a2 3 (λ a b. omega arith) ∙ singles-in place single a1 (omega (arith, length-a1))
+      ∙ ap (singlesWith place single) (put-out t id flags parts long few 3 (λ a b. omega arith))
+  header-word (suc (suc (suc (suc w)))) h = absurd (omega arith)
 
-  -- a word of no region stays
-  no-region : (w : ℕ) → Out 0 3 w → Out (firstAt 0) (firstAt firstGaps) w → Out (recordAt 0) (recordAt maxRules) w → Out (takersAt 0) (takersAt bytes) w
-      → Out (followAt 0 0) (followAt followGaps 0) w → getD t w 0 ≡ addedWord t id flags parts w
-  no-region w h f r k g =
-      sym (word-other t id flags parts w (ne-eqb w 1 (λ z. h (omega arith) (omega arith))) (ne-eqb w 2 (λ z. h (omega arith) (omega arith)))
-      (from-to-out (firstAt 0) (firstAt firstGaps) w f) (from-to-out (recordAt 0) (recordAt maxRules) w r)
-      (from-to-out (takersAt 0) (takersAt bytes) w k) (from-to-out (followAt 0 0) (followAt followGaps 0) w g))
+  -- no region has word w
+  pub record Nowhere (w : ℕ) : Type 0 where
+    pub header : Out 0 4 w
+    pub lasts : Out (lastAt 0) (lastAt lastGaps) w
+    pub lates : Out latesAt (latesAt + 4) w
+    pub firsts : Out (firstAt 0) (firstAt firstGaps) w
+    pub ids : Out (idAt 0) (idAt maxRules) w
+    pub openers : Out (openerAt 0) (openerAt bytes) w
+    pub owners : Out (ownerAt 0) (ownerAt maxPositions) w
+    pub takers : Out (takersAt 0) (takersAt bytes) w
+    pub follows : Out (followAt 0 0) (followAt followGaps 0) w
 
-  plain-word : (w : ℕ) → Out 0 3 w → Out (firstAt 0) (firstAt firstGaps) w → Out (recordAt 0) (recordAt maxRules) w → Out (takersAt 0) (takersAt bytes) w
-      → Out (followAt 0 0) (followAt followGaps 0) w → getD s4 w 0 ≡ addedWord t id flags parts w
-  plain-word w h f r k g = side 0 3 w (λ a. absurd (omega arith)) (λ a b. absurd (h a b)) (λ a. after-gaps w a k) ∙ kept-word w f r g ∙ no-region w h f r k g
+  -- it stays
+  no-region : (w : ℕ) → Nowhere w → getD t w 0 ≡ addedWord t id flags parts w
+  no-region w o =
+      sym (word-other t id flags parts w (record {
+        rules = ne-eqb w 1 (λ z. o .header (omega arith) (omega arith));
+        positions = ne-eqb w 2 (λ z. o .header (omega arith) (omega arith));
+        singles = ne-eqb w 3 (λ z. o .header (omega arith) (omega arith));
+        last = from-to-out (lastAt 0) (lastAt lastGaps) w (o .lasts);
+        late = from-to-out latesAt (latesAt + 4) w (o .lates);
+        first = from-to-out (firstAt 0) (firstAt firstGaps) w (o .firsts);
+        ids = from-to-out (idAt 0) (idAt maxRules) w (o .ids);
+        opener = from-to-out (openerAt 0) (openerAt bytes) w (o .openers);
+        owner = from-to-out (ownerAt 0) (ownerAt maxPositions) w (o .owners);
+        takers = from-to-out (takersAt 0) (takersAt bytes) w (o .takers);
+        follow = from-to-out (followAt 0 0) (followAt followGaps 0) w (o .follows);
+      }))
 
-  word-is : (w : ℕ) → getD s4 w 0 ≡ addedWord t id flags parts w
+  plain-word : (w : ℕ) → Nowhere w → getD s6 w 0 ≡ addedWord t id flags parts w
+  plain-word w o =
+      side 0 4 w (λ a. absurd (omega arith)) (λ a b. absurd (o .header a b)) (λ a. after-gaps w (omega arith) (o .lates) (o .openers) (o .takers))
+      ∙ no-gap w (o .firsts) (o .lasts) (o .follows) ∙ still w (o .ids) (λ a b. o .header (omega arith) (omega arith)) (o .owners) ∙ no-region w o
+
+  word-is : (w : ℕ) → getD s6 w 0 ≡ addedWord t id flags parts w
   word-is w =
-      split 0 3 w (λ a b. header-word w b)
-      (λ h. split (firstAt 0) (firstAt firstGaps) w (first-word w)
-      (λ f. split (recordAt 0) (recordAt maxRules) w (record-word w)
-      (λ r. split (takersAt 0) (takersAt bytes) w (takers-word w)
+      split 0 4 w (λ a b. header-word w b)
+      (λ h. split (lastAt 0) (lastAt lastGaps) w (last-word w)
+      (λ e. split latesAt (latesAt + 4) w (late-word w)
+      (λ d. split (firstAt 0) (firstAt firstGaps) w (first-word w)
+      (λ f. split (idAt 0) (idAt maxRules) w (id-word w)
+      (λ i. split (openerAt 0) (openerAt bytes) w (opener-word w)
+      (λ j. split (ownerAt 0) (ownerAt maxPositions) w (owner-word w)
+      (λ l. split (takersAt 0) (takersAt bytes) w (takers-word w)
       (λ k. split (followAt 0 0) (followAt followGaps 0) w (follow-word w)
-      (plain-word w h f r k)))))
+      (λ m. plain-word w (record { header = h; lasts = e; lates = d; firsts = f; ids = i; openers = j; owners = l; takers = k; follows = m }))))))))))
 
-  made : s4 ≡ added t id flags parts
+  made : s6 ≡ added t id flags parts
   made =
-      ext-getD 0 s4 (added t id flags parts) (length-counts (rulesOf t + 1) (n + more) s3 ∙ length-3 ∙ sym (length-added t id flags parts long)) (λ w h. go w (decLt w tableWords))
+      ext-getD 0 s6 (added t id flags parts) (length-counts (rulesOf t + 1) (n + more) s5 ∙ length-5 ∙ sym (length-added t id flags parts long)) (λ w h. go w (decLt w tableWords))
     where
-      go : (w : ℕ) → Dec (w < tableWords) → getD s4 w 0 ≡ getD (added t id flags parts) w 0
+      go : (w : ℕ) → Dec (w < tableWords) → getD s6 w 0 ≡ getD (added t id flags parts) w 0
       go w (yes h) = word-is w ∙ sym (added-word t id flags parts long w h)
       go w (no h) =
-          word-is w ∙ sym (no-region w (λ a b. omega arith) (λ a b. omega arith) (λ a b. omega arith) (λ a b. omega arith) (λ a b. omega arith))
+          word-is w
+          ∙ sym (no-region w (record {
+            header = λ a b. omega arith;
+            lasts = λ a b. omega arith;
+            lates = λ a b. omega arith;
+            firsts = λ a b. omega arith;
+            ids = λ a b. omega arith;
+            openers = λ a b. omega arith;
+            owners = λ a b. omega arith;
+            takers = λ a b. omega arith;
+            follows = λ a b. omega arith;
+          }))
           ∙ sym (added-beyond t id flags parts long w (omega arith))
 
 -- what `add_rule` leaves, call by call
@@ -439,15 +572,17 @@ module _ (t : List ℕ) (id flags : ℕ) (x : Syntax) (long : tableWords ≤ len
   sizes : (g : ℕ) → parts g .positions ≡ positions (write x)
   sizes g = sized-parts x (positionsOf t) (holdingAt g) room
 
-  pub added-is : (p : Parts) → p ≡ partsAt x (positionsOf t) 0 → (r a b c d : List ℕ) (k : ℕ) → r ≡ recordOf id flags (positionsOf t) (positionsOf t + p .positions)
-      → k ≡ count (rulesOf t) (smaller t (getD r 0 0)) → a ≡ recordPut (rulesOf t) (positionsOf t) r t → b ≡ gapsPut firstGaps (positionsOf t) k (partsAt x (positionsOf t)) a
-      → c ≡ takersPut (positionsOf t) (p .takes) (p .positions) b → d ≡ countsPut (rulesOf t + 1) (positionsOf t + p .positions) c
-      → d ≡ added t id flags (partsAt x (positionsOf t))
-  unfolding placeOf
-  added-is p is r a b c d k e place f g h i =
-      let new : r ≡ theRecord t id flags parts = e ∙ ap (λ (q : Parts). recordOf id flags (positionsOf t) (positionsOf t + q .positions)) is in
-      let here : k ≡ placeOf t id = place ∙ ap (λ (l : List ℕ). count (rulesOf t) (smaller t (getD l 0 0))) new in
-      i ∙ ap₂ (λ (q : Parts) (l : List ℕ). countsPut (rulesOf t + 1) (positionsOf t + q .positions) l) is
+  pub added-is : (p : Parts) → p ≡ partsAt x (positionsOf t) 0 → (single : Bool) → single ≡ eqb (flags / 8 % 2) 1 → (a b c d d' e : List ℕ)
+      → a ≡ placePut (rulesOf t) (positionsOf t) (p .positions) id single t → b ≡ gapsPut firstGaps (positionsOf t) (partsAt x (positionsOf t)) a
+      → c ≡ takersPut (positionsOf t) (p .takes) (p .positions) b → d ≡ openersPut c → d' ≡ latesPut d
+      → e ≡ countsPut (rulesOf t + 1) (positionsOf t + p .positions) d'
+      → e ≡ added t id flags (partsAt x (positionsOf t))
+  unfolding placeOf placePut
+  added-is p is single one a b c d d' e f g h i i' j =
+      let first : a ≡ placePut (rulesOf t) (positionsOf t) (parts 0 .positions) id (eqb (flags / 8 % 2) 1) t =
+      f ∙ ap₂ (λ (q : Parts) (s : Bool). placePut (rulesOf t) (positionsOf t) (q .positions) id s t) is one in
+      j ∙ ap₂ (λ (q : Parts) (l : List ℕ). countsPut (rulesOf t + 1) (positionsOf t + q .positions) l) is
+      (i' ∙ ap latesPut (i ∙ ap openersPut
       (h ∙ ap₂ (λ (q : Parts) (l : List ℕ). takersPut (positionsOf t) (q .takes) (q .positions) l) is
-      (g ∙ ap₂ (λ (j : ℕ) (l : List ℕ). gapsPut firstGaps (positionsOf t) j parts l) here (f ∙ ap (λ (l : List ℕ). recordPut (rulesOf t) (positionsOf t) l t) new)))
+      (g ∙ ap (gapsPut firstGaps (positionsOf t) parts) first))))
       ∙ made t id flags parts (λ g. sizes g ∙ sym (sizes 0)) long few (omega (arith, sizes 0))

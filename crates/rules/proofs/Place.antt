@@ -11,7 +11,7 @@ use lib.Dec.{ltb}
 use borrow.Author.Tests.{lt-ltb, le-ltb, ltb-true, ltb-false}
 use Rattle.sets.specs.Set.{count, asOne}
 use Rattle.sets.proofs.Laws.{count-le}
-use Rattle.table.specs.Layout.{rulesOf, recordWord}
+use Rattle.table.specs.Layout.{rulesOf, idWord}
 use Rattle.table.proofs.Test.{Passes}
 use Rattle.rules.specs.Words.{placeOf}
 
@@ -55,19 +55,19 @@ count-below (suc n) f down a h = go (f n) refl (count-below n f (λ x y l m. dow
 module _ (t : List ℕ) (id : ℕ) where
   pub place-le : placeOf t id ≤ rulesOf t
   unfolding placeOf
-  place-le = count-le (rulesOf t) (λ a. ltb (recordWord t a 0) id)
+  place-le = count-le (rulesOf t) (λ a. ltb (idWord t a) id)
 
   module _ (p : Passes t) where
-    at : (a : ℕ) → a < rulesOf t → ltb (recordWord t a 0) id ≡ ltb a (placeOf t id)
+    at : (a : ℕ) → a < rulesOf t → ltb (idWord t a) id ≡ ltb a (placeOf t id)
     unfolding placeOf
     at a h =
-        count-below (rulesOf t) (λ a. ltb (recordWord t a 0) id)
-        (λ x y l m e. lt-ltb (recordWord t x 0) id (omega (arith, p .rising x y l m, ltb-true (recordWord t y 0) id e))) a h
+        count-below (rulesOf t) (λ a. ltb (idWord t a) id)
+        (λ x y l m e. lt-ltb (idWord t x) id (omega (arith, p .rising x y l m, ltb-true (idWord t y) id e))) a h
 
     -- ids before the place are smaller
-    pub place-before : (a : ℕ) → a < placeOf t id → recordWord t a 0 < id
-    place-before a h = ltb-true (recordWord t a 0) id (at a (omega (arith, place-le)) ∙ lt-ltb a (placeOf t id) h)
+    pub place-before : (a : ℕ) → a < placeOf t id → idWord t a < id
+    place-before a h = ltb-true (idWord t a) id (at a (omega (arith, place-le)) ∙ lt-ltb a (placeOf t id) h)
 
     -- ids from the place on are not
-    pub place-after : (a : ℕ) → placeOf t id ≤ a → a < rulesOf t → id ≤ recordWord t a 0
-    place-after a h l = ltb-false (recordWord t a 0) id (at a l ∙ le-ltb a (placeOf t id) h)
+    pub place-after : (a : ℕ) → placeOf t id ≤ a → a < rulesOf t → id ≤ idWord t a
+    place-after a h l = ltb-false (idWord t a) id (at a l ∙ le-ltb a (placeOf t id) h)

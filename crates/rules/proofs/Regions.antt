@@ -13,11 +13,11 @@ use lib.Dec.{eqb}
 use lib.ListN.{length, getD, drop, length-append, length-drop, List·getD-append}
 use lib.Seq.{getD-append-add, getD-drop, getD-at}
 use borrow.Author.Tests.{ne-eqb}
-use Rattle.table.specs.Layout.{tableWords, maxRules, maxPositions, bytes, rulesOf, positionsOf, firstAt, stride, recordAt, followAt, takersAt, from-to}
-use Rattle.table.specs.Gaps.{firstGaps, followGaps}
+use Rattle.table.specs.Layout.{tableWords, maxRules, maxPositions, bytes, rulesOf, positionsOf, singlesOf, firstAt, lastAt, latesAt, idAt, openerAt, ownerAt, followAt, takersAt, from-to}
+use Rattle.table.specs.Gaps.{firstGaps, followGaps, lastGaps}
 use Rattle.table.proofs.Over.{from-to-in, from-to-above}
 use Rattle.automaton.specs.declared.Parts.{Parts}
-use Rattle.rules.specs.Words.{wordsOf, recordWords, firstWords, followWords, takersWords, addedWord, added}
+use Rattle.rules.specs.Words.{wordsOf, idWords, singlesWord, opener, ownerWords, lastWords, lateWords, firstWords, followWords, takersWords, addedWord, added}
 
 -- ---- words by their index
 
@@ -37,36 +37,60 @@ getD-wordsOf (suc n) f w h = go (getD-wordsOf n f w) (decLt w n)
         let e : w ≡ n = omega arith in
         ap (λ (k : ℕ). getD (wordsOf n f ++ (f n ∷ [])) k 0) e ∙ getD-at (wordsOf n f) (f n) [] 0 n (length-wordsOf n f) ∙ ap f (sym e)
 
+-- no region has word w
+pub record Apart (w : ℕ) : Type 0 where
+  pub rules : eqb w 1 ≡ false
+  pub positions : eqb w 2 ≡ false
+  pub singles : eqb w 3 ≡ false
+  pub last : from-to (lastAt 0) (lastAt lastGaps) w ≡ false
+  pub late : from-to latesAt (latesAt + 4) w ≡ false
+  pub first : from-to (firstAt 0) (firstAt firstGaps) w ≡ false
+  pub ids : from-to (idAt 0) (idAt maxRules) w ≡ false
+  pub opener : from-to (openerAt 0) (openerAt bytes) w ≡ false
+  pub owner : from-to (ownerAt 0) (ownerAt maxPositions) w ≡ false
+  pub takers : from-to (takersAt 0) (takersAt bytes) w ≡ false
+  pub follow : from-to (followAt 0 0) (followAt followGaps 0) w ≡ false
+
 -- ---- the table with one rule more
 
 module _ (t : List ℕ) (id flags : ℕ) (parts : ℕ → Parts) where
   -- ---- a word by the region it lies in
 
-  pub word-other : (w : ℕ) → eqb w 1 ≡ false → eqb w 2 ≡ false
-      → from-to (firstAt 0) (firstAt firstGaps) w ≡ false
-      → from-to (recordAt 0) (recordAt maxRules) w ≡ false
-      → from-to (takersAt 0) (takersAt bytes) w ≡ false
-      → from-to (followAt 0 0) (followAt followGaps 0) w ≡ false
-      → addedWord t id flags parts w ≡ getD t w 0
+  pub word-other : (w : ℕ) → Apart w → addedWord t id flags parts w ≡ getD t w 0
   unfolding addedWord
-  word-other w a b c d e f = rw (a, b, c, d, e, f)
+  word-other w a = rw (a .rules, a .positions, a .singles, a .last, a .late, a .first, a .ids, a .opener, a .owner, a .takers, a .follow)
+
+  pub word-last : (w : ℕ) → lastAt 0 ≤ w → w < lastAt lastGaps → addedWord t id flags parts w ≡ lastWords t id flags parts ((w - lastAt 0) / 4) ((w - lastAt 0) % 4)
+  unfolding addedWord
+  word-last w h l = rw (ne-eqb w 1 (λ z. omega arith), ne-eqb w 2 (λ z. omega arith), ne-eqb w 3 (λ z. omega arith), from-to-in (lastAt 0) (lastAt lastGaps) w h l)
+
+  pub word-late : (w : ℕ) → latesAt ≤ w → w < latesAt + 4 → addedWord t id flags parts w ≡ lateWords t id flags parts (w - latesAt)
+  unfolding addedWord
+  word-late w h l = rw (ne-eqb w 1 (λ z. omega arith), ne-eqb w 2 (λ z. omega arith), ne-eqb w 3 (λ z. omega arith), from-to-above (lastAt 0) (lastAt lastGaps) w (omega arith), from-to-in latesAt (latesAt + 4) w h l)
 
   pub word-first : (w : ℕ) → firstAt 0 ≤ w → w < firstAt firstGaps → addedWord t id flags parts w ≡ firstWords t id flags parts ((w - firstAt 0) / 4) ((w - firstAt 0) % 4)
   unfolding addedWord
-  word-first w h l = rw (ne-eqb w 1 (λ z. omega arith), ne-eqb w 2 (λ z. omega arith), from-to-in (firstAt 0) (firstAt firstGaps) w h l)
+  word-first w h l = rw (ne-eqb w 1 (λ z. omega arith), ne-eqb w 2 (λ z. omega arith), ne-eqb w 3 (λ z. omega arith), from-to-above (lastAt 0) (lastAt lastGaps) w (omega arith), from-to-above latesAt (latesAt + 4) w (omega arith), from-to-in (firstAt 0) (firstAt firstGaps) w h l)
 
-  pub word-record : (w : ℕ) → recordAt 0 ≤ w → w < recordAt maxRules → addedWord t id flags parts w ≡ recordWords t id flags parts ((w - recordAt 0) / stride) ((w - recordAt 0) % stride)
+  pub word-id : (w : ℕ) → idAt 0 ≤ w → w < idAt maxRules → addedWord t id flags parts w ≡ idWords t id flags parts (w - idAt 0)
   unfolding addedWord
-  word-record w h l = rw (ne-eqb w 1 (λ z. omega arith), ne-eqb w 2 (λ z. omega arith), from-to-above (firstAt 0) (firstAt firstGaps) w (omega arith), from-to-in (recordAt 0) (recordAt maxRules) w h l)
+  word-id w h l = rw (ne-eqb w 1 (λ z. omega arith), ne-eqb w 2 (λ z. omega arith), ne-eqb w 3 (λ z. omega arith), from-to-above (lastAt 0) (lastAt lastGaps) w (omega arith), from-to-above latesAt (latesAt + 4) w (omega arith), from-to-above (firstAt 0) (firstAt firstGaps) w (omega arith), from-to-in (idAt 0) (idAt maxRules) w h l)
+
+  pub word-opener : (w : ℕ) → openerAt 0 ≤ w → w < openerAt bytes → addedWord t id flags parts w ≡ opener t id flags parts (w - openerAt 0)
+  unfolding addedWord
+  word-opener w h l = rw (ne-eqb w 1 (λ z. omega arith), ne-eqb w 2 (λ z. omega arith), ne-eqb w 3 (λ z. omega arith), from-to-above (lastAt 0) (lastAt lastGaps) w (omega arith), from-to-above latesAt (latesAt + 4) w (omega arith), from-to-above (firstAt 0) (firstAt firstGaps) w (omega arith), from-to-above (idAt 0) (idAt maxRules) w (omega arith), from-to-in (openerAt 0) (openerAt bytes) w h l)
+
+  pub word-owner : (w : ℕ) → ownerAt 0 ≤ w → w < ownerAt maxPositions → addedWord t id flags parts w ≡ ownerWords t id flags parts (w - ownerAt 0)
+  unfolding addedWord
+  word-owner w h l = rw (ne-eqb w 1 (λ z. omega arith), ne-eqb w 2 (λ z. omega arith), ne-eqb w 3 (λ z. omega arith), from-to-above (lastAt 0) (lastAt lastGaps) w (omega arith), from-to-above latesAt (latesAt + 4) w (omega arith), from-to-above (firstAt 0) (firstAt firstGaps) w (omega arith), from-to-above (idAt 0) (idAt maxRules) w (omega arith), from-to-above (openerAt 0) (openerAt bytes) w (omega arith), from-to-in (ownerAt 0) (ownerAt maxPositions) w h l)
 
   pub word-takers : (w : ℕ) → takersAt 0 ≤ w → w < takersAt bytes → addedWord t id flags parts w ≡ takersWords t id flags parts ((w - takersAt 0) / 4) ((w - takersAt 0) % 4)
   unfolding addedWord
-  word-takers w h l = rw (ne-eqb w 1 (λ z. omega arith), ne-eqb w 2 (λ z. omega arith), from-to-above (firstAt 0) (firstAt firstGaps) w (omega arith), from-to-above (recordAt 0) (recordAt maxRules) w (omega arith), from-to-in (takersAt 0) (takersAt bytes) w h l)
+  word-takers w h l = rw (ne-eqb w 1 (λ z. omega arith), ne-eqb w 2 (λ z. omega arith), ne-eqb w 3 (λ z. omega arith), from-to-above (lastAt 0) (lastAt lastGaps) w (omega arith), from-to-above latesAt (latesAt + 4) w (omega arith), from-to-above (firstAt 0) (firstAt firstGaps) w (omega arith), from-to-above (idAt 0) (idAt maxRules) w (omega arith), from-to-above (openerAt 0) (openerAt bytes) w (omega arith), from-to-above (ownerAt 0) (ownerAt maxPositions) w (omega arith), from-to-in (takersAt 0) (takersAt bytes) w h l)
 
-  pub word-follow : (w : ℕ) → followAt 0 0 ≤ w → w < followAt followGaps 0
-      → addedWord t id flags parts w ≡ followWords t id flags parts ((w - followAt 0 0) / 1024) ((w - followAt 0 0) % 1024 / 4) ((w - followAt 0 0) % 4)
+  pub word-follow : (w : ℕ) → followAt 0 0 ≤ w → w < followAt followGaps 0 → addedWord t id flags parts w ≡ followWords t id flags parts ((w - followAt 0 0) / 1024) ((w - followAt 0 0) % 1024 / 4) ((w - followAt 0 0) % 4)
   unfolding addedWord
-  word-follow w h l = rw (ne-eqb w 1 (λ z. omega arith), ne-eqb w 2 (λ z. omega arith), from-to-above (firstAt 0) (firstAt firstGaps) w (omega arith), from-to-above (recordAt 0) (recordAt maxRules) w (omega arith), from-to-above (takersAt 0) (takersAt bytes) w (omega arith), from-to-in (followAt 0 0) (followAt followGaps 0) w h l)
+  word-follow w h l = rw (ne-eqb w 1 (λ z. omega arith), ne-eqb w 2 (λ z. omega arith), ne-eqb w 3 (λ z. omega arith), from-to-above (lastAt 0) (lastAt lastGaps) w (omega arith), from-to-above latesAt (latesAt + 4) w (omega arith), from-to-above (firstAt 0) (firstAt firstGaps) w (omega arith), from-to-above (idAt 0) (idAt maxRules) w (omega arith), from-to-above (openerAt 0) (openerAt bytes) w (omega arith), from-to-above (ownerAt 0) (ownerAt maxPositions) w (omega arith), from-to-above (takersAt 0) (takersAt bytes) w (omega arith), from-to-in (followAt 0 0) (followAt followGaps 0) w h l)
 
   module _ (long : tableWords ≤ length t) where
     -- ---- the list of words
@@ -99,7 +123,9 @@ module _ (t : List ℕ) (id flags : ℕ) (parts : ℕ → Parts) where
     -- ---- the regions
 
     pub added-format : getD (added t id flags parts) 0 0 ≡ getD t 0 0
-    added-format = added-word 0 (omega arith) ∙ word-other 0 refl refl refl refl refl refl
+    added-format =
+        added-word 0 (omega arith)
+        ∙ word-other 0 (record { rules = refl; positions = refl; singles = refl; last = refl; late = refl; first = refl; ids = refl; opener = refl; owner = refl; takers = refl; follow = refl })
 
     pub added-rules : rulesOf (added t id flags parts) ≡ rulesOf t + 1
     unfolding addedWord
@@ -109,17 +135,41 @@ module _ (t : List ℕ) (id flags : ℕ) (parts : ℕ → Parts) where
     unfolding addedWord
     added-positions = added-word 2 (omega arith)
 
+    pub added-singles : singlesOf (added t id flags parts) ≡ singlesWord t id flags parts
+    unfolding addedWord
+    added-singles = added-word 3 (omega arith)
+
+    pub added-last : (g i : ℕ) → g < lastGaps → i < 4 → getD (added t id flags parts) (lastAt g + i) 0 ≡ lastWords t id flags parts g i
+    added-last g i h l =
+        let e : (lastAt g + i - lastAt 0) / 4 ≡ g = omega arith in
+        let f : (lastAt g + i - lastAt 0) % 4 ≡ i = omega arith in
+        added-word (lastAt g + i) (omega arith) ∙ word-last (lastAt g + i) (omega arith) (omega arith) ∙ ap₂ (lastWords t id flags parts) e f
+
+    pub added-late : (i : ℕ) → i < 4 → getD (added t id flags parts) (latesAt + i) 0 ≡ lateWords t id flags parts i
+    added-late i l =
+        let e : latesAt + i - latesAt ≡ i = omega arith in
+        added-word (latesAt + i) (omega arith) ∙ word-late (latesAt + i) (omega arith) (omega arith) ∙ ap (lateWords t id flags parts) e
+
     pub added-first : (g i : ℕ) → g < firstGaps → i < 4 → getD (added t id flags parts) (firstAt g + i) 0 ≡ firstWords t id flags parts g i
     added-first g i h l =
         let e : (firstAt g + i - firstAt 0) / 4 ≡ g = omega arith in
         let f : (firstAt g + i - firstAt 0) % 4 ≡ i = omega arith in
         added-word (firstAt g + i) (omega arith) ∙ word-first (firstAt g + i) (omega arith) (omega arith) ∙ ap₂ (firstWords t id flags parts) e f
 
-    pub added-record : (a i : ℕ) → a < maxRules → i < stride → getD (added t id flags parts) (recordAt a + i) 0 ≡ recordWords t id flags parts a i
-    added-record a i h l =
-        let e : (recordAt a + i - recordAt 0) / stride ≡ a = omega arith in
-        let f : (recordAt a + i - recordAt 0) % stride ≡ i = omega arith in
-        added-word (recordAt a + i) (omega arith) ∙ word-record (recordAt a + i) (omega arith) (omega arith) ∙ ap₂ (recordWords t id flags parts) e f
+    pub added-id : (a : ℕ) → a < maxRules → getD (added t id flags parts) (idAt a) 0 ≡ idWords t id flags parts a
+    added-id a h =
+        let e : idAt a - idAt 0 ≡ a = omega arith in
+        added-word (idAt a) (omega arith) ∙ word-id (idAt a) (omega arith) (omega arith) ∙ ap (idWords t id flags parts) e
+
+    pub added-opener : (a : ℕ) → a < bytes → getD (added t id flags parts) (openerAt a) 0 ≡ opener t id flags parts a
+    added-opener a h =
+        let e : openerAt a - openerAt 0 ≡ a = omega arith in
+        added-word (openerAt a) (omega arith) ∙ word-opener (openerAt a) (omega arith) (omega arith) ∙ ap (opener t id flags parts) e
+
+    pub added-owner : (a : ℕ) → a < maxPositions → getD (added t id flags parts) (ownerAt a) 0 ≡ ownerWords t id flags parts a
+    added-owner a h =
+        let e : ownerAt a - ownerAt 0 ≡ a = omega arith in
+        added-word (ownerAt a) (omega arith) ∙ word-owner (ownerAt a) (omega arith) (omega arith) ∙ ap (ownerWords t id flags parts) e
 
     pub added-takers : (x i : ℕ) → x < bytes → i < 4 → getD (added t id flags parts) (takersAt x + i) 0 ≡ takersWords t id flags parts x i
     added-takers x i h l =

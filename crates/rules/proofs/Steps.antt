@@ -1,7 +1,7 @@
 -- One law for each private writer: what a turn of its loop keeps, or what its calls make together.
 use mathlib.Core.Path.{_≡_, refl, sym, ap, ap₂, _∙_, subst}
-use mathlib.Core.Bool.{Bool, true, false, cond, _&&_, _||_, and-false, and-true, or-false}
-use mathlib.Core.List.{List}
+use mathlib.Core.Bool.{Bool, true, false, not, _&&_, _||_, and-false, and-true, or-false, Bool·not-not}
+use mathlib.Core.List.{List, [], _∷_}
 use Prim.Native.Nat.{ℕ, _+_, _-_, _*_, _/_, _%_, _≤_, _<_}
 use native.Mathlib.Nat.{add-zero}
 use native.Mathlib.Numerals.{add-one}
@@ -10,14 +10,15 @@ use native.Mathlib.Omega.{arith}
 use lib.Dec.{eqb}
 use lib.ListN.{length, getD}
 use borrow.Author.Tests.{lt-ltb, le-ltb, eq-eqb, ne-eqb}
-use Rattle.sets.specs.Set.{setOf, emptySet, inserted, unionOf, keptBelow, count, asOne}
-use Rattle.sets.proofs.Laws.{setOf-ext, inserted-setOf}
-use Rattle.table.specs.Layout.{tableWords, maxRules, firstAt, stride, recordAt, lastAt, followAt, recordWord, rowHas, from-to}
-use Rattle.table.specs.Gaps.{lastGaps, followGaps}
-use Rattle.table.proofs.Over.{from-to-in, from-to-below, from-to-above, over, length-over, over-in, over-below, over-above, over-is, Written, written-none, written-above, written-block, written-all}
+use Rattle.sets.specs.Set.{has, setOf, emptySet, inserted, unionOf, intersectionOf, complementOf, keptBelow, isEmpty, any, count, asOne}
+use Rattle.sets.proofs.Laws.{has-setOf, has-intersection, setOf-ext, inserted-setOf, union-setOf, intersection-setOf, complement-setOf, any-ext}
+use Rattle.table.specs.Layout.{maxPositions, singlesOf, firstAt, idAt, idWord, lastAt, latesAt, followAt, takersAt, rowHas, from-to}
+use Rattle.table.specs.Gaps.{lastGaps, followGaps, innerGaps, unsettled}
+use Rattle.table.proofs.Over.{from-to-in, from-to-below, from-to-above, over, Written, written-none, written-above, written-block, written-all}
 use Rattle.table.proofs.Writes.{copied, movedUp}
 use Rattle.automaton.specs.declared.Parts.{Parts}
-use Rattle.rules.specs.Invariants.{merged, mergedRow, rowsWord, mergedRows, maskedRows, maskedWord, recordsWord, maskedRecords, smaller, newTakers, recordAtPlace, recordPut, followPut, gapPut, gapsPut}
+use Rattle.rules.specs.Words.{singlesWith}
+use Rattle.rules.specs.Invariants.{merged, mergedRow, rowsWord, mergedRows, smaller, idPut, singlesPut, ownersPut, placePut, newTakers, followPut, gapPut, gapsPut, innerRows, lateSet, latesPut, openerOf}
 use Rattle.rules.proofs.Rows.{merged-words, merged-same}
 
 -- ---- one row
@@ -56,74 +57,6 @@ pub rows-whole : (at rows k n : ℕ) (new : ℕ → List ℕ) (t s : List ℕ) �
 unfolding mergedRows
 rows-whole at rows k n new t s r e = written-all r (ap (λ (j : ℕ). at + j * 4) e)
 
--- ---- records
-
-abbrev pub MaskedTo : (a n : ℕ) → List ℕ → List ℕ → Type 0
-MaskedTo a n t s = Written (recordAt 0) (recordAt a) (recordsWord n t) t s
-
-pub records-none : (n : ℕ) (t : List ℕ) → MaskedTo 0 n t t
-records-none n t = written-none (omega arith)
-
-pub records-turn : (a n : ℕ) (t s s' : List ℕ) → a < maxRules → tableWords ≤ length t → MaskedTo a n t s → s' ≡ maskedRows (recordAt a + 4) lastGaps n s → MaskedTo (a + 1) n t s'
-unfolding maskedRows mergedRows rowsWord maskedWord recordsWord
-records-turn a n t s s' few long r e =
-    subst (λ (l : List ℕ). Written (recordAt 0) (recordAt (a + 1)) (recordsWord n t) t l) (sym whole)
-    (written-block r (omega arith) (omega arith) same)
-  where
-    at : ℕ
-    at = recordAt a + 4
-
-    end : ℕ
-    end = at + lastGaps * 4
-
-    g : ℕ → ℕ
-    g w = getD (mergedRow s (at + (w - at) / 4 * 4) n emptySet) ((w - at) % 4) 0
-
-    low : (w : ℕ) → w < at → getD s' w 0 ≡ getD s w 0
-    low w h = ap (λ (l : List ℕ). getD l w 0) e ∙ over-below at end g s w h
-
-    sets : (w : ℕ) → at ≤ w → w < recordAt (a + 1) → getD s' w 0 ≡ g w
-    sets w h l = ap (λ (l : List ℕ). getD l w 0) e ∙ over-in at end g s w h (omega arith) (omega (arith, r .long))
-
-    whole : s' ≡ over (recordAt a) (recordAt (a + 1)) (λ w. getD s' w 0) s
-    whole =
-        over-is (recordAt a) (recordAt (a + 1)) (λ w. getD s' w 0) s s' (ap length e ∙ length-over at end g s)
-        (λ w x y l. refl) (λ w x. low w (omega arith)) (λ w x. ap (λ (l : List ℕ). getD l w 0) e ∙ over-above at end g s w (omega arith))
-
-    old : (w : ℕ) → recordAt a ≤ w → getD s w 0 ≡ getD t w 0
-    old w h = written-above r w h
-
-    same : (w : ℕ) → recordAt a ≤ w → w < recordAt (a + 1) → w < length t → getD s' w 0 ≡ recordsWord n t w
-    same w x y l = go (decLt w at)
-      where
-        i : ℕ
-        i = w - recordAt a
-
-        row : ℕ
-        row = getD (mergedRow t (lastAt a ((i - 4) / 4)) n emptySet) ((i - 4) % 4) 0
-
-        word : maskedWord t n a i ≡ recordsWord n t w
-        word =
-            let quot : a ≡ (w - recordAt 0) / stride = omega arith in
-            let rest : i ≡ (w - recordAt 0) % stride = omega arith in
-            ap₂ (maskedWord t n) quot rest
-
-        go : Dec (w < at) → getD s' w 0 ≡ recordsWord n t w
-        go (yes p) =
-            let z : w ≡ recordAt a + i = omega arith in
-            low w p ∙ old w x ∙ ap (λ (j : ℕ). getD t j 0) z
-            ∙ sym (ap (λ (b : Bool). cond b (recordWord t a i) row) (lt-ltb i 4 (omega arith))) ∙ word
-        go (no p) =
-            let z : at + (w - at) / 4 * 4 ≡ lastAt a ((i - 4) / 4) = omega arith in
-            let m : (w - at) % 4 ≡ (i - 4) % 4 = omega arith in
-            sets w (omega arith) y
-            ∙ ap₂ (λ (l : List ℕ) (j : ℕ). getD l j 0) (merged-same s t (at + (w - at) / 4 * 4) n emptySet (λ j h. old (at + (w - at) / 4 * 4 + j) (omega arith)) ∙ ap (λ (j : ℕ). mergedRow t j n emptySet) z) m
-            ∙ sym (ap (λ (b : Bool). cond b (recordWord t a i) row) (le-ltb i 4 (omega arith))) ∙ word
-
-pub records-whole : (a rules n : ℕ) (t s : List ℕ) → MaskedTo a n t s → a ≡ rules → s ≡ maskedRecords rules n t
-unfolding maskedRecords
-records-whole a rules n t s r e = written-all r (ap recordAt e)
-
 -- ---- the place of an id
 
 module _ (t : List ℕ) (id : ℕ) where
@@ -135,11 +68,11 @@ module _ (t : List ℕ) (id : ℕ) where
   unfolding count
   turn a = ap (λ (j : ℕ). count j (smaller t id)) (add-one a)
 
-  pub place-hit : (a k : ℕ) → k ≡ count a (smaller t id) → recordWord t a 0 < id → k + 1 ≡ count (a + 1) (smaller t id)
-  place-hit a k e h = sym (turn a ∙ ap₂ (λ (j : ℕ) (b : Bool). j + asOne b) (sym e) (lt-ltb (recordWord t a 0) id h))
+  pub place-hit : (a k : ℕ) → k ≡ count a (smaller t id) → idWord t a < id → k + 1 ≡ count (a + 1) (smaller t id)
+  place-hit a k e h = sym (turn a ∙ ap₂ (λ (j : ℕ) (b : Bool). j + asOne b) (sym e) (lt-ltb (idWord t a) id h))
 
-  pub place-miss : (a k : ℕ) → k ≡ count a (smaller t id) → id ≤ recordWord t a 0 → k ≡ count (a + 1) (smaller t id)
-  place-miss a k e h = sym (turn a ∙ ap₂ (λ (j : ℕ) (b : Bool). j + asOne b) (sym e) (le-ltb (recordWord t a 0) id h) ∙ add-zero k)
+  pub place-miss : (a k : ℕ) → k ≡ count a (smaller t id) → id ≤ idWord t a → k ≡ count (a + 1) (smaller t id)
+  place-miss a k e h = sym (turn a ∙ ap₂ (λ (j : ℕ) (b : Bool). j + asOne b) (sym e) (le-ltb (idWord t a) id h) ∙ add-zero k)
 
 -- ---- the new positions that take a byte
 
@@ -186,39 +119,102 @@ module _ (takes : List ℕ) (n x : ℕ) where
   unfolding newTakers
   takers-miss i e = setOf-ext (taker i) (taker (i + 1)) (λ q h. sym (or-false (taker i q)) ∙ step i false e q)
 
--- ---- the parts, put together
+-- ---- a rule in its place
 
-pub record-is : (rules n k : ℕ) (r t s1 s2 s3 : List ℕ) → k ≡ count rules (smaller t (getD r 0 0)) → s1 ≡ maskedRecords rules n t
-    → s2 ≡ movedUp (recordAt k) ((rules - k) * stride) s1 → s3 ≡ copied (recordAt k) stride r s2 → s3 ≡ recordPut rules n r t
-unfolding recordPut recordAtPlace
-record-is rules n k r t s1 s2 s3 place a b c =
-    c ∙ ap (copied (recordAt k) stride r) (b ∙ ap (movedUp (recordAt k) ((rules - k) * stride)) a) ∙ ap (λ (j : ℕ). recordAtPlace rules n j r t) place
+pub id-is : (rules k id : ℕ) (t s1 s2 : List ℕ) → s1 ≡ movedUp (idAt k) (rules - k) t → s2 ≡ copied (idAt k) 1 (id ∷ []) s1 → s2 ≡ idPut rules k id t
+unfolding idPut
+id-is rules k id t s1 s2 a b = b ∙ ap (copied (idAt k) 1 (id ∷ [])) a
+
+pub singles-is : (k : ℕ) (single : Bool) (new : ℕ) (t s : List ℕ) → new ≡ singlesWith k single (singlesOf t) → s ≡ copied 3 1 (new ∷ []) t → s ≡ singlesPut k single t
+unfolding singlesPut
+singles-is k single new t s a b = b ∙ ap (λ (x : ℕ). copied 3 1 (x ∷ []) t) a
+
+pub place-is : (rules n more id k : ℕ) (single : Bool) (t s1 s2 s3 : List ℕ) → k ≡ count rules (smaller t id) → s1 ≡ idPut rules k id t → s2 ≡ singlesPut k single s1
+    → s3 ≡ ownersPut n more k s2 → s3 ≡ placePut rules n more id single t
+unfolding placePut
+place-is rules n more id k single t s1 s2 s3 place a b c =
+    c ∙ ap (ownersPut n more k) (b ∙ ap (singlesPut k single) a) ∙ ap (λ (j : ℕ). ownersPut n more j (singlesPut j single (idPut rules j id t))) place
+
+-- ---- the sets of the gaps between two bytes
+
+module _ (t : List ℕ) (at : ℕ) where
+  -- what the sets of the first n gaps have
+  abbrev pub rowsBelow : ℕ → List ℕ
+  rowsBelow n = setOf (λ q. any n (λ g. rowHas t (at + g * 4) q))
+
+  pub rows-below-none : emptySet ≡ rowsBelow 0
+  unfolding emptySet any
+  rows-below-none = refl
+
+  pub rows-below-more : (g : ℕ) → unionOf (rowsBelow g) (setOf (rowHas t (at + g * 4))) ≡ rowsBelow (g + 1)
+  unfolding any
+  rows-below-more g = union-setOf (λ q. any g (λ h. rowHas t (at + h * 4) q)) (rowHas t (at + g * 4)) ∙ ap rowsBelow (sym (add-one g))
+
+  pub rows-below-all : (s : List ℕ) (g : ℕ) → s ≡ rowsBelow g → g ≡ innerGaps → s ≡ innerRows t at
+  unfolding innerRows
+  rows-below-all s g e h = e ∙ ap rowsBelow h
+
+-- only the rows that are read count
+pub inner-same : (s t : List ℕ) (at : ℕ) → ((g q : ℕ) → g < innerGaps → rowHas s (at + g * 4) q ≡ rowHas t (at + g * 4) q) → innerRows s at ≡ innerRows t at
+unfolding innerRows
+inner-same s t at b = setOf-ext _ _ (λ q h. any-ext innerGaps _ _ (λ g l. b g q l))
+
+-- ---- the positions that wait for the next byte
+
+pub lates-is : (t some settled rest late s : List ℕ) → some ≡ innerRows t (lastAt 0) → settled ≡ setOf (rowHas t (lastAt unsettled)) → rest ≡ complementOf settled
+    → late ≡ intersectionOf some rest → s ≡ copied latesAt 4 late t → s ≡ latesPut t
+unfolding latesPut lateSet innerRows
+lates-is t some settled rest late s a b c d e =
+    e ∙ ap (λ (l : List ℕ). copied latesAt 4 l t)
+    (d ∙ ap₂ intersectionOf a (c ∙ ap complementOf b ∙ complement-setOf (rowHas t (lastAt unsettled)))
+    ∙ intersection-setOf (λ q. any innerGaps (λ g. rowHas t (lastAt g) q)) (λ q. not (rowHas t (lastAt unsettled) q)))
+
+-- ---- the openers
+
+-- whether a set meets the first sets of the gaps between two bytes
+module _ (t takers first met : List ℕ) (x : ℕ) (a : takers ≡ setOf (rowHas t (takersAt x))) (b : first ≡ innerRows t (firstAt 0)) (c : met ≡ intersectionOf takers first) where
+  meeting : any maxPositions (has met) ≡ any maxPositions (λ q. rowHas t (takersAt x) q && any innerGaps (λ g. rowHas t (firstAt g) q))
+  unfolding innerRows
+  meeting =
+      any-ext maxPositions (has met) (λ q. rowHas t (takersAt x) q && any innerGaps (λ g. rowHas t (firstAt g) q))
+      (λ q h. ap (λ (s : List ℕ). has s q) (c ∙ ap₂ intersectionOf a b) ∙ has-intersection (setOf (rowHas t (takersAt x))) (setOf (λ q. any innerGaps (λ g. rowHas t (firstAt g) q))) q h
+      ∙ ap₂ (λ (y z : Bool). y && z) (has-setOf (rowHas t (takersAt x)) q h) (has-setOf (λ q. any innerGaps (λ g. rowHas t (firstAt g) q)) q h))
+
+  pub opener-is : (e : Bool) → isEmpty met ≡ e → asOne (not e) ≡ openerOf t x
+  unfolding openerOf isEmpty
+  opener-is e h = ap asOne (ap not (sym h) ∙ Bool·not-not (any maxPositions (has met)) ∙ meeting)
+
+-- only the rows that are read count
+pub opener-same : (s t : List ℕ) (x : ℕ) → ((q : ℕ) → rowHas s (takersAt x) q ≡ rowHas t (takersAt x) q) → ((g q : ℕ) → g < innerGaps → rowHas s (firstAt g) q ≡ rowHas t (firstAt g) q) → openerOf s x ≡ openerOf t x
+unfolding openerOf
+opener-same s t x a b =
+    ap asOne (any-ext maxPositions _ _ (λ q h. ap₂ (λ (y z : Bool). y && z) (a q) (any-ext innerGaps _ _ (λ g l. b g q l))))
 
 -- ---- the sets of a gap
 
-module _ (g n k : ℕ) (parts : Parts) (t s1 : List ℕ) (a : s1 ≡ merged (firstAt g) n (parts .first) t) where
+module _ (g n : ℕ) (parts : Parts) (t s1 : List ℕ) (a : s1 ≡ merged (firstAt g) n (parts .first) t) where
   -- a match can start at it alone
-  pub gap-start : lastGaps ≤ g → s1 ≡ gapPut g n k parts t
+  pub gap-start : lastGaps ≤ g → s1 ≡ gapPut g n parts t
   unfolding gapPut
   gap-start h = rw (le-ltb g lastGaps h, le-ltb g followGaps (omega arith)) a
 
-  module _ (s2 : List ℕ) (b : s2 ≡ copied (lastAt k g) 4 (parts .last) s1) where
+  module _ (s2 : List ℕ) (b : s2 ≡ merged (lastAt g) n (parts .last) s1) where
     -- or end at it
-    pub gap-end : g < lastGaps → followGaps ≤ g → s2 ≡ gapPut g n k parts t
+    pub gap-end : g < lastGaps → followGaps ≤ g → s2 ≡ gapPut g n parts t
     unfolding gapPut
-    gap-end l h = rw (lt-ltb g lastGaps l, le-ltb g followGaps h) (b ∙ ap (copied (lastAt k g) 4 (parts .last)) a)
+    gap-end l h = rw (lt-ltb g lastGaps l, le-ltb g followGaps h) (b ∙ ap (merged (lastAt g) n (parts .last)) a)
 
     -- or go on
-    pub gap-inside : g < followGaps → (s3 : List ℕ) → s3 ≡ followPut (followAt g 0) n (parts .follow) (parts .positions) s2 → s3 ≡ gapPut g n k parts t
+    pub gap-inside : g < followGaps → (s3 : List ℕ) → s3 ≡ followPut (followAt g 0) n (parts .follow) (parts .positions) s2 → s3 ≡ gapPut g n parts t
     unfolding gapPut
     gap-inside l s3 c =
         rw (lt-ltb g lastGaps (omega arith), lt-ltb g followGaps l)
-        (c ∙ ap (followPut (followAt g 0) n (parts .follow) (parts .positions)) (b ∙ ap (copied (lastAt k g) 4 (parts .last)) a))
+        (c ∙ ap (followPut (followAt g 0) n (parts .follow) (parts .positions)) (b ∙ ap (merged (lastAt g) n (parts .last)) a))
 
-pub gaps-none : (n k : ℕ) (parts : ℕ → Parts) (t : List ℕ) → t ≡ gapsPut 0 n k parts t
+pub gaps-none : (n : ℕ) (parts : ℕ → Parts) (t : List ℕ) → t ≡ gapsPut 0 n parts t
 unfolding gapsPut
-gaps-none n k parts t = refl
+gaps-none n parts t = refl
 
-pub gaps-turn : (g n k : ℕ) (parts : ℕ → Parts) (p : Parts) (t s s' : List ℕ) → s ≡ gapsPut g n k parts t → p ≡ parts g → s' ≡ gapPut g n k p s → s' ≡ gapsPut (g + 1) n k parts t
+pub gaps-turn : (g n : ℕ) (parts : ℕ → Parts) (p : Parts) (t s s' : List ℕ) → s ≡ gapsPut g n parts t → p ≡ parts g → s' ≡ gapPut g n p s → s' ≡ gapsPut (g + 1) n parts t
 unfolding gapsPut
-gaps-turn g n k parts p t s s' a b c = c ∙ ap₂ (gapPut g n k) b a ∙ ap (λ (m : ℕ). gapsPut m n k parts t) (sym (add-one g))
+gaps-turn g n parts p t s s' a b c = c ∙ ap₂ (gapPut g n) b a ∙ ap (λ (m : ℕ). gapsPut m n parts t) (sym (add-one g))

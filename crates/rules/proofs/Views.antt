@@ -1,7 +1,7 @@
 -- The automaton of the table with one rule more, field by field, for any words with room for the rule: what the old positions had among themselves is kept,
 -- and the new rule's sets come from its parts, at each gap from the parts there. Each set is read from its four words in their region.
 use mathlib.Core.Path.{_≡_, refl, sym, ap, ap₂, _∙_}
-use mathlib.Core.Bool.{Bool, cond, _&&_, _||_}
+use mathlib.Core.Bool.{Bool, true, false, cond, not, _&&_, _||_}
 use mathlib.Core.List.{List}
 use Prim.Native.Nat.{ℕ, _+_, _-_, _*_, _/_, _%_, _≤_, _<_}
 use native.Mathlib.Decide.{decLt}
@@ -9,17 +9,20 @@ use native.Mathlib.Omega.{arith}
 use lib.Dec.{eqb, ltb}
 use lib.ListN.{length, getD}
 use borrow.Author.Tests.{lt-ltb, le-ltb, eq-eqb, ne-eqb}
-use Rattle.sets.specs.Set.{on, has, setOf}
-use Rattle.table.specs.Layout.{tableWords, maxRules, maxPositions, bytes, rulesOf, positionsOf, firstAt, recordAt, lastAt, followAt, takersAt, recordWord, rowHas, from-to}
-use Rattle.table.specs.Gaps.{firstGaps, lastGaps, followGaps}
+use Rattle.sets.specs.Set.{on, has, any, asOne}
+use Rattle.sets.proofs.Digits.{on-wordOf}
+use Rattle.sets.proofs.Laws.{any-ext}
+use Rattle.table.specs.Layout.{tableWords, maxRules, maxPositions, bytes, rulesOf, positionsOf, singlesOf, firstAt, idWord, ownerAt, lastAt, followAt, takersAt, rowHas, from-to, latesAt}
+use Rattle.table.specs.Gaps.{firstGaps, lastGaps, followGaps, innerGaps, unsettled}
 use Rattle.table.specs.Automaton.{Automaton, automaton}
-use Rattle.table.proofs.Rows.{row-member, row-same, under}
+use Rattle.table.proofs.Lates.{LatesAre}
+use Rattle.table.proofs.Rows.{row-same, under}
 use Rattle.automaton.specs.declared.Parts.{Parts}
-use Rattle.rules.specs.Words.{oldRow, joinedRow, placeOf, newRecord, oldRecord, firstWords, followWords, newTaker, takersWords, added}
+use Rattle.rules.specs.Words.{oldRow, joinedRow, placeOf, raised, singlesWith, singlesWord, ownerWith, ownerWords, lastWords, lateWords, opener, firstWords, followWords, newTaker, takersWords, added}
 use Rattle.rules.proofs.Rows.{row-set}
 use Rattle.rules.proofs.Place.{place-le}
-use Rattle.rules.proofs.Regions.{added-rules, added-positions, added-first, added-follow, added-takers}
-use Rattle.rules.proofs.Kept.{record-before, record-new, record-after, old-field}
+use Rattle.rules.proofs.Regions.{added-rules, added-positions, added-singles, added-last, added-late, added-first, added-opener, added-owner, added-follow, added-takers}
+use Rattle.rules.proofs.Kept.{id-before, id-there, id-after}
 
 -- what stands at place a once x is put in at place k
 abbrev pub putIn : {A : Type 0} → ℕ → A → (ℕ → A) → ℕ → A
@@ -30,7 +33,9 @@ pub record Extended (w v : Automaton) (k id flags : ℕ) (parts : ℕ → Parts)
   pub rules : v .rules ≡ w .rules + 1
   pub positions : v .positions ≡ w .positions + parts 0 .positions
   pub id-in : (a : ℕ) → a ≤ w .rules → v .id a ≡ putIn k id (w .id) a
-  pub flags-in : (a : ℕ) → a ≤ w .rules → v .flags a ≡ putIn k flags (w .flags) a
+  pub few : w .rules < maxRules
+  pub once-in : (a : ℕ) → a ≤ w .rules → v .once a ≡ putIn k (eqb (flags / 8 % 2) 1) (w .once) a
+  pub opens : (x : ℕ) → x < bytes → v .opens x ≡ any maxPositions (λ q. v .takes x q && any innerGaps (λ g. v .first g q))
   pub takes : (x q : ℕ) → x < bytes → q < maxPositions → v .takes x q
       ≡ ((ltb q (w .positions) && w .takes x q)
       || (from-to (w .positions) (w .positions + parts 0 .positions) q && rowHas (parts 0 .takes) ((q - w .positions) * 4) x))
@@ -39,8 +44,11 @@ pub record Extended (w v : Automaton) (k id flags : ℕ) (parts : ℕ → Parts)
   pub follow-old : (g p q : ℕ) → g < followGaps → p < w .positions → q < maxPositions → v .follow g p q ≡ (ltb q (w .positions) && w .follow g p q)
   pub follow-new : (g i q : ℕ) → g < followGaps → i < parts 0 .positions → q < maxPositions → v .follow g (w .positions + i) q ≡ rowHas (parts g .follow) (i * 4) q
   pub follow-rest : (g p q : ℕ) → w .positions + parts 0 .positions ≤ p → v .follow g p q ≡ w .follow g p q
-  pub last : (g a q : ℕ) → g < lastGaps → a ≤ w .rules → q < maxPositions
-      → v .last g a q ≡ putIn k (has (parts g .last) q) (λ b. ltb q (w .positions) && w .last g b q) a
+  pub ending : (g q : ℕ) → g < lastGaps → q < maxPositions → v .ending g q ≡ ((ltb q (w .positions) && w .ending g q) || has (parts g .last) q)
+  pub lates : LatesAre v
+  -- a position's rule is the one that it was, or the new one
+  pub owner-old : (q : ℕ) → q < w .positions → v .owner q ≡ raised k (w .owner q)
+  pub owner-new : (q : ℕ) → w .positions ≤ q → q < w .positions + parts 0 .positions → v .owner q ≡ k
 
 module _ (t : List ℕ) (id flags : ℕ) (parts : ℕ → Parts) (long : tableWords ≤ length t) (few : rulesOf t < maxRules) (room : positionsOf t + parts 0 .positions ≤ maxPositions) where
   abbrev u : List ℕ
@@ -61,70 +69,62 @@ module _ (t : List ℕ) (id flags : ℕ) (parts : ℕ → Parts) (long : tableWo
   k-le : k ≤ rulesOf t
   k-le = place-le t id
 
-  -- ---- the records
+  -- ---- the rules
 
-  -- a number of each record
-  field : (i x : ℕ) → i < 4 → newRecord t id flags parts i ≡ x → (a : ℕ) → a ≤ rulesOf t
-      → cond (ltb a maxRules) (recordWord u a i) 0 ≡ putIn k x (λ b. cond (ltb b maxRules) (recordWord t b i) 0) a
-  field i x l e a h = ap (λ (b : Bool). cond b (recordWord u a i) 0) (lt-ltb a maxRules (omega arith)) ∙ go (decLt a k) (decLt k a)
+  id-in : (a : ℕ) → a ≤ rulesOf t → cond (ltb a maxRules) (idWord u a) 0 ≡ putIn k id (λ b. cond (ltb b maxRules) (idWord t b) 0) a
+  id-in a h = ap (λ (b : Bool). cond b (idWord u a) 0) (lt-ltb a maxRules (omega arith)) ∙ go (decLt a k) (decLt k a)
     where
-      old : (b : ℕ) → b < maxRules → recordWord t b i ≡ cond (ltb b maxRules) (recordWord t b i) 0
-      old b m = sym (ap (λ (c : Bool). cond c (recordWord t b i) 0) (lt-ltb b maxRules m))
+      old : (b : ℕ) → b < maxRules → idWord t b ≡ cond (ltb b maxRules) (idWord t b) 0
+      old b m = sym (ap (λ (c : Bool). cond c (idWord t b) 0) (lt-ltb b maxRules m))
 
-      go : Dec (a < k) → Dec (k < a) → recordWord u a i ≡ putIn k x (λ b. cond (ltb b maxRules) (recordWord t b i) 0) a
-      go (yes y) z = rw (lt-ltb a k y) (record-before t id flags parts long few a i y (omega arith) ∙ old-field t id flags parts a i l ∙ old a (omega arith))
+      go : Dec (a < k) → Dec (k < a) → idWord u a ≡ putIn k id (λ b. cond (ltb b maxRules) (idWord t b) 0) a
+      go (yes y) z = rw (lt-ltb a k y) (id-before t id flags parts long few a y ∙ old a (omega arith))
       go (no y) (no z) =
           let same : a ≡ k = omega arith in
-          rw (le-ltb a k (omega arith), eq-eqb a k same) (ap (λ (b : ℕ). recordWord u b i) same ∙ record-new t id flags parts long few i (omega arith) ∙ e)
-      go (no y) (yes z) =
-          rw (le-ltb a k (omega arith), ne-eqb a k (λ m. omega arith))
-          (record-after t id flags parts long few a i z h (omega arith) ∙ old-field t id flags parts (a - 1) i l ∙ old (a - 1) (omega arith))
+          rw (le-ltb a k (omega arith), eq-eqb a k same) (ap (idWord u) same ∙ id-there t id flags parts long few)
+      go (no y) (yes z) = rw (le-ltb a k (omega arith), ne-eqb a k (λ m. omega arith)) (id-after t id flags parts long few a z h ∙ old (a - 1) (omega arith))
 
-  -- its set at a gap
+  once-in : (a : ℕ) → a ≤ rulesOf t → v .once a ≡ putIn k (eqb (flags / 8 % 2) 1) (w .once) a
+  unfolding automaton singlesWord singlesWith
+  once-in a h =
+      ap (λ (x : ℕ). on x a) (added-singles t id flags parts long)
+      ∙ on-wordOf 64 (λ a. cond (ltb a k) (on (singlesOf t) a) (cond (eqb a k) (eqb (flags / 8 % 2) 1) (on (singlesOf t) (a - 1)))) a (omega arith)
 
-  module _ (g : ℕ) (low : g < lastGaps) where
-    last-new : (j : ℕ) → j < 4 → newRecord t id flags parts (4 + g * 4 + j) ≡ getD (parts g .last) j 0
-    unfolding newRecord
-    last-new j h =
-        let i = 4 + g * 4 + j in
-        let d : (4 + g * 4 + j - 4) / 4 ≡ g = omega arith in
-        let e : (4 + g * 4 + j - 4) % 4 ≡ j = omega arith in
-        rw (ne-eqb i 0 (λ z. omega arith), ne-eqb i 1 (λ z. omega arith), ne-eqb i 2 (λ z. omega arith), ne-eqb i 3 (λ z. omega arith))
-        (λ m. getD (parts (d m) .last) (e m) 0)
+  -- ---- the sets of last positions, and the owners
 
-    last-old : (a j : ℕ) → j < 4 → oldRecord t id flags parts a (4 + g * 4 + j) ≡ getD (setOf (oldRow t (lastAt a g))) j 0
-    unfolding oldRecord
-    last-old a j h =
-        let d : (4 + g * 4 + j - 4) / 4 ≡ g = omega arith in
-        let e : (4 + g * 4 + j - 4) % 4 ≡ j = omega arith in
-        rw (le-ltb (4 + g * 4 + j) 4 (omega arith)) (λ m. getD (setOf (oldRow t (lastAt a (d m)))) (e m) 0)
+  last-row : (g q : ℕ) → g < lastGaps → q < maxPositions → v .ending g q ≡ (oldRow t (lastAt g) q || has (parts g .last) q)
+  unfolding automaton lastWords joinedRow
+  last-row g q h l =
+      ap (λ (b : Bool). b && rowHas u (lastAt g) q) (lt-ltb g lastGaps h)
+      ∙ row-set u (lastAt g) (λ q. oldRow t (lastAt g) q || has (parts g .last) q) (λ i m. added-last t id flags parts long g i h m) q l
 
-    last-in : (a q : ℕ) → a ≤ rulesOf t → q < maxPositions → v .last g a q ≡ putIn k (has (parts g .last) q) (λ b. ltb q n && w .last g b q) a
-    unfolding automaton oldRow has
-    last-in a q h l = at-gap u a (omega arith) ∙ go (decLt a k) (decLt k a)
-      where
-        at-gap : (s : List ℕ) (b : ℕ) → b < maxRules → (ltb g lastGaps && (ltb b maxRules && rowHas s (lastAt b g) q)) ≡ rowHas s (lastAt b g) q
-        at-gap s b m = ap₂ (λ (x y : Bool). x && (y && rowHas s (lastAt b g) q)) (lt-ltb g lastGaps low) (lt-ltb b maxRules m)
+  ending-in : (g q : ℕ) → g < lastGaps → q < maxPositions → v .ending g q ≡ ((ltb q n && w .ending g q) || has (parts g .last) q)
+  unfolding automaton oldRow
+  ending-in g q h l =
+      last-row g q h l
+      ∙ ap (λ (b : Bool). (ltb q n && (b && rowHas t (lastAt g) q)) || has (parts g .last) q) (sym (lt-ltb g lastGaps h))
 
-        at : (b j : ℕ) → getD u (lastAt b g + j) 0 ≡ recordWord u b (4 + g * 4 + j)
-        at b j = let e : lastAt b g + j ≡ recordAt b + (4 + g * 4 + j) = omega arith in ap (λ (x : ℕ). getD u x 0) e
+  late-in : LatesAre v
+  unfolding automaton lateWords
+  late-in q l =
+      row-set u latesAt
+      (λ q. any innerGaps (λ g. oldRow t (lastAt g) q || has (parts g .last) q) && not (oldRow t (lastAt unsettled) q || has (parts unsettled .last) q))
+      (λ i m. added-late t id flags parts long i m) q l
+      ∙ sym (ap₂ (λ (b c : Bool). b && not c) (any-ext innerGaps _ _ (λ g m. last-row g q (omega arith) l)) (last-row unsettled q (omega arith) l))
 
-        row : (b c : ℕ) → c < maxRules → ((j : ℕ) → j < 4 → recordWord u b (4 + g * 4 + j) ≡ oldRecord t id flags parts c (4 + g * 4 + j))
-            → rowHas u (lastAt b g) q ≡ (ltb q n && w .last g c q)
-        row b c m e =
-            row-set u (lastAt b g) (oldRow t (lastAt c g)) (λ j x. at b j ∙ e j x ∙ last-old c j x) q l
-            ∙ ap (λ (x : Bool). ltb q n && x) (sym (at-gap t c m))
+  owner-at : (s : List ℕ) (q : ℕ) → q < maxPositions → cond (ltb q maxPositions) (getD s (ownerAt q) 0) 0 ≡ getD s (ownerAt q) 0
+  owner-at s q h = ap (λ (b : Bool). cond b (getD s (ownerAt q) 0) 0) (lt-ltb q maxPositions h)
 
-        go : Dec (a < k) → Dec (k < a) → rowHas u (lastAt a g) q ≡ putIn k (has (parts g .last) q) (λ b. ltb q n && w .last g b q) a
-        go (yes y) z = rw (lt-ltb a k y) (row a a (omega arith) (λ j x. record-before t id flags parts long few a (4 + g * 4 + j) y (omega arith)))
-        go (no y) (no z) =
-            let same : a ≡ k = omega arith in
-            rw (le-ltb a k (omega arith), eq-eqb a k same)
-            (ap (λ (b : ℕ). rowHas u (lastAt b g) q) same ∙ row-member u (lastAt k g) q l
-            ∙ ap (λ (x : ℕ). on x (q % 64)) (at k (q / 64) ∙ record-new t id flags parts long few (4 + g * 4 + q / 64) (omega arith) ∙ last-new (q / 64) (omega arith)))
-        go (no y) (yes z) =
-            rw (le-ltb a k (omega arith), ne-eqb a k (λ x. omega arith))
-            (row a (a - 1) (omega arith) (λ j x. record-after t id flags parts long few a (4 + g * 4 + j) z h (omega arith)))
+  old-owner : (q : ℕ) → q < n → v .owner q ≡ raised k (w .owner q)
+  unfolding automaton ownerWords ownerWith
+  old-owner q h =
+      owner-at u q (omega arith) ∙ added-owner t id flags parts long q (omega arith)
+      ∙ rw (lt-ltb q n h) (ap (raised k) (sym (owner-at t q (omega arith))))
+
+  new-owner : (q : ℕ) → n ≤ q → q < n + parts 0 .positions → v .owner q ≡ k
+  unfolding automaton ownerWords ownerWith
+  new-owner q h l =
+      owner-at u q (omega arith) ∙ added-owner t id flags parts long q (omega arith) ∙ rw (le-ltb q n h, lt-ltb q (n + parts 0 .positions) l)
 
   -- ---- the sets of first positions
 
@@ -177,20 +177,43 @@ module _ (t : List ℕ) (id flags : ℕ) (parts : ℕ → Parts) (long : tableWo
       ∙ row-set u (takersAt x) (λ q. oldRow t (takersAt x) q || newTaker t id flags parts x q) (λ i m. added-takers t id flags parts long x i h m) q l
       ∙ ap (λ (b : Bool). (ltb q n && (b && rowHas t (takersAt x) q)) || newTaker t id flags parts x q) (sym (lt-ltb x bytes h))
 
+  -- ---- the openers
+
+  one-not-zero : (b : Bool) → not (eqb (asOne b) 0) ≡ b
+  one-not-zero true = refl
+  one-not-zero false = refl
+
+  opens-in : (x : ℕ) → x < bytes → v .opens x ≡ any maxPositions (λ q. v .takes x q && any innerGaps (λ g. v .first g q))
+  unfolding automaton opener firstWords joinedRow takersWords
+  opens-in x h =
+      ap₂ (λ (b : Bool) (y : ℕ). b && not (eqb y 0)) (lt-ltb x bytes h) (added-opener t id flags parts long x h)
+      ∙ one-not-zero (any maxPositions (λ q. (oldRow t (takersAt x) q || newTaker t id flags parts x q) && any innerGaps (λ g. oldRow t (firstAt g) q || has (parts g .first) q)))
+      ∙ any-ext maxPositions _ _ (λ q l. ap₂ (λ (b c : Bool). b && c)
+      (sym (ap (λ (b : Bool). b && rowHas u (takersAt x) q) (lt-ltb x bytes h)
+      ∙ row-set u (takersAt x) (λ q. oldRow t (takersAt x) q || newTaker t id flags parts x q) (λ i m. added-takers t id flags parts long x i h m) q l))
+      (any-ext innerGaps _ _ (λ g m.
+      sym (ap (λ (b : Bool). b && rowHas u (firstAt g) q) (lt-ltb g firstGaps (omega arith))
+      ∙ row-set u (firstAt g) (λ q. oldRow t (firstAt g) q || has (parts g .first) q) (λ i k. added-first t id flags parts long g i (omega arith) k) q l))))
+
   -- ---- all of it
 
   pub extended : Extended (automaton t) (automaton (added t id flags parts)) (placeOf t id) id flags parts
-  unfolding automaton newRecord
+  unfolding automaton
   extended =
       record {
         rules = added-rules t id flags parts long;
         positions = added-positions t id flags parts long;
-        id-in = field 0 id (omega arith) refl;
-        flags-in = field 1 flags (omega arith) refl;
+        id-in = id-in;
+        few = few;
+        once-in = once-in;
+        opens = opens-in;
         takes = takes-in;
         first = first-in;
         follow-old = old-follow;
         follow-new = new-follow;
         follow-rest = rest-follow;
-        last = λ g a q h. last-in g h a q;
+        ending = ending-in;
+        lates = late-in;
+        owner-old = old-owner;
+        owner-new = new-owner;
       }

@@ -6,7 +6,7 @@ use lib.Bits.{bitAnd}
 use lib.Dec.{eqb, leb, ltb}
 use lib.ListN.{length}
 use Rattle.sets.specs.Set.{any}
-use Rattle.table.specs.Layout.{maxRules, rulesOf, positionsOf, recordWord}
+use Rattle.table.specs.Layout.{maxRules, rulesOf, positionsOf, idWord}
 use Rattle.table.specs.Table.{isTable, knownFlags}
 use Rattle.regex.specs.Form.{write, positions}
 use Rattle.regex.specs.Count.{limit}
@@ -26,7 +26,7 @@ unfoldable pub unknownFlag : ℕ → Bool
 unknownFlag flags = not (eqb (bitAnd flags knownFlags) flags)
 
 unfoldable pub hasId : List ℕ → ℕ → Bool
-hasId t id = any (rulesOf t) (λ a. eqb (recordWord t a 0) id)
+hasId t id = any (rulesOf t) (λ a. eqb (idWord t a) id)
 
 -- What the reader refuses is refused, 5 for the pattern's length first. Then 17: "over 256 positions with those in the table", at the pattern's length.
 unfoldable pub placed : (used len : ℕ) → Read → Added

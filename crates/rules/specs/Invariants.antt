@@ -1,15 +1,16 @@
 -- What the private functions promise one another: the first checks, and the words with a part of them written anew. No public contract cites it.
-use mathlib.Core.Bool.{Bool, cond, _&&_, _||_}
+use mathlib.Core.Bool.{Bool, cond, not, _&&_, _||_}
 use mathlib.Core.List.{List, [], _∷_}
 use Prim.Native.Nat.{ℕ, zero, suc, _+_, _-_, _*_, _/_, _%_}
 use lib.Dec.{leb, ltb}
-use lib.ListN.{getD, replicate}
-use Rattle.sets.specs.Set.{has, setOf, emptySet, count}
-use Rattle.table.specs.Layout.{maxRules, bytes, rulesOf, firstAt, stride, recordAt, lastAt, followAt, takersAt, recordWord, rowHas, from-to}
-use Rattle.table.specs.Gaps.{lastGaps, followGaps}
+use lib.ListN.{getD}
+use Rattle.sets.specs.Set.{has, setOf, emptySet, any, asOne, count}
+use Rattle.table.specs.Layout.{maxRules, maxPositions, bytes, rulesOf, singlesOf, firstAt, idAt, idWord, openerAt, ownerAt, lastAt, latesAt, followAt, takersAt, rowHas, from-to}
+use Rattle.table.specs.Gaps.{lastGaps, followGaps, innerGaps, unsettled}
 use Rattle.table.specs.Table.{isTable}
 use Rattle.table.specs.Invariants.{over, copied, movedUp}
 use Rattle.automaton.specs.declared.Parts.{Parts}
+use Rattle.rules.specs.Words.{singlesWith, ownerWith}
 use Rattle.rules.specs.Add.{unknownFlag, hasId}
 
 -- ---- the checks before the pattern is read
@@ -37,31 +38,27 @@ mergedRows at rows n new t = over at (at + rows * 4) (rowsWord at n new t) t
 unfoldable pub maskedRows : (at rows n : ℕ) → List ℕ → List ℕ
 maskedRows at rows n t = mergedRows at rows n (λ k. emptySet) t
 
--- word i of record a, with its sets kept to the positions below n
-unfoldable pub maskedWord : List ℕ → (n a i : ℕ) → ℕ
-maskedWord t n a i =
-    cond (ltb i 4) (recordWord t a i) (getD (mergedRow t (lastAt a ((i - 4) / 4)) n emptySet) ((i - 4) % 4) 0)
-
-unfoldable pub recordsWord : ℕ → List ℕ → ℕ → ℕ
-recordsWord n t w = maskedWord t n ((w - recordAt 0) / stride) ((w - recordAt 0) % stride)
-
-unfoldable pub maskedRecords : (rules n : ℕ) → List ℕ → List ℕ
-maskedRecords rules n t = over (recordAt 0) (recordAt rules) (recordsWord n t) t
-
 -- the rule in place a has a smaller id
 abbrev pub smaller : List ℕ → (id a : ℕ) → Bool
-smaller t id a = ltb (recordWord t a 0) id
+smaller t id a = ltb (idWord t a) id
 
--- the words of a rule's record, its sets empty
-abbrev pub recordOf : (id flags from to : ℕ) → List ℕ
-recordOf id flags from to = id ∷ flags ∷ from ∷ to ∷ replicate 52 0
+-- an id in place k, with those from there on one up
+unfoldable pub idPut : (rules k id : ℕ) → List ℕ → List ℕ
+idPut rules k id t = copied (idAt k) 1 (id ∷ []) (movedUp (idAt k) (rules - k) t)
 
--- a record at place k, with those from there on one up
-unfoldable pub recordAtPlace : (rules n k : ℕ) → List ℕ → List ℕ → List ℕ
-recordAtPlace rules n k r t = copied (recordAt k) stride r (movedUp (recordAt k) ((rules - k) * stride) (maskedRecords rules n t))
+-- the digits of the single-match rules with that of the rule in place k
+unfoldable pub singlesPut : (k : ℕ) → Bool → List ℕ → List ℕ
+singlesPut k single t = copied 3 1 (singlesWith k single (singlesOf t) ∷ []) t
 
-unfoldable pub recordPut : (rules n : ℕ) → List ℕ → List ℕ → List ℕ
-recordPut rules n r t = recordAtPlace rules n (count rules (smaller t (getD r 0 0))) r t
+-- the owners of the positions, with the rule in place k
+unfoldable pub ownersPut : (n more k : ℕ) → List ℕ → List ℕ
+ownersPut n more k t = over (ownerAt 0) (ownerAt maxPositions) (λ w. ownerWith n more k (w - ownerAt 0) (getD t w 0)) t
+
+-- these three, for a rule in the place of its id
+unfoldable pub placePut : (rules n more id : ℕ) → Bool → List ℕ → List ℕ
+placePut rules n more id single t =
+    let k : ℕ = count rules (smaller t id) in
+    ownersPut n more k (singlesPut k single (idPut rules k id t))
 
 -- follow sets from `at` on: those of the n old positions, and after them the new ones
 unfoldable pub followPut : (at n : ℕ) → List ℕ → ℕ → List ℕ → List ℕ
@@ -74,17 +71,35 @@ newTakers takes n more x = setOf (λ q. from-to n (n + more) q && rowHas takes (
 unfoldable pub takersPut : ℕ → List ℕ → ℕ → List ℕ → List ℕ
 takersPut n takes more t = mergedRows (takersAt 0) bytes n (newTakers takes n more) t
 
--- the sets of the parts at one gap, with the rule in place k: the first positions, those that can end a match, and what follows each
-unfoldable pub gapPut : (gap n k : ℕ) → Parts → List ℕ → List ℕ
-gapPut g n k parts t =
+-- the sets of the parts at one gap: the first positions, those that can end a match, and what follows each
+unfoldable pub gapPut : (gap n : ℕ) → Parts → List ℕ → List ℕ
+gapPut g n parts t =
     let first : List ℕ = merged (firstAt g) n (parts .first) t in
-    let last : List ℕ = cond (ltb g lastGaps) (copied (lastAt k g) 4 (parts .last) first) first in
+    let last : List ℕ = cond (ltb g lastGaps) (merged (lastAt g) n (parts .last) first) first in
     cond (ltb g followGaps) (followPut (followAt g 0) n (parts .follow) (parts .positions) last) last
 
 -- and at the first m gaps
-unfoldable pub gapsPut : (m n k : ℕ) → (ℕ → Parts) → List ℕ → List ℕ
-gapsPut zero n k parts t = t
-gapsPut (suc m) n k parts t = gapPut m n k (parts m) (gapsPut m n k parts t)
+unfoldable pub gapsPut : (m n : ℕ) → (ℕ → Parts) → List ℕ → List ℕ
+gapsPut zero n parts t = t
+gapsPut (suc m) n parts t = gapPut m n (parts m) (gapsPut m n parts t)
+
+-- what some set has of those of the gaps between two bytes, which stand from `at` on
+unfoldable pub innerRows : List ℕ → (at : ℕ) → List ℕ
+innerRows t at = setOf (λ q. any innerGaps (λ g. rowHas t (at + g * 4) q))
+
+-- the positions with which a match can end only where the next byte allows it
+unfoldable pub lateSet : List ℕ → List ℕ
+lateSet t = setOf (λ q. any innerGaps (λ g. rowHas t (lastAt g) q) && not (rowHas t (lastAt unsettled) q))
+
+unfoldable pub latesPut : List ℕ → List ℕ
+latesPut t = copied latesAt 4 (lateSet t) t
+
+-- a match can begin with byte x inside a stream
+unfoldable pub openerOf : List ℕ → ℕ → ℕ
+openerOf t x = asOne (any maxPositions (λ q. rowHas t (takersAt x) q && any innerGaps (λ g. rowHas t (firstAt g) q)))
+
+unfoldable pub openersPut : List ℕ → List ℕ
+openersPut t = over (openerAt 0) (openerAt bytes) (λ w. openerOf t (w - openerAt 0)) t
 
 unfoldable pub countsPut : (rules positions : ℕ) → List ℕ → List ℕ
 countsPut rules positions t = copied 1 2 (rules ∷ positions ∷ []) t

@@ -1,14 +1,14 @@
 -- The words of a table with one rule more, by what each word's bits mean. The positions that the table has keep what they had among themselves, and the
 -- new rule's positions come after them. For any words that pass the test: bits above the old position count, which no built table has, are dropped.
 -- Assumes nothing: these are definitions.
-use mathlib.Core.Bool.{Bool, cond, _&&_, _||_}
+use mathlib.Core.Bool.{Bool, cond, not, _&&_, _||_}
 use mathlib.Core.List.{List, [], _∷_, _++_}
 use Prim.Native.Nat.{ℕ, zero, suc, _+_, _-_, _*_, _/_, _%_}
 use lib.Dec.{eqb, leb, ltb}
 use lib.ListN.{getD, drop}
-use Rattle.sets.specs.Set.{has, setOf, count}
-use Rattle.table.specs.Layout.{tableWords, maxRules, bytes, rulesOf, positionsOf, firstAt, stride, recordAt, lastAt, followAt, takersAt, recordWord, rowHas, from-to}
-use Rattle.table.specs.Gaps.{firstGaps, followGaps}
+use Rattle.sets.specs.Set.{on, has, setOf, wordOf, any, asOne, count}
+use Rattle.table.specs.Layout.{tableWords, maxRules, maxPositions, bytes, rulesOf, positionsOf, singlesOf, firstAt, idAt, idWord, openerAt, ownerAt, lastAt, latesAt, followAt, takersAt, rowHas, from-to}
+use Rattle.table.specs.Gaps.{firstGaps, followGaps, lastGaps, innerGaps, unsettled}
 use Rattle.automaton.specs.declared.Parts.{Parts}
 
 -- the words f 0, f 1, .. up to n of them
@@ -26,33 +26,54 @@ joinedRow t at new = setOf (λ q. oldRow t at q || has new q)
 
 -- rules stand by rising id: the new rule's place is the number of rules with a smaller id
 unfoldable pub placeOf : List ℕ → ℕ → ℕ
-placeOf t id = count (rulesOf t) (λ a. ltb (recordWord t a 0) id)
+placeOf t id = count (rulesOf t) (λ a. ltb (idWord t a) id)
+
+-- the digits of some places, with one put in at place k and those from there on moved up by one
+unfoldable pub singlesWith : (k : ℕ) → Bool → ℕ → ℕ
+singlesWith k new old = wordOf 64 (λ a. cond (ltb a k) (on old a) (cond (eqb a k) new (on old (a - 1))))
+
+-- a place, once a rule is put in at place k: those from there on are moved up by one
+unfoldable pub raised : (k o : ℕ) → ℕ
+raised k o = cond (ltb o k) o (cond (ltb o maxRules) (o + 1) o)
+
+-- the owner of position q, which was o: the first n positions keep theirs, and the `more` after them have the rule in place k
+unfoldable pub ownerWith : (n more k q o : ℕ) → ℕ
+ownerWith n more k q o = cond (ltb q n) (raised k o) (cond (ltb q (n + more)) k o)
 
 -- the new rule's parts are given for each gap; how many positions it has, and which bytes they take, is the same at all
 module _ (t : List ℕ) (id flags : ℕ) (parts : ℕ → Parts) where
   abbrev more : ℕ
   more = parts 0 .positions
 
-  -- word i of the new rule's record
-  unfoldable pub newRecord : ℕ → ℕ
-  newRecord i =
-      cond (eqb i 0) id
-      (cond (eqb i 1) flags
-      (cond (eqb i 2) (positionsOf t)
-      (cond (eqb i 3) (positionsOf t + more)
-      (getD (parts ((i - 4) / 4) .last) ((i - 4) % 4) 0))))
+  abbrev place : ℕ
+  place = placeOf t id
 
-  -- word i of an old record, wherever it goes
-  unfoldable pub oldRecord : ℕ → ℕ → ℕ
-  oldRecord a i = cond (ltb i 4) (recordWord t a i) (getD (setOf (oldRow t (lastAt a ((i - 4) / 4)))) ((i - 4) % 4) 0)
+  -- the id in place a: the old ones below the new rule's place, the new one, the later old ones moved up by one; words that no rule has stay
+  unfoldable pub idWords : ℕ → ℕ
+  idWords a =
+      cond (ltb a place) (idWord t a)
+      (cond (eqb a place) id
+      (cond (leb a (rulesOf t)) (idWord t (a - 1))
+      (idWord t a)))
 
-  -- record a: the old ones below the new rule's place, the new one, the later old ones moved up by one; records that no rule has stay
-  unfoldable pub recordWords : ℕ → ℕ → ℕ
-  recordWords a i =
-      cond (ltb a (placeOf t id)) (oldRecord a i)
-      (cond (eqb a (placeOf t id)) (newRecord i)
-      (cond (leb a (rulesOf t)) (oldRecord (a - 1) i)
-      (recordWord t a i)))
+  -- the single-match rules, the digits of the later old ones moved up likewise
+  unfoldable pub singlesWord : ℕ
+  singlesWord = singlesWith (placeOf t id) (eqb (flags / 8 % 2) 1) (singlesOf t)
+
+  -- the owner of position q
+  unfoldable pub ownerWords : ℕ → ℕ
+  ownerWords q = ownerWith (positionsOf t) more (placeOf t id) q (getD t (ownerAt q) 0)
+
+  -- word i of the set of last positions at a gap
+  unfoldable pub lastWords : ℕ → ℕ → ℕ
+  lastWords g i = getD (joinedRow t (lastAt g) (parts g .last)) i 0
+
+  -- word i of the set of the positions with which a match can end only where the next byte allows it: at some gap between two bytes, and not where it is not known
+  -- what follows
+  unfoldable pub lateWords : ℕ → ℕ
+  lateWords i =
+      getD (setOf (λ q. any innerGaps (λ g. oldRow t (lastAt g) q || has (parts g .last) q)
+      && not (oldRow t (lastAt unsettled) q || has (parts unsettled .last) q))) i 0
 
   -- word i of the set of first positions at a gap
   unfoldable pub firstWords : ℕ → ℕ → ℕ
@@ -72,17 +93,27 @@ module _ (t : List ℕ) (id flags : ℕ) (parts : ℕ → Parts) where
   unfoldable pub takersWords : ℕ → ℕ → ℕ
   takersWords x i = getD (setOf (λ q. oldRow t (takersAt x) q || newTaker x q)) i 0
 
+  -- a match can begin with byte x inside a stream: some position takes it and is first at a gap between two bytes
+  unfoldable pub opener : ℕ → ℕ
+  opener x =
+      asOne (any maxPositions (λ q. (oldRow t (takersAt x) q || newTaker x q) && any innerGaps (λ g. oldRow t (firstAt g) q || has (parts g .first) q)))
+
   -- word w of the table with the rule
   unfoldable pub addedWord : ℕ → ℕ
   addedWord w =
       cond (eqb w 1) (rulesOf t + 1)
       (cond (eqb w 2) (positionsOf t + more)
+      (cond (eqb w 3) singlesWord
+      (cond (from-to (lastAt 0) (lastAt lastGaps) w) (lastWords ((w - lastAt 0) / 4) ((w - lastAt 0) % 4))
+      (cond (from-to latesAt (latesAt + 4) w) (lateWords (w - latesAt))
       (cond (from-to (firstAt 0) (firstAt firstGaps) w) (firstWords ((w - firstAt 0) / 4) ((w - firstAt 0) % 4))
-      (cond (from-to (recordAt 0) (recordAt maxRules) w) (recordWords ((w - recordAt 0) / stride) ((w - recordAt 0) % stride))
+      (cond (from-to (idAt 0) (idAt maxRules) w) (idWords (w - idAt 0))
+      (cond (from-to (openerAt 0) (openerAt bytes) w) (opener (w - openerAt 0))
+      (cond (from-to (ownerAt 0) (ownerAt maxPositions) w) (ownerWords (w - ownerAt 0))
       (cond (from-to (takersAt 0) (takersAt bytes) w) (takersWords ((w - takersAt 0) / 4) ((w - takersAt 0) % 4))
       (cond (from-to (followAt 0 0) (followAt followGaps 0) w)
       (followWords ((w - followAt 0 0) / 1024) ((w - followAt 0 0) % 1024 / 4) ((w - followAt 0 0) % 4))
-      (getD t w 0))))))
+      (getD t w 0)))))))))))
 
   -- the table with the rule; words beyond 16,384 are untouched
   unfoldable pub added : List ℕ

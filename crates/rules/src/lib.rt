@@ -2,12 +2,10 @@
 // settled before the first word is written. specs/Add.antt says what the answer is, specs/Words.antt what the words are then.
 mod write;
 
-use table::layout::ID;
+use table::layout::IDS_AT;
 use table::layout::KNOWN_FLAGS;
 use table::layout::MAX_RULES;
 use table::layout::POSITIONS_AT;
-use table::layout::RECORD_WORDS;
-use table::layout::RECORDS_AT;
 use table::layout::RULES_AT;
 ghost use mathlib.Core.Path.{_≡_};
 ghost use Prim.Native.Nat.{_≤_};
@@ -29,7 +27,7 @@ fn has_id(words: &[u64], rules: usize, id: u64) -> bool
 {
     let mut a: usize = 0;
     while a < rules {
-        if words[RECORDS_AT + a * RECORD_WORDS + ID] == id {
+        if words[IDS_AT + a] == id {
             return true;
         }
         a += 1;

@@ -3,33 +3,37 @@
 use automaton::Parts;
 use table::gaps::FIRST_GAPS;
 use table::gaps::FOLLOW_GAPS;
+use table::gaps::INNER_GAPS;
 use table::gaps::LAST_GAPS;
+use table::gaps::UNSETTLED;
 use table::layout::FIRST_AT;
-use table::layout::FLAGS;
 use table::layout::FOLLOW_AT;
 use table::layout::FOLLOW_WORDS;
-use table::layout::FROM;
-use table::layout::ID;
-use table::layout::LAST;
+use table::layout::IDS_AT;
+use table::layout::LAST_AT;
+use table::layout::LATES_AT;
+use table::layout::MAX_RULES;
+use table::layout::OPENERS_AT;
+use table::layout::OWNERS_AT;
 use table::layout::POSITIONS_AT;
-use table::layout::RECORD_WORDS;
-use table::layout::RECORDS_AT;
 use table::layout::RULES_AT;
 use table::layout::SET_WORDS;
+use table::layout::SINGLES_AT;
 use table::layout::TAKERS_AT;
-use table::layout::TO;
 ghost use mathlib.Core.Path.{_≡_};
-ghost use Prim.Native.Nat.{_+_, _*_, _≤_, _<_};
-ghost use lib.ListN.{length, getD};
-ghost use Rattle.sets.specs.Set.{count};
-ghost use Rattle.table.specs.Layout.{tableWords, stride, maxRules, maxPositions, rulesOf, positionsOf};
+ghost use mathlib.Core.Bool.{cond};
+ghost use Prim.Native.Nat.{_+_, _*_, _-_, _≤_, _<_};
+ghost use lib.Dec.{eqb, ltb};
+ghost use lib.ListN.{length};
+ghost use Rattle.sets.specs.Set.{on, count};
+ghost use Rattle.table.specs.Layout.{tableWords, maxRules, maxPositions, rulesOf, positionsOf, firstAt};
 ghost use Rattle.table.specs.Invariants.{copied, movedUp};
 ghost use Rattle.table.specs.Gaps.{firstGaps};
 ghost use Rattle.regex.specs.Form.{write, positions};
 ghost use Rattle.nodes.specs.Nodes.{treeAt};
 ghost use Rattle.rules.specs.Gaps.{holdingAt, partsAt};
-ghost use Rattle.rules.specs.Words.{added};
-ghost use Rattle.rules.specs.Invariants.{merged, maskedRows, maskedRecords, smaller, newTakers, takersPut, recordOf, recordPut, followPut, gapPut, gapsPut, countsPut};
+ghost use Rattle.rules.specs.Words.{singlesWith, ownerWith, added};
+ghost use Rattle.rules.specs.Invariants.{merged, maskedRows, smaller, idPut, singlesPut, ownersPut, placePut, newTakers, takersPut, followPut, gapPut, gapsPut, innerRows, latesPut, openerOf, openersPut, countsPut};
 
 // The assertions that are known to hold at each gap, as specs/Gaps.antt has them.
 const HOLDING: [u64; 17] = [
@@ -85,15 +89,15 @@ fn put_set(words: &mut [u64], at: usize, set: [u64; 4])
     put_words(words, at, &set, SET_WORDS);
 }
 
-// The n words from `at` on, one record up.
+// The n words from `at` on, one up.
 fn move_up(words: &mut [u64], at: usize, n: usize)
-    requires { ⌜ at + stride + n ≤ length (now words) ⌝ }
+    requires { ⌜ at + 1 + n ≤ length (now words) ⌝ }
     ensures { λ r. ⌜ now (words .exit) ≡ movedUp at n (now (words .entry)) ⌝ }
 {
     let mut i = n;
     while 0 < i {
         i -= 1;
-        words[at + RECORD_WORDS + i] = words[at + i];
+        words[at + 1 + i] = words[at + i];
     }
 }
 
@@ -121,18 +125,6 @@ fn mask_rows(words: &mut [u64], at: usize, rows: usize, n: usize)
     }
 }
 
-// Keeps the sets of each rule's record to the positions below n.
-fn mask_records(words: &mut [u64], rules: usize, n: usize)
-    requires { ⌜ (tableWords ≤ length (now words)) × (rules ≤ maxRules) ⌝ }
-    ensures { λ r. ⌜ now (words .exit) ≡ maskedRecords rules n (now (words .entry)) ⌝ }
-{
-    let mut a: usize = 0;
-    while a < rules {
-        mask_rows(words, RECORDS_AT + a * RECORD_WORDS + LAST, LAST_GAPS, n);
-        a += 1;
-    }
-}
-
 // How many of the rules have an id below this one: the place of a rule with this id.
 fn place_of(words: &[u64], rules: usize, id: u64) -> usize
     requires { ⌜ (tableWords ≤ length (now words)) × (rules ≤ maxRules) ⌝ }
@@ -141,7 +133,7 @@ fn place_of(words: &[u64], rules: usize, id: u64) -> usize
     let mut k: usize = 0;
     let mut a: usize = 0;
     while a < rules {
-        if words[RECORDS_AT + a * RECORD_WORDS + ID] < id {
+        if words[IDS_AT + a] < id {
             k += 1;
         }
         a += 1;
@@ -149,29 +141,96 @@ fn place_of(words: &[u64], rules: usize, id: u64) -> usize
     k
 }
 
-// The words of a rule's record, its sets empty.
-fn record_of(id: u64, flags: u64, from: u64, to: u64) -> [u64; 56]
-    ensures { λ r. ⌜ r ≡ recordOf id flags «from» to ⌝ }
+// Puts an id in place k, and moves those from there on up.
+fn put_id(words: &mut [u64], rules: usize, k: usize, id: u64)
+    requires { ⌜ (tableWords ≤ length (now words)) × (rules < maxRules) × (k ≤ rules) ⌝ }
+    ensures { λ r. ⌜ now (words .exit) ≡ idPut rules k id (now (words .entry)) ⌝ }
 {
-    let mut r = [0u64; 56];
-    r[ID] = id;
-    r[FLAGS] = flags;
-    r[FROM] = from;
-    r[TO] = to;
-    r
+    move_up(words, IDS_AT + k, rules - k);
+    let one = [id];
+    put_words(words, IDS_AT + k, &one, 1);
 }
 
-// Puts a record at the place of its id, after the sets of the others are kept to the positions below n. Gives the place.
-fn put_record(words: &mut [u64], rules: usize, n: usize, record: [u64; 56]) -> usize
-    requires { ⌜ (tableWords ≤ length (now words)) × (rules < maxRules) ⌝ }
-    ensures { λ r. ⌜ (r ≤ rules) × (r ≡ count rules (smaller (now (words .entry)) (getD «record» 0 0))) × (now (words .exit) ≡ recordPut rules n «record» (now (words .entry))) ⌝ }
+// The digit of place a, once a rule is put in at place k.
+fn single_at(old: u64, k: usize, single: bool, a: usize) -> bool
+    requires { ⌜ a < 64 ⌝ }
+    ensures { λ r. ⌜ r ≡ cond (ltb a k) (on old a) (cond (eqb a k) single (on old (a - 1))) ⌝ }
 {
-    let k = place_of(words, rules, record[0]);
-    mask_records(words, rules, n);
-    let at = RECORDS_AT + k * RECORD_WORDS;
-    move_up(words, at, (rules - k) * RECORD_WORDS);
-    put_words(words, at, &record, RECORD_WORDS);
-    k
+    if a < k {
+        return old >> a & 1 == 1;
+    }
+    if a == k {
+        return single;
+    }
+    old >> (a - 1) & 1 == 1
+}
+
+// The digits of the single-match rules, once one is put in at place k.
+fn singles_with(old: u64, k: usize, single: bool) -> u64
+    ensures { λ r. ⌜ r ≡ singlesWith k single old ⌝ }
+{
+    let mut found: u64 = 0;
+    let mut a: usize = 0;
+    while a < 64 {
+        if single_at(old, k, single, a) {
+            found = found | 1 << a;
+        }
+        a += 1;
+    }
+    found
+}
+
+// The same in the words.
+fn put_singles(words: &mut [u64], k: usize, single: bool)
+    requires { ⌜ tableWords ≤ length (now words) ⌝ }
+    ensures { λ r. ⌜ now (words .exit) ≡ singlesPut k single (now (words .entry)) ⌝ }
+{
+    let one = [singles_with(words[SINGLES_AT], k, single)];
+    put_words(words, SINGLES_AT, &one, 1);
+}
+
+// The owner of position q, which was `o`, once a rule with the positions from n on is put in at place k.
+fn owner_with(n: usize, more: usize, k: usize, q: usize, o: u64) -> u64
+    requires { ⌜ n + more ≤ maxPositions ⌝ }
+    ensures { λ r. ⌜ r ≡ ownerWith n more k q o ⌝ }
+{
+    if q < n {
+        if o < k as u64 {
+            return o;
+        }
+        if o < MAX_RULES {
+            return o + 1;
+        }
+        return o;
+    }
+    if q < n + more {
+        return k as u64;
+    }
+    o
+}
+
+// The same in the words.
+fn put_owners(words: &mut [u64], n: usize, more: usize, k: usize)
+    requires { ⌜ (tableWords ≤ length (now words)) × (n + more ≤ maxPositions) ⌝ }
+    ensures { λ r. ⌜ now (words .exit) ≡ ownersPut n more k (now (words .entry)) ⌝ }
+{
+    let mut q: usize = 0;
+    while q < 256 {
+        let o = words[OWNERS_AT + q];
+        words[OWNERS_AT + q] = owner_with(n, more, k, q, o);
+        q += 1;
+    }
+}
+
+// Puts a rule in the place of its id: the id, its digit, and the owners of the positions.
+fn put_place(words: &mut [u64], rules: usize, n: usize, more: usize, id: u64, single: bool)
+    requires { ⌜ (tableWords ≤ length (now words)) × (rules < maxRules) × (n + more ≤ maxPositions) ⌝ }
+    ensures { λ r. ⌜ now (words .exit) ≡ placePut rules n more id single (now (words .entry)) ⌝ }
+{
+    let k = place_of(words, rules, id);
+    put_id(words, rules, k, id);
+    put_singles(words, k, single);
+    put_owners(words, n, more, k);
 }
 
 // Follow sets from `at` on: those of the n old positions, and after them the new ones.
@@ -214,11 +273,11 @@ fn put_takers(words: &mut [u64], n: usize, takes: &[u64; 1024], more: usize)
     }
 }
 
-// The sets of the parts at one gap: the first positions, then, at a gap where a match can end, those that can end one of the rule in this place, and, at a gap
-// between two bytes, what follows each.
-fn put_gap(words: &mut [u64], gap: usize, n: usize, place: usize, parts: Parts)
-    requires { ⌜ (tableWords ≤ length (now words)) × (gap < firstGaps) × (place < maxRules) × (n + parts .positions ≤ maxPositions) ⌝ }
-    ensures { λ r. ⌜ now (words .exit) ≡ gapPut gap n place parts (now (words .entry)) ⌝ }
+// The sets of the parts at one gap: the first positions, then, at a gap where a match can end, those that can end one, and, at a gap between two bytes, what follows
+// each.
+fn put_gap(words: &mut [u64], gap: usize, n: usize, parts: Parts)
+    requires { ⌜ (tableWords ≤ length (now words)) × (gap < firstGaps) × (n + parts .positions ≤ maxPositions) ⌝ }
+    ensures { λ r. ⌜ now (words .exit) ≡ gapPut gap n parts (now (words .entry)) ⌝ }
 {
     let first = parts.first;
     merge_row(words, FIRST_AT + gap * SET_WORDS, n, first);
@@ -226,8 +285,7 @@ fn put_gap(words: &mut [u64], gap: usize, n: usize, place: usize, parts: Parts)
         return;
     }
     let last = parts.last;
-    let at = RECORDS_AT + place * RECORD_WORDS + (LAST + gap * SET_WORDS);
-    put_set(words, at, last);
+    merge_row(words, LAST_AT + gap * SET_WORDS, n, last);
     if gap >= FOLLOW_GAPS {
         return;
     }
@@ -237,15 +295,66 @@ fn put_gap(words: &mut [u64], gap: usize, n: usize, place: usize, parts: Parts)
 }
 
 // The sets of a rule at every gap: the tree of node `root`, its positions numbered from n on, is built for each.
-fn put_gaps(words: &mut [u64], n: usize, place: usize, nodes: &[u64], root: usize)
-    requires { ⌜ (tableWords ≤ length (now words)) × (place < maxRules) × (n + positions (write (treeAt (now nodes) root)) ≤ maxPositions) ⌝ }
-    ensures { λ r. ⌜ now (words .exit) ≡ gapsPut firstGaps n place (partsAt (treeAt (now (nodes .entry)) root) n) (now (words .entry)) ⌝ }
+fn put_gaps(words: &mut [u64], n: usize, nodes: &[u64], root: usize)
+    requires { ⌜ (tableWords ≤ length (now words)) × (n + positions (write (treeAt (now nodes) root)) ≤ maxPositions) ⌝ }
+    ensures { λ r. ⌜ now (words .exit) ≡ gapsPut firstGaps n (partsAt (treeAt (now (nodes .entry)) root) n) (now (words .entry)) ⌝ }
 {
     let mut g: usize = 0;
     while g < FIRST_GAPS {
         let parts = automaton::build(nodes, root, n, holding(g));
-        put_gap(words, g, n, place, parts);
+        put_gap(words, g, n, parts);
         g += 1;
+    }
+}
+
+// What some set has of those of the gaps between two bytes, which stand from `at` on.
+fn inner_rows(words: &[u64], at: usize) -> [u64; 4]
+    requires { ⌜ at ≤ tableWords ⌝ }
+    ensures { λ r. ⌜ r ≡ innerRows (now (words .entry)) at ⌝ }
+{
+    let mut s = sets::empty();
+    let mut g: usize = 0;
+    while g < INNER_GAPS {
+        let t = sets::union(s, table::row(words, at + g * SET_WORDS));
+        s = t;
+        g += 1;
+    }
+    s
+}
+
+// The positions with which a match can end only where the next byte allows it: at some gap between two bytes, and not where it is not known what follows.
+fn put_lates(words: &mut [u64])
+    requires { ⌜ tableWords ≤ length (now words) ⌝ }
+    ensures { λ r. ⌜ now (words .exit) ≡ latesPut (now (words .entry)) ⌝ }
+{
+    let some = inner_rows(words, LAST_AT);
+    let settled = table::row(words, LAST_AT + UNSETTLED * SET_WORDS);
+    let late = sets::intersection(some, sets::complement(settled));
+    put_set(words, LATES_AT, late);
+}
+
+// 1 where a match can begin with byte x inside a stream, else 0: some position takes it and is one of these.
+fn opener(words: &[u64], first: [u64; 4], x: usize) -> u64
+    requires { ⌜ (first ≡ innerRows (now words) (firstAt 0)) × (x < 256) ⌝ }
+    ensures { λ r. ⌜ r ≡ openerOf (now (words .entry)) x ⌝ }
+{
+    let takers = table::row(words, TAKERS_AT + x * SET_WORDS);
+    if sets::is_empty(sets::intersection(takers, first)) {
+        return 0;
+    }
+    1
+}
+
+// For each byte whether a match can begin with it inside a stream.
+fn put_openers(words: &mut [u64])
+    requires { ⌜ tableWords ≤ length (now words) ⌝ }
+    ensures { λ r. ⌜ now (words .exit) ≡ openersPut (now (words .entry)) ⌝ }
+{
+    let first = inner_rows(words, FIRST_AT);
+    let mut x: usize = 0;
+    while x < 256 {
+        words[OPENERS_AT + x] = opener(words, first, x);
+        x += 1;
     }
 }
 
@@ -257,6 +366,9 @@ fn put_counts(words: &mut [u64], rules: u64, positions: u64)
     let counts = [rules, positions];
     put_words(words, RULES_AT, &counts, 2);
 }
+
+// Flag 8: single match.
+const SINGLE: u32 = 8;
 
 // The table with one rule more, the tree of node `root`, whose positions come after those that the table has. `parts` are its parts at the first gap.
 pub(super) fn add_rule(
@@ -273,10 +385,12 @@ pub(super) fn add_rule(
     let rules = words[RULES_AT] as usize;
     let n = words[POSITIONS_AT] as usize;
     let more = parts.positions;
-    let record = record_of(id as u64, flags as u64, n as u64, (n + more) as u64);
-    let place = put_record(words, rules, n, record);
-    put_gaps(words, n, place, nodes, root);
+    let single = flags / SINGLE % 2 == 1;
+    put_place(words, rules, n, more, id as u64, single);
+    put_gaps(words, n, nodes, root);
     let takes = parts.takes;
     put_takers(words, n, &takes, more);
+    put_openers(words);
+    put_lates(words);
     put_counts(words, rules as u64 + 1, (n + more) as u64);
 }

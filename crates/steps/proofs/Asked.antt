@@ -11,7 +11,7 @@ use lib.Count.{ones}
 use Rattle.sets.specs.Set.{on, asOne, count}
 use Rattle.sets.proofs.Digits.{on-zero, count-add, count-le, ones-count, zeros-off, zeros-on, clear-low, cleared-shr, cleared-on, cleared-off}
 use Rattle.steps.specs.Walk.{left, asked, AsksEachOnce}
-use Rattle.steps.proofs.Members.{count-below}
+use Rattle.table.proofs.Members.{count-below}
 
 module _ (word : ℕ) (fits : word < 2 ^ 64) where
   -- the digits below this place are cleared after n turns

@@ -1,7 +1,7 @@
 -- What the code asks of numbers: sums and products that fit a word, measures that fall. Each is stated over plain numbers, since `omega` is dear where all that
 -- is known of a call is in reach.
 use mathlib.Core.Path.{_≡_}
-use Prim.Native.Nat.{ℕ, _+_, _*_, _-_, _<_, _≤_, min}
+use Prim.Native.Nat.{ℕ, _+_, _*_, _-_, _<_, _≤_}
 use native.Mathlib.Omega.{arith}
 use mathlib.Core.List.{List}
 use mir.Syntax.{w32, w64}
@@ -12,7 +12,7 @@ use denote.Array.{Array}
 use borrow.Author.Needs.{needs}
 use borrow.Kind.Array.{eInt, good-length}
 use Rattle.sets.proofs.Laws.{Words, words-owned}
-use Rattle.table.specs.Layout.{tableWords, maxRules, stride, recordAt, firstAt}
+use Rattle.table.specs.Layout.{tableWords, maxRules, firstAt, lastAt}
 use Rattle.table.specs.Gaps.{innerGaps, lastGaps, firstGaps, followGaps}
 
 -- a place is one more, or has reached the end
@@ -26,34 +26,11 @@ reached a n h l = omega arith
 pub less-left : (n from at : ℕ) → from ≤ at → at < n → n - (at + 1) < n - from
 less-left n from at h l = omega arith
 
--- ---- the records of a table's rules
-
--- the rules that are looked at are no more than a table can have
-pub few-rules : (n rules : ℕ) → n ≡ min rules maxRules → n ≤ maxRules
-few-rules n rules e = omega arith
+-- ---- the places of a table's rules
 
 module _ (a : ℕ) (h : a < maxRules) where
   pub place-digit : a < 64
   place-digit = omega arith
-
-  pub place-fits : Fits w64 (a * stride)
-  place-fits = record { fits = omega arith }
-
-  pub record-fits : Fits w64 (recordAt a)
-  record-fits = record { fits = omega arith }
-
-  pub field-fits : (i : ℕ) → i ≤ 52 → Fits w64 (recordAt a + i)
-  field-fits i l = record { fits = omega arith }
-
-  pub field-bytes-fit : (i : ℕ) → i ≤ 52 → Fits w64 ((recordAt a + i) * 8)
-  field-bytes-fit i l = record { fits = omega arith }
-
-  -- a word of the record is inside a table, and so are four
-  pub field-inside : (i n : ℕ) → i ≤ 52 → tableWords ≤ n → recordAt a + i < n
-  field-inside i n l m = omega arith
-
-  pub set-inside : (i n : ℕ) → i ≤ 52 → tableWords ≤ n → recordAt a + i + 4 ≤ n
-  set-inside i n l m = omega arith
 
   pub next-place-fits : Fits w64 (a + 1)
   next-place-fits = record { fits = omega arith }
@@ -67,12 +44,11 @@ module _ (g : ℕ) (h : g < lastGaps) where
   pub last-offset-fits : Fits w64 (g * 4)
   last-offset-fits = record { fits = omega arith }
 
-  pub last-field-fits : Fits w64 (4 + g * 4)
-  last-field-fits = record { fits = omega arith }
+  pub last-fits : Fits w64 (lastAt g)
+  last-fits = record { fits = omega arith }
 
-  -- the last set at a gap is inside its record
-  pub last-field : 4 + g * 4 ≤ 52
-  last-field = omega arith
+  pub last-inside : (n : ℕ) → tableWords ≤ n → lastAt g + 4 ≤ n
+  last-inside n l = omega arith
 
 module _ (g : ℕ) (h : g < firstGaps) where
   pub first-offset-fits : Fits w64 (g * 4)

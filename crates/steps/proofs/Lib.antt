@@ -1,8 +1,10 @@
--- The laws of one byte's work: Bounds (numbers that fit), Members (words by their digits), TableSets (sets and flags in a table's words), Asked and Walked (the
--- walk over the live set), Steps (the live set after a byte).
+-- The laws of one byte's work: Bounds (numbers that fit), TableSets (sets and flags in a table's words), Asked, Turned, Walked and Owned (the
+-- walk over the live set, and over the positions that end a match), Steps (the live set after a byte), Late (the late positions suffice).
 pub mod Bounds
-pub mod Members
 pub mod TableSets
 pub mod Asked
 pub mod Steps
+pub mod Turned
 pub mod Walked
+pub mod Owned
+pub mod Late

@@ -1,22 +1,23 @@
 -- One byte's step in words: the first positions joined with the follow row of each live one, met with the byte's row and kept below the count, are
 -- `stepped`.
 use mathlib.Core.Path.{_≡_, refl, sym, ap, ap₂, _∙_}
-use mathlib.Core.Bool.{Bool, true, false, cond, _||_, _&&_, or-false, or-assoc, and-comm, and-false}
+use mathlib.Core.Bool.{Bool, true, false, cond, not, _||_, _&&_, or-false, or-assoc, and-comm, and-false, and-true}
 use mathlib.Core.List.{List}
 use Prim.Native.Nat.{ℕ, zero, suc, _+_, _-_, _*_, _<_, _≤_}
 use native.Mathlib.Nat.{add-zero, add-suc}
 use native.Mathlib.Numerals.{add-one}
 use native.Mathlib.Omega.{arith}
-use lib.Dec.{ltb}
-use borrow.Author.Tests.{lt-ltb, ne-eqb}
+use lib.Dec.{eqb, leb, ltb}
+use lib.ListN.{getD}
+use borrow.Author.Tests.{lt-ltb, lt-leb, ne-eqb}
 use Rattle.kinds.specs.declared.Side.{Side}
 use Rattle.sets.specs.Set.{has, setOf, any, unionOf, intersectionOf, keptBelow, emptySet}
-use Rattle.sets.proofs.Laws.{has-setOf, has-empty, has-below, setOf-ext, union-setOf, intersection-setOf, below-setOf, any-none, any-ext, any-never}
-use Rattle.table.specs.Layout.{maxPositions, bytes, firstAt, followAt, takersAt, rowHas}
+use Rattle.sets.proofs.Laws.{has-setOf, has-empty, setOf-ext, union-setOf, intersection-setOf, below-setOf, any-ext, any-never}
+use Rattle.table.specs.Layout.{maxPositions, bytes, firstAt, followAt, takersAt, openerAt, rowHas}
 use Rattle.table.specs.Gaps.{firstGaps, followGaps, innerGaps, between, gapOf, firstGap}
-use Rattle.table.specs.Automaton.{Automaton, automaton}
+use Rattle.table.specs.Automaton.{Automaton, automaton, starts}
 use Rattle.table.proofs.GapBounds.{between-inner, gapOf-follow}
-use Rattle.steps.specs.Step.{stepped, firstsOf}
+use Rattle.steps.specs.Step.{stepped}
 use Rattle.steps.proofs.Bounds.{followRows}
 
 -- ---- the live positions are asked one a turn
@@ -64,10 +65,23 @@ module _ (t : List ℕ) (rows : ℕ) (live : List ℕ) (from : ℕ → Bool) whe
 -- ---- the step
 
 module _ (t : List ℕ) where
-  -- the row of the first positions after a gap
-  pub first-row : (g : ℕ) → g < firstGaps → setOf (rowHas t (firstAt g)) ≡ setOf (automaton t .first g)
+  -- the row of the first positions after a gap, where a byte can be the first of a match
+  pub first-row : (g x : ℕ) → g < firstGaps → (leb innerGaps g || automaton t .opens x) ≡ true → setOf (rowHas t (firstAt g)) ≡ setOf (starts (automaton t) g x)
   unfolding automaton
-  first-row g h = ap (λ (b : Bool). setOf (λ q. b && rowHas t (firstAt g) q)) (sym (lt-ltb g firstGaps h))
+  first-row g x h e =
+      setOf-ext (rowHas t (firstAt g)) (starts (automaton t) g x)
+      (λ q l. sym (ap₂ (λ (b c : Bool). (b && rowHas t (firstAt g) q) && c) (lt-ltb g firstGaps h) e ∙ and-true (rowHas t (firstAt g) q)))
+
+  -- and where it cannot
+  pub first-none : (g x : ℕ) → (leb innerGaps g || automaton t .opens x) ≡ false → emptySet ≡ setOf (starts (automaton t) g x)
+  unfolding emptySet
+  first-none g x e =
+      setOf-ext (λ q. false) (starts (automaton t) g x) (λ q l. sym (ap (λ (c : Bool). automaton t .first g q && c) e ∙ and-false (automaton t .first g q)))
+
+  -- a byte that a match can begin with
+  pub opens-word : (x : ℕ) → x < bytes → not (eqb (getD t (openerAt x) 0) 0) ≡ automaton t .opens x
+  unfolding automaton
+  opens-word x h = ap (λ (b : Bool). b && not (eqb (getD t (openerAt x) 0) 0)) (sym (lt-ltb x bytes h))
 
   -- a byte's row
   pub takers-row : (x : ℕ) → x < bytes → setOf (rowHas t (takersAt x)) ≡ setOf (automaton t .takes x)
@@ -83,17 +97,17 @@ module _ (t : List ℕ) (line : Bool) (before after : Side) (live : List ℕ) (t
   abbrev gap : ℕ
   gap = gapOf line before after
 
-  abbrev starts : ℕ → Bool
-  starts = automaton t .first (firstGap line taken before after)
+  abbrev begins : ℕ → ℕ → Bool
+  begins x = starts (automaton t) (firstGap line taken before after) x
 
   -- from the set of the first positions
-  pub reached-starts : (first : List ℕ) (rows : ℕ) → first ≡ setOf (automaton t .first (firstGap line taken before after)) → rows ≡ followRows (gapOf line before after)
-      → reached t rows live (has first) maxPositions ≡ setOf (λ q. starts q || any maxPositions (λ p. has live p && automaton t .follow gap p q))
-  reached-starts first rows ef er =
+  pub reached-starts : (first : List ℕ) (rows x : ℕ) → first ≡ setOf (starts (automaton t) (firstGap line taken before after) x) → rows ≡ followRows (gapOf line before after)
+      → reached t rows live (has first) maxPositions ≡ setOf (λ q. begins x q || any maxPositions (λ p. has live p && automaton t .follow gap p q))
+  reached-starts first rows x ef er =
       ap₂ (λ (s : List ℕ) (n : ℕ). reached t n live (has s) maxPositions) ef er
-      ∙ setOf-ext (λ q. has (setOf starts) q || any maxPositions (λ p. has live p && rowHas t (followRows gap + p * 4) q))
-      (λ q. starts q || any maxPositions (λ p. has live p && automaton t .follow gap p q))
-      (λ q h. ap₂ (λ (b c : Bool). b || c) (has-setOf starts q h) (follows q))
+      ∙ setOf-ext (λ q. has (setOf (begins x)) q || any maxPositions (λ p. has live p && rowHas t (followRows gap + p * 4) q))
+      (λ q. begins x q || any maxPositions (λ p. has live p && automaton t .follow gap p q))
+      (λ q h. ap₂ (λ (b c : Bool). b || c) (has-setOf (begins x) q h) (follows q))
     where
       follows : (q : ℕ) → any maxPositions (λ p. has live p && rowHas t (followRows gap + p * 4) q) ≡ any maxPositions (λ p. has live p && automaton t .follow gap p q)
       follows q =
@@ -101,39 +115,32 @@ module _ (t : List ℕ) (line : Bool) (before after : Side) (live : List ℕ) (t
           (λ p l. ap (λ (b : Bool). has live p && b) (follow-row t gap p q (gapOf-follow line before after) l))
 
   -- met with the byte's row and kept below the count
-  pub next-words : (first : List ℕ) (rows n x : ℕ) → first ≡ setOf (automaton t .first (firstGap line taken before after)) → rows ≡ followRows (gapOf line before after)
+  pub next-words : (first : List ℕ) (rows n x : ℕ) → first ≡ setOf (starts (automaton t) (firstGap line taken before after) x) → rows ≡ followRows (gapOf line before after)
       → keptBelow (intersectionOf (reached t rows live (has first) maxPositions) (setOf (automaton t .takes x))) n ≡ stepped (automaton t) line before after n live taken x
   unfolding stepped
   next-words first rows n x ef er =
-      ap (λ (s : List ℕ). keptBelow (intersectionOf s (setOf takes)) n) (reached-starts first rows ef er)
+      ap (λ (s : List ℕ). keptBelow (intersectionOf s (setOf takes)) n) (reached-starts first rows x ef er)
       ∙ ap (λ (s : List ℕ). keptBelow s n) (intersection-setOf from takes)
       ∙ below-setOf (λ q. from q && takes q) n
       ∙ setOf-ext (λ q. (from q && takes q) && ltb q n) (λ q. ltb q n && (takes q && from q))
       (λ q l. and-comm (from q && takes q) (ltb q n) ∙ ap (λ (b : Bool). ltb q n && b) (and-comm (from q) (takes q)))
     where
       from : ℕ → Bool
-      from q = starts q || any maxPositions (λ p. has live p && automaton t .follow gap p q)
+      from q = begins x q || any maxPositions (λ p. has live p && automaton t .follow gap p q)
 
       takes : ℕ → Bool
       takes q = automaton t .takes x q
 
 -- ---- a byte that starts nothing
 
--- a position that is first after a gap between two bytes is one that can be first inside the stream
-first-inside : (w : Automaton) (g q : ℕ) → g < innerGaps → q < maxPositions → has (firstsOf w) q ≡ false → w .first g q ≡ false
-unfolding firstsOf
-first-inside w g q h m e = any-none innerGaps (λ g. w .first g q) (sym (has-setOf (λ q. any innerGaps (λ g. w .first g q)) q m) ∙ e) g h
-
--- inside the stream, an empty live set stays empty where no position below the count that can be first takes the byte
-pub next-quiet : (w : Automaton) (before after : Side) (n taken x : ℕ) → 0 < taken
-    → any maxPositions (λ q. has (keptBelow (firstsOf w) n) q && has (setOf (w .takes x)) q) ≡ false
-    → stepped w false before after n emptySet taken x ≡ emptySet
+-- inside the stream, an empty live set stays empty where no match can begin with the byte
+pub next-quiet : (w : Automaton) (before after : Side) (n taken x : ℕ) → 0 < taken → w .opens x ≡ false → stepped w false before after n emptySet taken x ≡ emptySet
 unfolding stepped emptySet gapOf firstGap
 next-quiet w before after n taken x h e =
-    setOf-ext (λ q. ltb q n && (w .takes x q && (w .first (firstGap false taken before after) q || any maxPositions (follows q)))) (λ q. false)
+    setOf-ext (λ q. ltb q n && (w .takes x q && (starts w (firstGap false taken before after) x q || any maxPositions (follows q)))) (λ q. false)
     (λ q m.
-    ap₂ (λ (g : ℕ) (c : Bool). ltb q n && (w .takes x q && (w .first g q || c))) later (any-never maxPositions (follows q) (none q))
-    ∙ quiet q m (has (firstsOf w) q) refl)
+    ap₂ (λ (b c : Bool). ltb q n && (w .takes x q && (b || c))) (none-first q) (any-never maxPositions (follows q) (none q))
+    ∙ ap (λ (b : Bool). ltb q n && b) (and-false (w .takes x q)) ∙ and-false (ltb q n))
   where
     gap : ℕ
     gap = between before after
@@ -147,20 +154,8 @@ next-quiet w before after n taken x h e =
     none : (q p : ℕ) → p < maxPositions → follows q p ≡ false
     none q p h = ap (λ (b : Bool). b && w .follow (gapOf false before after) p q) (has-empty p h)
 
-    -- where q can be first, it does not take the byte or is not below the count
-    untaken : (q : ℕ) → q < maxPositions → has (firstsOf w) q ≡ true → (ltb q n && w .takes x q) ≡ false
-    untaken q m f =
-        sym (ap₂ (λ (b c : Bool). b && c) (has-below (firstsOf w) n q m ∙ ap (λ (b : Bool). b && ltb q n) f) (has-setOf (w .takes x) q m))
-        ∙ any-none maxPositions (λ q. has (keptBelow (firstsOf w) n) q && has (setOf (w .takes x)) q) e q m
-
-    turned : (a b c : Bool) → (b && c) ≡ false → (b && (c && (a || false))) ≡ false
-    turned a true true f = ap (λ (b : Bool). b && (a || false)) f
-    turned a true false f = refl
-    turned a false c f = refl
-
-    unstarted : (a b c : Bool) → a ≡ false → (b && (c && (a || false))) ≡ false
-    unstarted a b c f = ap (λ (x : Bool). b && (c && (x || false))) f ∙ ap (λ (x : Bool). b && x) (and-false c) ∙ and-false b
-
-    quiet : (q : ℕ) → q < maxPositions → (b : Bool) → has (firstsOf w) q ≡ b → (ltb q n && (w .takes x q && (w .first gap q || false))) ≡ false
-    quiet q m true f = turned (w .first gap q) (ltb q n) (w .takes x q) (untaken q m f)
-    quiet q m false f = unstarted (w .first gap q) (ltb q n) (w .takes x q) (first-inside w gap q (between-inner before after) m f)
+    none-first : (q : ℕ) → starts w (firstGap false taken before after) x q ≡ false
+    none-first q =
+        ap (λ (g : ℕ). w .first g q && (leb innerGaps g || w .opens x)) later
+        ∙ ap₂ (λ (b c : Bool). w .first gap q && (b || c)) (lt-leb innerGaps gap (between-inner before after)) e
+        ∙ and-false (w .first gap q)

@@ -1,54 +1,25 @@
 -- The walk over the words of a live set joins the row of each live position: after n turns over word i, those below the place where the word is cleared;
 -- after all, those of the word.
-use mathlib.Core.Path.{_≡_, sym, ap, _∙_}
-use mathlib.Core.Bool.{Bool, false, _||_, _&&_, or-false}
+use mathlib.Core.Path.{_≡_, refl, sym, ap, _∙_}
+use mathlib.Core.Bool.{Bool, _||_, _&&_, or-false}
 use mathlib.Core.List.{List}
-use Prim.Native.Nat.{ℕ, zero, suc, _+_, _-_, _*_, _^_, _<_, _≤_}
-use native.Mathlib.Nat.{add-zero}
+use Prim.Native.Nat.{ℕ, _+_, _*_, _^_, _<_}
 use native.Mathlib.Omega.{arith}
 use lib.Count.{ones}
 use lib.ListN.{getD}
-use Rattle.sets.specs.Set.{on, has, setOf, any, unionOf, sizeOf}
-use Rattle.sets.proofs.Laws.{Words, has-at, setOf-has, setOf-ext, size-words}
+use Rattle.sets.specs.Set.{has, setOf, any, unionOf, sizeOf}
+use Rattle.sets.proofs.Laws.{Words, setOf-has, setOf-ext, size-words}
 use Rattle.table.specs.Layout.{rowHas}
-use Rattle.steps.specs.Walk.{asked}
 use Rattle.steps.specs.Invariants.{joined}
-use Rattle.steps.proofs.Asked.{place, after, some-left, from-place, lowest-inside, lowest-set, between, none-past}
 use Rattle.steps.proofs.Steps.{reached, reached-hit, reached-skip}
+use Rattle.steps.proofs.Turned.{turned-word}
 
 module _ (t : List ℕ) (rows : ℕ) (live : List ℕ) (from : ℕ → Bool) (i : ℕ) (fits : getD live i 0 < 2 ^ 64) where
-  -- the digits of the word that are off are positions that are not live
-  off : (a b : ℕ) → b ≤ 64 → ((k : ℕ) → a ≤ k → k < b → on (getD live i 0) k ≡ false)
-      → (p : ℕ) → i * 64 + a ≤ p → p < i * 64 + b → has live p ≡ false
-  off a b h e p g l =
-      let at : i * 64 + (p - i * 64) ≡ p = omega arith in
-      ap (has live) (sym at) ∙ has-at live i (p - i * 64) (omega arith) ∙ e (p - i * 64) (omega arith) (omega arith)
-
-  walked : (n : ℕ) → n ≤ ones (getD live i 0)
-      → joined t rows (getD live i 0) (i * 64) (reached t rows live from (i * 64)) n ≡ reached t rows live from (i * 64 + place (getD live i 0) fits n)
-  unfolding joined place
-  walked zero h = ap (reached t rows live from) (sym (add-zero (i * 64)))
-  walked (suc n) h =
-      let w : ℕ = getD live i 0 in
-      let a = after w fits n (omega arith) in
-      let some = some-left w fits n a h in
-      let p : ℕ = asked w n in
-      let low = lowest-inside w fits n a some in
-      let next : i * 64 + p + 1 ≡ i * 64 + suc p = omega arith in
-      ap (λ (s : List ℕ). unionOf s (setOf (rowHas t (rows + (i * 64 + p) * 4))))
-      (walked n (omega arith)
-      ∙ reached-skip t rows live from (i * 64 + place w fits n) (i * 64 + p) (omega (arith, from-place w fits n a some))
-      (off (place w fits n) p (omega (arith, low)) (between w fits n a some)))
-      ∙ reached-hit t rows live from (i * 64 + p) (has-at live i p low ∙ lowest-set w fits n a some)
-      ∙ ap (reached t rows live from) next
-
   pub walked-word : joined t rows (getD live i 0) (i * 64) (reached t rows live from (i * 64)) (ones (getD live i 0)) ≡ reached t rows live from (i * 64 + 64)
+  unfolding joined
   walked-word =
-      let w : ℕ = getD live i 0 in
-      let a = after w fits (ones w) (omega arith) in
-      walked (ones w) (omega arith)
-      ∙ reached-skip t rows live from (i * 64 + place w fits (ones w)) (i * 64 + 64) (omega (arith, a .inside))
-      (off (place w fits (ones w)) 64 (omega arith) (λ k h l. none-past w fits k h))
+      turned-word live (reached t rows live from) (λ s p. unionOf s (setOf (rowHas t (rows + p * 4)))) (reached-hit t rows live from) (reached-skip t rows live from) i fits
+      (joined t rows (getD live i 0) (i * 64) (reached t rows live from (i * 64))) refl (λ n. refl)
 
 -- before the first turn
 pub reached-none : (t : List ℕ) (rows : ℕ) (live s : List ℕ) → Words s → s ≡ reached t rows live (has s) 0

@@ -6,10 +6,10 @@ use Prim.Native.Nat.{ℕ}
 use lib.Dec.{leb, ltb}
 use lib.ListN.{length}
 use Rattle.kinds.specs.declared.Side.{Side}
-use Rattle.sets.specs.Set.{has, setOf, wordOf, any, emptySet}
+use Rattle.sets.specs.Set.{has, setOf, wordOf, any, emptySet, intersectionOf}
 use Rattle.table.specs.Layout.{tableWords, maxPositions}
-use Rattle.table.specs.Gaps.{unsettled, innerGaps, gapOf, firstGap}
-use Rattle.table.specs.Automaton.{Automaton}
+use Rattle.table.specs.Gaps.{unsettled, gapOf, firstGap}
+use Rattle.table.specs.Automaton.{Automaton, last, starts}
 
 -- a set, and a number, that is given of words enough for a table; of fewer it is empty, and 0
 unfoldable pub setOn : (t s : List ℕ) → List ℕ
@@ -25,11 +25,11 @@ module _ (w : Automaton) where
   unfoldable pub stepped : (line : Bool) → (before after : Side) → (n : ℕ) → (live : List ℕ) → (taken x : ℕ) → List ℕ
   stepped line before after n live taken x =
       setOf (λ q. ltb q n && (w .takes x q
-      && (w .first (firstGap line taken before after) q || any maxPositions (λ p. has live p && w .follow (gapOf line before after) p q))))
+      && (starts w (firstGap line taken before after) x q || any maxPositions (λ p. has live p && w .follow (gapOf line before after) p q))))
 
   -- some live position ends a match of the rule in place a, at a gap
   unfoldable pub ends : (gap : ℕ) → List ℕ → ℕ → Bool
-  ends gap live a = any maxPositions (λ p. has live p && w .last gap a p)
+  ends gap live a = any maxPositions (λ p. has live p && last w gap a p)
 
   -- some position of a set ends a match at a gap, and no position of the live set ends one at another, where less is known
   unfoldable pub endsNewly : (gap : ℕ) → List ℕ → (less : ℕ) → List ℕ → ℕ → Bool
@@ -37,15 +37,14 @@ module _ (w : Automaton) where
 
   -- the positions with which a match of some rule can end whatever follows
   unfoldable pub lastsOf : List ℕ
-  lastsOf = setOf (λ p. any (w .rules) (λ a. w .last unsettled a p))
+  lastsOf = setOf (w .ending unsettled)
 
-  -- the positions with which a match of some rule can end only where the next byte allows it
+  -- the positions with which a match of some rule can end only where the next byte allows it, and those of a live set
   unfoldable pub latesOf : List ℕ
-  latesOf = setOf (λ p. any (w .rules) (λ a. any innerGaps (λ g. w .last g a p) && not (w .last unsettled a p)))
+  latesOf = setOf (w .late)
 
-  -- the positions that can take the first byte of a match somewhere inside the stream
-  unfoldable pub firstsOf : List ℕ
-  firstsOf = setOf (λ q. any innerGaps (λ g. w .first g q))
+  abbrev pub lateIn : List ℕ → List ℕ
+  lateIn live = intersectionOf live latesOf
 
   -- the rules that pass a test, as a word: digit a is the rule in place a
   abbrev pub rulesWhere : (ℕ → Bool) → ℕ

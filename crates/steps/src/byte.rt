@@ -8,6 +8,7 @@ use table::gaps::gap_of;
 use table::layout::FIRST_AT;
 use table::layout::FOLLOW_AT;
 use table::layout::FOLLOW_WORDS;
+use table::layout::OPENERS_AT;
 use table::layout::SET_WORDS;
 use table::layout::TABLE_WORDS;
 use table::layout::TAKERS_AT;
@@ -17,32 +18,26 @@ ghost use lib.ListN.{length};
 ghost use Rattle.sets.specs.Set.{setOf, sizeOf};
 ghost use Rattle.table.specs.Layout.{tableWords};
 ghost use Rattle.table.specs.Gaps.{firstGaps};
-ghost use Rattle.table.specs.Automaton.{automaton};
-ghost use Rattle.steps.specs.Step.{setOn, numberOn, stepped, firstsOf};
+ghost use Rattle.table.specs.Automaton.{automaton, starts};
+ghost use Rattle.steps.specs.Step.{setOn, numberOn, stepped};
 
-// The positions that can take the first byte of a match after a gap.
-fn firsts(gap: usize, words: &[u64]) -> [u64; 4]
-    requires { ⌜ (tableWords ≤ length (now words)) × (gap < firstGaps) ⌝ }
-    ensures { λ r. ⌜ r ≡ setOf (automaton (now (words .entry)) .first gap) ⌝ }
+// Whether a match can begin with a byte inside a stream.
+pub fn opens(words: &[u64], byte: u8) -> bool
+    ensures { λ r. ⌜ r ≡ automaton (now (words .entry)) .opens byte ⌝ }
 {
-    row(words, FIRST_AT + gap * SET_WORDS)
+    table::word(words, OPENERS_AT + byte as usize) != 0
 }
 
-// The positions that can take the first byte of a match somewhere inside the stream.
-pub fn openings(words: &[u64]) -> [u64; 4]
-    ensures { λ r. ⌜ r ≡ setOn (now (words .entry)) (firstsOf (automaton (now (words .entry)))) ⌝ }
+// The positions that can take a byte, the first of a match after a gap.
+pub(super) fn firsts(gap: usize, words: &[u64], byte: u8) -> [u64; 4]
+    requires { ⌜ (tableWords ≤ length (now words)) × (gap < firstGaps) ⌝ }
+    ensures { λ r. ⌜ r ≡ setOf (starts (automaton (now (words .entry))) gap byte) ⌝ }
 {
-    if words.len() < TABLE_WORDS {
-        return sets::empty();
+    if (INNER_GAPS <= gap) | opens(words, byte) {
+        row(words, FIRST_AT + gap * SET_WORDS)
+    } else {
+        sets::empty()
     }
-    let mut s = sets::empty();
-    let mut g: usize = 0;
-    while g < INNER_GAPS {
-        let t = sets::union(s, firsts(g, words));
-        s = t;
-        g += 1;
-    }
-    s
 }
 
 // The positions that take a byte.
@@ -83,7 +78,7 @@ pub fn step(
             turns: 0,
         };
     }
-    let first = firsts(first_gap(line, taken, before, after), words);
+    let first = firsts(first_gap(line, taken, before, after), words, byte);
     let rows = FOLLOW_AT + gap_of(line, before, after) * FOLLOW_WORDS;
     let walked = walk(live, first, rows, words);
     let reached = walked.set;

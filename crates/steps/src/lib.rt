@@ -2,13 +2,15 @@
 // state, the reports and the calls are above, in the crate `stream`. Nothing is required of a caller: each promise holds for any words, and what is given
 // of words too few for a table is the empty set, or 0. specs/Step.antt says what each function gives.
 mod byte;
+mod line;
 mod rows;
 mod walk;
 
 pub use byte::Stepped;
-pub use byte::openings;
+pub use byte::opens;
 pub use byte::step;
 pub use byte::takers;
+pub use line::line_step;
 pub use rows::closing;
 pub use rows::ending;
 pub use rows::lasts;

@@ -1,28 +1,29 @@
-// The rules of a table: the union of their last sets, the rules that a live set ends and those that report once, as a word with a digit for each place, and a
+// The rules of a table: the last sets, the rules that a live set ends and those that report once, as a word with a digit for each place, and a
 // rule's id. Words that are no table may name any number of rules; no more are looked at than a table can have. That there are words enough is tested once,
-// before the rules are walked, and not for each of them.
+// before the positions are walked, and not for each of them.
 use kinds::Side;
-use table::gaps::INNER_GAPS;
 use table::gaps::UNSETTLED;
-use table::layout::FLAGS;
-use table::layout::ID;
-use table::layout::LAST;
+use table::layout::IDS_AT;
+use table::layout::LAST_AT;
+use table::layout::LATES_AT;
 use table::layout::MAX_RULES;
-use table::layout::RECORD_WORDS;
-use table::layout::RECORDS_AT;
+use table::layout::OWNERS_AT;
 use table::layout::RULES_AT;
 use table::layout::SET_WORDS;
+use table::layout::SINGLES_AT;
 use table::layout::TABLE_WORDS;
 ghost use mathlib.Core.Path.{_≡_};
 ghost use mathlib.Core.Bool.{_&&_};
 ghost use Prim.Native.Nat.{_+_, _≤_, _<_, min};
+ghost use lib.Count.{ones};
 ghost use lib.ListN.{length};
 ghost use Rattle.sets.specs.Set.{has, setOf, any, unionOf};
 ghost use Rattle.kinds.specs.declared.Side.the-variants.{Newline};
 ghost use Rattle.table.specs.Layout.{tableWords, maxRules, maxPositions, rulesOf, rowHas};
-ghost use Rattle.table.specs.Gaps.{between, beforeLast, unsettled, atEnd, lastGaps, innerGaps};
+ghost use Rattle.table.specs.Gaps.{between, beforeLast, unsettled, atEnd, lastGaps};
 ghost use Rattle.table.specs.Automaton.{automaton, single};
-ghost use Rattle.steps.specs.Step.{setOn, numberOn, ends, endsNewly, lastsOf, latesOf, rulesWhere};
+ghost use Rattle.steps.specs.Step.{setOn, numberOn, ends, endsNewly, lastsOf, latesOf, lateIn, rulesWhere};
+ghost use Rattle.steps.specs.Invariants.{withOwner, collected, ownersOf};
 
 // The set whose four words stand at `at`.
 pub(super) fn row(words: &[u64], at: usize) -> [u64; 4]
@@ -33,16 +34,12 @@ pub(super) fn row(words: &[u64], at: usize) -> [u64; 4]
 }
 
 // How many rules are looked at.
-fn rule_count(words: &[u64]) -> usize
+fn rule_count(words: &[u64]) -> u64
     requires { ⌜ tableWords ≤ length (now words) ⌝ }
     ensures { λ r. ⌜ r ≡ min (rulesOf (now (words .entry))) maxRules ⌝ }
 {
     let rules = words[RULES_AT];
-    if rules < MAX_RULES {
-        rules as usize
-    } else {
-        MAX_RULES as usize
-    }
+    if rules < MAX_RULES { rules } else { MAX_RULES }
 }
 
 // The id of the rule in this place; 0 where no table has a rule.
@@ -50,7 +47,7 @@ pub fn rule_id(words: &[u64], place: usize) -> u64
     ensures { λ r. ⌜ r ≡ automaton (now (words .entry)) .id place ⌝ }
 {
     if (place as u64) < MAX_RULES {
-        table::word(words, RECORDS_AT + place * RECORD_WORDS + ID)
+        table::word(words, IDS_AT + place)
     } else {
         0
     }
@@ -63,15 +60,12 @@ pub fn meets(s: [u64; 4], t: [u64; 4]) -> bool
     !sets::is_empty(sets::intersection(s, t))
 }
 
-// The set of the positions that can end a match of the rule in this place at a gap.
-fn last_row(words: &[u64], place: usize, gap: usize) -> [u64; 4]
-    requires { ⌜ (tableWords ≤ length (now words)) × (place < maxRules) × (gap < lastGaps) ⌝ }
-    ensures { λ r. ⌜ r ≡ setOf (automaton (now (words .entry)) .last gap place) ⌝ }
+// The set of the positions that can end a match at a gap.
+fn last_row(words: &[u64], gap: usize) -> [u64; 4]
+    requires { ⌜ (tableWords ≤ length (now words)) × (gap < lastGaps) ⌝ }
+    ensures { λ r. ⌜ r ≡ setOf (automaton (now (words .entry)) .ending gap) ⌝ }
 {
-    row(
-        words,
-        RECORDS_AT + place * RECORD_WORDS + (LAST + gap * SET_WORDS),
-    )
+    row(words, LAST_AT + gap * SET_WORDS)
 }
 
 // The positions with which a match of some rule can end whatever follows.
@@ -81,30 +75,15 @@ pub fn lasts(words: &[u64]) -> [u64; 4]
     if words.len() < TABLE_WORDS {
         return sets::empty();
     }
-    let rules = rule_count(words);
-    let mut s = sets::empty();
-    let mut a: usize = 0;
-    while a < rules {
-        let t = sets::union(s, last_row(words, a, UNSETTLED));
-        s = t;
-        a += 1;
-    }
-    s
+    last_row(words, UNSETTLED)
 }
 
-// The positions that can end a match of the rule in this place at some gap between two bytes.
-fn inner_lasts(words: &[u64], place: usize) -> [u64; 4]
-    requires { ⌜ (tableWords ≤ length (now words)) × (place < maxRules) ⌝ }
-    ensures { λ r. ⌜ r ≡ setOf (λ p. any innerGaps (λ g. automaton (now (words .entry)) .last g place p)) ⌝ }
+// The set of the positions with which a match can end only where the next byte allows it.
+fn late_row(words: &[u64]) -> [u64; 4]
+    requires { ⌜ tableWords ≤ length (now words) ⌝ }
+    ensures { λ r. ⌜ r ≡ latesOf (automaton (now (words .entry))) ⌝ }
 {
-    let mut s = sets::empty();
-    let mut g: usize = 0;
-    while g < INNER_GAPS {
-        let t = sets::union(s, last_row(words, place, g));
-        s = t;
-        g += 1;
-    }
-    s
+    row(words, LATES_AT)
 }
 
 // The positions with which a match of some rule can end only where the next byte allows it.
@@ -114,36 +93,55 @@ pub fn lates(words: &[u64]) -> [u64; 4]
     if words.len() < TABLE_WORDS {
         return sets::empty();
     }
-    let rules = rule_count(words);
-    let mut s = sets::empty();
-    let mut a: usize = 0;
-    while a < rules {
-        let only = sets::intersection(
-            inner_lasts(words, a),
-            sets::complement(last_row(words, a, UNSETTLED)),
-        );
-        let t = sets::union(s, only);
-        s = t;
-        a += 1;
-    }
-    s
+    late_row(words)
 }
 
-// The rules of which a match ends at a gap with a position of the set.
+// A word of rules with the digit of place a, if that is one of the rules.
+fn with_owner(found: u64, a: u64, rules: u64) -> u64
+    requires { ⌜ rules ≤ maxRules ⌝ }
+    ensures { λ r. ⌜ r ≡ withOwner rules a found ⌝ }
+{
+    if a < rules {
+        return found | 1 << a;
+    }
+    found
+}
+
+// Collects the owners of the positions of one word, whose digit k is position base + k.
+fn owner_word(mut word: u64, base: usize, rules: u64, mut found: u64, words: &[u64]) -> u64
+    requires { ⌜ (tableWords ≤ length (now words)) × (base ≤ 192) × (rules ≤ maxRules) ⌝ }
+    ensures { λ r. ⌜ r ≡ collected (now (words .entry)) rules word base found (ones word) ⌝ }
+{
+    let mut turns: u32 = 0;
+    while word != 0 {
+        let p = base + u64::trailing_zeros(word) as usize;
+        let more = with_owner(found, words[OWNERS_AT + p], rules);
+        found = more;
+        word = word & (word - 1);
+        turns += 1;
+    }
+    found
+}
+
+// The rules that own a position of a set.
+fn owners(set: [u64; 4], rules: u64, words: &[u64]) -> u64
+    requires { ⌜ (tableWords ≤ length (now words)) × (rules ≤ maxRules) ⌝ }
+    ensures { λ r. ⌜ r ≡ ownersOf (now (words .entry)) rules set maxPositions ⌝ }
+{
+    let a = owner_word(set[0], 0, rules, 0, words);
+    let b = owner_word(set[1], 64, rules, a, words);
+    let c = owner_word(set[2], 128, rules, b, words);
+    owner_word(set[3], 192, rules, c, words)
+}
+
+// The rules of which a match ends at a gap with a position of the set: the owners of those that can end one there.
 fn ending_at(gap: usize, set: [u64; 4], words: &[u64]) -> u64
     requires { ⌜ (tableWords ≤ length (now words)) × (gap < lastGaps) ⌝ }
     ensures { λ r. ⌜ r ≡ rulesWhere (automaton (now (words .entry))) (ends (automaton (now (words .entry))) gap set) ⌝ }
 {
     let rules = rule_count(words);
-    let mut found: u64 = 0;
-    let mut a: usize = 0;
-    while a < rules {
-        if meets(set, last_row(words, a, gap)) {
-            found = found | 1 << a;
-        }
-        a += 1;
-    }
-    found
+    let found = sets::intersection(set, last_row(words, gap));
+    owners(found, rules, words)
 }
 
 // The rules of which a match ends with a live position, whatever follows.
@@ -156,14 +154,15 @@ pub fn ending(live: [u64; 4], words: &[u64]) -> u64
     ending_at(UNSETTLED, live, words)
 }
 
-// The rules of which a match ends with a live position at the gap between these two sides, and not whatever follows.
+// The rules of which a match ends with a live position at the gap between these two sides, one that waits for the next byte, and with none whatever follows.
 pub fn late_ending(before: Side, after: Side, live: [u64; 4], words: &[u64]) -> u64
-    ensures { λ r. ⌜ r ≡ numberOn (now (words .entry)) (rulesWhere (automaton (now (words .entry))) (endsNewly (automaton (now (words .entry))) (between before after) live unsettled live)) ⌝ }
+    ensures { λ r. ⌜ r ≡ numberOn (now (words .entry)) (rulesWhere (automaton (now (words .entry))) (endsNewly (automaton (now (words .entry))) (between before after) (lateIn (automaton (now (words .entry))) live) unsettled live)) ⌝ }
 {
     if words.len() < TABLE_WORDS {
         return 0;
     }
-    let known = ending_at(table::gaps::between(before, after), live, words);
+    let late = sets::intersection(live, late_row(words));
+    let known = ending_at(table::gaps::between(before, after), late, words);
     let settled = ending_at(UNSETTLED, live, words);
     known & !settled
 }
@@ -192,9 +191,6 @@ pub fn closing(before: Side, live: [u64; 4], held: [u64; 4], words: &[u64]) -> u
     at_end & !settled
 }
 
-// Flag 8 in a rule's flags.
-const SINGLE: u64 = 8;
-
 // The single-match rules.
 pub fn singles(words: &[u64]) -> u64
     ensures { λ r. ⌜ r ≡ numberOn (now (words .entry)) (rulesWhere (automaton (now (words .entry))) (single (automaton (now (words .entry))))) ⌝ }
@@ -202,14 +198,10 @@ pub fn singles(words: &[u64]) -> u64
     if words.len() < TABLE_WORDS {
         return 0;
     }
-    let rules = rule_count(words);
-    let mut found: u64 = 0;
-    let mut a: usize = 0;
-    while a < rules {
-        if words[RECORDS_AT + a * RECORD_WORDS + FLAGS] / SINGLE % 2 == 1 {
-            found = found | 1 << a;
-        }
-        a += 1;
+    let rules = words[RULES_AT];
+    let marks = words[SINGLES_AT];
+    if rules < MAX_RULES {
+        return marks & ((1 << rules) - 1);
     }
-    found
+    marks
 }

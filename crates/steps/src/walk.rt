@@ -17,7 +17,13 @@ pub(super) struct Walked {
 }
 
 // Joins the rows of the positions of one live word, whose digit k is position base + k.
-fn walk_word(mut word: u64, base: usize, mut set: [u64; 4], rows: usize, words: &[u64]) -> Walked
+pub(super) fn walk_word(
+    mut word: u64,
+    base: usize,
+    mut set: [u64; 4],
+    rows: usize,
+    words: &[u64],
+) -> Walked
     requires { ⌜ (tableWords ≤ length (now words)) × (base ≤ 192) × (rows ≤ 14336) ⌝ }
     ensures { λ r. ⌜ (r .turns ≡ ones word) × (r .set ≡ joined (now (words .entry)) rows word base set (ones word)) ⌝ }
 {

@@ -15,7 +15,7 @@ use Rattle.sets.proofs.Laws.{has-full, has-intersection, has-complement, has-be
 use Rattle.table.specs.Layout.{maxPositions, rulesOf}
 use Rattle.table.specs.Table.{isTable}
 use Rattle.table.specs.Automaton.{Automaton, automaton}
-use Rattle.steps.proofs.Members.{not-below, on-without}
+use Rattle.table.proofs.Members.{not-below, on-without}
 use Rattle.stream.specs.declared.Stream.{Stream}
 use Rattle.stream.specs.Valid.{streamLimit, sameCounts, liveInside, marksSingle, underLimit, heldInside, pendingInside, pendingLate, valid}
 use Rattle.stream.specs.Calls.{spaceNumber, scanNumber, closeNumber}

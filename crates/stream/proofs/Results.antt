@@ -17,9 +17,9 @@ use Rattle.kinds.specs.Side.{sideOf}
 use Rattle.table.specs.Layout.{maxPositions, rulesOf, positionsOf}
 use Rattle.table.specs.Table.{isTable}
 use Rattle.table.specs.Gaps.{between, beforeLast, gapOf, firstGap}
-use Rattle.table.specs.Automaton.{Automaton, automaton, single}
+use Rattle.table.specs.Automaton.{Automaton, automaton, single, starts}
 use Rattle.steps.specs.Step.{stepped, endsNewly, rulesWhere}
-use Rattle.steps.proofs.Members.{not-below}
+use Rattle.table.proofs.Members.{not-below}
 use Rattle.stream.specs.declared.Stream.{Stream}
 use Rattle.stream.specs.declared.Scanned.{Scanned}
 use Rattle.stream.specs.declared.Closed.{Closed}
@@ -63,7 +63,7 @@ opened-valid t e =
 -- a step stays below the count
 module _ (w : Automaton) (line : Bool) (before after : Side) (live : List ℕ) (taken x : ℕ) where
   rest : ℕ → Bool
-  rest q = w .takes x q && (w .first (firstGap line taken before after) q || any maxPositions (λ p. has live p && w .follow (gapOf line before after) p q))
+  rest q = w .takes x q && (starts w (firstGap line taken before after) x q || any maxPositions (λ p. has live p && w .follow (gapOf line before after) p q))
 
   takers : ℕ → Bool
   takers q = ltb q (w .positions) && rest q

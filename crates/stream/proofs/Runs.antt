@@ -20,7 +20,7 @@ use Rattle.sets.proofs.Digits.{on-or, on-and, on-zero, on-wordOf, wordOf-ext, w
 use Rattle.table.specs.Automaton.{Automaton, single}
 use Rattle.table.proofs.Rows.{under}
 use Rattle.steps.specs.Step.{rulesWhere}
-use Rattle.steps.proofs.Members.{word-is, on-places-past, on-without, count-below}
+use Rattle.table.proofs.Members.{word-is, on-places-past, on-without, count-below}
 use Rattle.stream.specs.Byte.{due, runIds, runMarks}
 use Rattle.stream.specs.Invariants.{Wrote}
 

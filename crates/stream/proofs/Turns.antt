@@ -15,8 +15,8 @@ use Rattle.sets.specs.Set.{on, emptySet, sizeOf}
 use Rattle.kinds.specs.Side.{sideOf}
 use Rattle.table.specs.Gaps.{between, unsettled}
 use Rattle.table.specs.Automaton.{Automaton}
-use Rattle.steps.specs.Step.{stepped, ends, endsNewly, rulesWhere}
-use Rattle.steps.proofs.Members.{on-places}
+use Rattle.steps.specs.Step.{stepped, ends, endsNewly, rulesWhere, lateIn}
+use Rattle.table.proofs.Members.{on-places}
 use Rattle.stream.specs.declared.Stream.{Stream}
 use Rattle.stream.specs.Byte.{nextLive, twoIds, twoEnds, twoMarks, lateTest, ownTest, byteIds, byteEnds, byteState, stateAfter, idsOf, endsOf, costOf}
 use Rattle.stream.specs.Calls.{space, written}
@@ -24,7 +24,7 @@ use Rattle.stream.specs.Invariants.{stateOf, sideAt, WroteTwo, Delivered
 use Rattle.stream.proofs.TwoRuns.{two-ends-count, two-ids-ext, two-ends-ext, two-marks-ext, two-ids-none, two-ends-none, two-marks-none, two-marks-small, grow}
 use Rattle.stream.proofs.Blocks.{state-more, ids-more, ends-more, taken-after, last-after, ends-count, cost-more, Over, fits-le, fits-is}
 use Rattle.stream.proofs.Counting.{counting, byte-live, byte-marks, ids-alike, ends-alike}
-use Rattle.stream.proofs.Quiet.{ends-empty, newly-empty, size-empty, skipped-to}
+use Rattle.stream.proofs.Quiet.{ends-empty, late-empty, size-empty, skipped-to}
 
 -- ---- what holds in the loop
 
@@ -279,7 +279,7 @@ module _ (w : Automaton) (s : Stream) (block ids₀ offsets₀ : List ℕ) where
             ap (λ (y : List ℕ). stepped w false side (sideOf byte) (w .positions) y (s .taken + n) byte) empty ∙ q .still n l m side ∙ sym empty in
             subst (λ (y : List ℕ). Running w s block ids₀ offsets₀ y reported ids offsets count (n + 1)) same
             (running-silent live reported ids offsets count n r (omega (arith, q .inside))
-            (λ a f. ap (λ (y : List ℕ). endsNewly w (between side (sideOf byte)) y unsettled y a) empty ∙ newly-empty w (between side (sideOf byte)) unsettled a)
+            (λ a f. ap (λ (y : List ℕ). endsNewly w (between side (sideOf byte)) (lateIn w y) unsettled y a) empty ∙ late-empty w (between side (sideOf byte)) unsettled a)
             (λ a f. ap (λ (y : List ℕ). ends w unsettled y a) (same ∙ empty) ∙ ends-empty w unsettled a))
 
         over : (d : ℕ) → at + d ≤ to → Running w s block ids₀ offsets₀ live reported ids offsets count (at + d)

@@ -14,7 +14,7 @@ use Rattle.sets.specs.Set.{on, count}
 use Rattle.sets.proofs.Digits.{on-or, on-zero}
 use Rattle.table.specs.Automaton.{Automaton, single}
 use Rattle.steps.specs.Step.{rulesWhere}
-use Rattle.steps.proofs.Members.{on-places}
+use Rattle.table.proofs.Members.{on-places}
 use Rattle.stream.specs.declared.Stream.{Stream}
 use Rattle.stream.specs.Byte.{runIds, runMarks, twoIds, twoEnds, twoMarks, heldTest, endTest, closeIds, closeEnds}
 use Rattle.stream.specs.Calls.{space, written}

@@ -10,7 +10,7 @@ use Rattle.kinds.specs.declared.Side.the-variants.{Newline}
 use Rattle.kinds.specs.Side.{sideOf}
 use Rattle.table.specs.Gaps.{between, beforeLast, unsettled, atEnd}
 use Rattle.table.specs.Automaton.{Automaton, single}
-use Rattle.steps.specs.Step.{stepped, ends, endsNewly, rulesWhere}
+use Rattle.steps.specs.Step.{stepped, ends, endsNewly, lateIn, rulesWhere}
 use Rattle.stream.specs.declared.Stream.{Stream}
 
 -- "The state also shows its busy figure: the number of live positions"; "It equals the ones in the live set."; "positions behind an unsettled assertion aren't in
@@ -59,9 +59,9 @@ module _ (w : Automaton) where
   twoMarks one two marks = runMarks two (runMarks one marks)
 
   -- "A pair that so depends on the next byte is delivered when that byte is taken, or at closing, before the pairs of the newer offset, each run by rising id."
-  -- Byte x has the late run, of the rules that end before it now that it is known, and its own.
+  -- Byte x has the late run, of the rules that end before it now that it is known, with a position that waits for that, and its own.
   abbrev pub lateTest : Stream → ℕ → ℕ → Bool
-  lateTest s x = endsNewly w (between (s .last) (sideOf x)) (s .live) unsettled (s .live)
+  lateTest s x = endsNewly w (between (s .last) (sideOf x)) (lateIn w (s .live)) unsettled (s .live)
 
   abbrev pub ownTest : Stream → ℕ → ℕ → Bool
   ownTest s x = ends w unsettled (nextLive s x)

@@ -5,11 +5,11 @@ use mathlib.Core.List.{List}
 use Prim.Native.Nat.{ℕ, zero, suc, _+_, _-_, _<_, _≤_}
 use lib.Dec.{eqb, ltb}
 use lib.ListN.{length, getD, replicate}
-use Rattle.sets.specs.Set.{emptySet, keptBelow}
+use Rattle.sets.specs.Set.{emptySet}
 use Rattle.kinds.specs.declared.Side.{Side}
 use Rattle.kinds.specs.Side.{sideOf}
-use Rattle.table.specs.Automaton.{Automaton, automaton}
-use Rattle.steps.specs.Step.{stepped, firstsOf}
+use Rattle.table.specs.Automaton.{Automaton}
+use Rattle.steps.specs.Step.{stepped}
 use Rattle.stream.specs.declared.Stream.{Stream}
 use Rattle.stream.specs.Byte.{nextHeld, nextPending, runIds, runMarks, twoIds, twoEnds, twoMarks, stateAfter, idsOf, endsOf, costOf, fits, closeIds, closeEnds}
 use Rattle.stream.specs.Calls.{space, written}
@@ -51,10 +51,6 @@ pub record Delivered (w : Automaton) (one two : ℕ → Bool) (marks d e : ℕ) 
 unfoldable pub sideAt : Side → List ℕ → ℕ → Side
 sideAt before block zero = before
 sideAt before block (suc k) = sideOf (getD block k 0)
-
--- the positions that can take the first byte of a match inside the stream, among those of the table
-unfoldable pub inStream : List ℕ → List ℕ
-inStream t = keptBelow (firstsOf (automaton t)) (automaton t .positions)
 
 -- nothing is live and the bytes of the block from `from` up to `to`, at most up to `end`, leave it so, `taken` bytes of the stream before the block
 pub record Skipped (w : Automaton) (live block : List ℕ) (taken from end to : ℕ) : Type 0 where

@@ -8,11 +8,11 @@ use steps::lasts;
 use steps::late_ending;
 use steps::lates;
 use steps::line_ending;
+use steps::line_step;
 use steps::meets;
-use steps::openings;
+use steps::opens;
 use steps::singles;
 use steps::step;
-use steps::takers;
 use table::layout::POSITIONS_AT;
 use table::layout::TABLE_WORDS;
 ghost use mathlib.Core.Path.{_≡_};
@@ -24,9 +24,9 @@ ghost use Rattle.table.specs.Layout.{tableWords};
 ghost use Rattle.table.specs.Table.{isTable};
 ghost use Rattle.table.specs.Gaps.{between, unsettled};
 ghost use Rattle.table.specs.Automaton.{automaton};
-ghost use Rattle.steps.specs.Step.{ends, endsNewly, lastsOf, latesOf, rulesWhere};
+ghost use Rattle.steps.specs.Step.{ends, endsNewly, lastsOf, latesOf, lateIn, rulesWhere};
 ghost use Rattle.stream.specs.Byte.{nextHeld, nextPending};
-ghost use Rattle.stream.specs.Invariants.{stateOf, sideAt, inStream, Skipped, Ran, Left};
+ghost use Rattle.stream.specs.Invariants.{stateOf, sideAt, Skipped, Ran, Left};
 
 // The byte that ends a line.
 const NEWLINE: u8 = 10;
@@ -44,17 +44,9 @@ pub(super) fn side_at(before: Side, block: &[u8], at: usize) -> Side
 }
 
 // The place of the next byte before `end` that has to be looked at, or `end`. Where nothing is live inside the stream, bytes that start nothing are passed over. That
-// there are enough words is tested once, before the loop, so that the compiler leaves out the test of each byte's set.
-fn ahead(
-    live: [u64; 4],
-    taken: u64,
-    words: &[u64],
-    first: [u64; 4],
-    block: &[u8],
-    from: usize,
-    end: usize,
-) -> usize
-    requires { ⌜ (first ≡ inStream (now words)) × (from ≤ end) × (end ≤ length (now block)) × (taken + length (now block) < 2 ^ 64) ⌝ }
+// there are enough words is tested once, before the loop, so that the compiler leaves out the test of each byte's word.
+fn ahead(live: [u64; 4], taken: u64, words: &[u64], block: &[u8], from: usize, end: usize) -> usize
+    requires { ⌜ (from ≤ end) × (end ≤ length (now block)) × (taken + length (now block) < 2 ^ 64) ⌝ }
     ensures { λ r. ⌜ Skipped (automaton (now (words .entry))) live (now (block .entry)) taken from end r ⌝ }
 {
     if !sets::is_empty(live) | (taken + from as u64 == 0) | (words.len() < TABLE_WORDS) {
@@ -62,7 +54,7 @@ fn ahead(
     }
     let mut at = from;
     while at < end {
-        if meets(first, takers(words, block[at])) {
+        if opens(words, block[at]) {
             return at;
         }
         at += 1;
@@ -103,7 +95,7 @@ pub(super) struct Taken {
 // The rules of which a match ends before a byte, now that it is known. A rule is looked at only if a live position can end a match so.
 fn late_rules(live: [u64; 4], late: [u64; 4], before: Side, after: Side, words: &[u64]) -> u64
     requires { ⌜ (isTable (now words) ≡ true) × (late ≡ latesOf (automaton (now words))) ⌝ }
-    ensures { λ r. ⌜ r ≡ rulesWhere (automaton (now (words .entry))) (endsNewly (automaton (now (words .entry))) (between before after) live unsettled live) ⌝ }
+    ensures { λ r. ⌜ r ≡ rulesWhere (automaton (now (words .entry))) (endsNewly (automaton (now (words .entry))) (between before after) (lateIn (automaton (now (words .entry))) live) unsettled live) ⌝ }
 {
     if meets(live, late) {
         late_ending(before, after, live, words)
@@ -140,7 +132,6 @@ pub(super) fn run(
     ensures { λ r. ⌜ Ran (automaton (now (words .entry))) (stateOf live reported side taken) allowance (now (block .entry)) (now (ids .entry)) (now (offsets .entry)) (r .live) (r .before) (r .reported) (r .taken) (r .reports) (r .left) (now (ids .exit)) (now (offsets .exit)) ⌝ }
 {
     let positions = words[POSITIONS_AT] as usize;
-    let first = sets::below(openings(words), positions);
     let last = lasts(words);
     let late = lates(words);
     let single = singles(words);
@@ -150,7 +141,7 @@ pub(super) fn run(
     let mut left = allowance;
     loop {
         let end = payable(block.len(), at, left);
-        let to = ahead(live, taken, words, first, block, at, end);
+        let to = ahead(live, taken, words, block, at, end);
         let last_live = passed(at, to, live, before);
         before = last_live;
         left = left - (to - at) as u64;
@@ -216,17 +207,7 @@ fn left_waiting(live: [u64; 4], before: Side, taken: u64, words: &[u64], byte: u
         return Waiting { held, pending: 0 };
     }
     let positions = words[POSITIONS_AT] as usize;
-    let after = step(
-        true,
-        before,
-        side_of(byte),
-        live,
-        taken,
-        words,
-        positions,
-        byte,
-    );
-    let held = after.live;
+    let held = line_step(before, side_of(byte), live, taken, words, positions, byte);
     if taken == 0 {
         return Waiting { held, pending: 0 };
     }

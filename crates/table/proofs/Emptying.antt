@@ -1,16 +1,18 @@
 -- Emptying. The words of `emptied t` are known one by one, so what the loop writes is `emptied t`; the result passes the test and describes the automaton
 -- with no rules.
 use mathlib.Core.Path.{_≡_, refl, sym, ap, _∙_}
-use mathlib.Core.Bool.{true, false, cond, _&&_}
+use mathlib.Core.Bool.{true, false, cond, not, _&&_}
 use mathlib.Core.List.{List, _++_}
 use Prim.Native.Nat.{ℕ, zero, suc, pred, _+_, _-_, _≤_, _<_}
 use native.Mathlib.Nat.{le-of-suc-le-suc}
 use native.Mathlib.Omega.{arith}
-use lib.Dec.{ltb}
+use lib.Dec.{eqb, ltb}
 use lib.ListN.{length, getD, set, drop, length-append, length-drop, length-set, length-replicate, getD-replicate, List·getD-append}
 use lib.Seq.{getD-append-add, getD-drop, getD-set-same, getD-set-other}
 use borrow.Author.Tests.{lt-ltb, le-ltb}
-use Rattle.table.specs.Layout.{tableWords, maxRules, maxPositions, bytes, format, rulesOf, firstAt, stride, lastAt, takersAt, followAt, recordAt, recordWord, rowHas}
+use Rattle.sets.specs.Set.{on}
+use Rattle.sets.proofs.Digits.{on-zero}
+use Rattle.table.specs.Layout.{tableWords, maxRules, maxPositions, bytes, format, rulesOf, firstAt, lastAt, latesAt, takersAt, followAt, idAt, openerAt, ownerAt, rowHas}
 use Rattle.table.specs.Gaps.{firstGaps, followGaps, lastGaps}
 use Rattle.table.specs.Table.{isTable, emptyTable, emptyNumber, emptied}
 use Rattle.table.specs.Automaton.{Automaton, automaton}
@@ -24,11 +26,14 @@ noRules = record {
   rules = 0;
   positions = 0;
   id = λ a. 0;
-  flags = λ a. 0;
+  once = λ a. false;
+  opens = λ x. false;
   takes = λ x q. false;
   first = λ g q. false;
   follow = λ g p q. false;
-  last = λ g a p. false;
+  ending = λ g p. false;
+  owner = λ p. 0;
+  late = λ p. false;
 }
 
 -- ---- the empty table, word by word
@@ -106,9 +111,6 @@ module _ (t : List ℕ) (h : tableWords ≤ length t) where
         positions = omega (arith, emptied-zero 2 (omega arith) (omega arith));
         rising = λ a b l m. absurd (omega (arith, none));
         small = λ a l. absurd (omega (arith, none));
-        known = λ a l. absurd (omega (arith, none));
-        ordered = λ a l. absurd (omega (arith, none));
-        inside = λ a l. absurd (omega (arith, none));
       })
 
   -- ---- it describes the automaton with no rules
@@ -118,16 +120,24 @@ module _ (t : List ℕ) (h : tableWords ≤ length t) where
   empty-automaton = λ i. record {
     rules = none i;
     positions = emptied-zero 2 (omega arith) (omega arith) i;
-    id = λ a. number a 0 (omega arith) i;
-    flags = λ a. number a 1 (omega arith) i;
+    id = λ a. number maxRules idAt (λ a h. (omega arith, omega arith)) a i;
+    once = λ a. (ap (λ (x : ℕ). on x a) (emptied-zero 3 (omega arith) (omega arith)) ∙ on-zero a) i;
+    opens = λ x. opener x i;
     takes = λ x q. test bytes takersAt (λ x h. (omega arith, omega arith)) x q i;
     first = λ g q. test firstGaps firstAt (λ g h. (omega arith, omega arith)) g q i;
     follow = λ g p q. tests followGaps maxPositions followAt (λ g p h l. (omega arith, omega arith)) g p q i;
-    last = λ g a p. tests lastGaps maxRules (λ g a. lastAt a g) (λ g a h l. (omega arith, omega arith)) g a p i;
+    ending = λ g p. test lastGaps lastAt (λ g h. (omega arith, omega arith)) g p i;
+    owner = λ p. number maxPositions ownerAt (λ p h. (omega arith, omega arith)) p i;
+    late = λ p. no-member latesAt (omega arith) (omega arith) p i;
   }
     where
-      number : (a f : ℕ) → f < stride → cond (ltb a maxRules) (recordWord (emptied t) a f) 0 ≡ 0
-      number a f l = under maxRules a (λ b. cond b (recordWord (emptied t) a f) 0) (λ b. 0) (λ m. emptied-zero (recordAt a + f) (omega arith) (omega arith)) refl
+      number : (n : ℕ) (place : ℕ → ℕ) → ((k : ℕ) → k < n → (0 < place k) × (place k < tableWords)) → (k : ℕ) → cond (ltb k n) (getD (emptied t) (place k) 0) 0 ≡ 0
+      number n place fits k = under n k (λ b. cond b (getD (emptied t) (place k) 0) 0) (λ b. 0) (λ m. emptied-zero (place k) (fits k m .0) (fits k m .1)) refl
+
+      opener : (x : ℕ) → (ltb x bytes && not (eqb (getD (emptied t) (openerAt x) 0) 0)) ≡ false
+      opener x =
+          under bytes x (λ b. b && not (eqb (getD (emptied t) (openerAt x) 0) 0)) (λ b. false)
+          (λ m. ap (λ (y : ℕ). not (eqb y 0)) (emptied-zero (openerAt x) (omega arith) (omega arith))) refl
 
       no-member : (at : ℕ) → 0 < at → at + 4 ≤ tableWords → (q : ℕ) → rowHas (emptied t) at q ≡ false
       no-member at a b = row-empty (emptied t) at (λ i l. emptied-zero (at + i) (omega arith) (omega arith))

@@ -1,18 +1,18 @@
 -- Words beyond the first 16,384 count for nothing: lists that agree up to there describe the same automaton, and pass the test alike. Each part of the automaton
 -- and each fact of the test reads words below 16,384, which are the same in both lists; lists too short for a table are equal.
-use mathlib.Core.Path.{_≡_, refl, sym, ap, _∙_, subst}
-use mathlib.Core.Bool.{Bool, true, false, true≢false, cond, _&&_}
+use mathlib.Core.Path.{_≡_, refl, sym, ap, _∙_}
+use mathlib.Core.Bool.{Bool, true, false, true≢false, cond, not, _&&_}
 use mathlib.Core.List.{List}
 use Prim.Native.Nat.{ℕ, _+_, _≤_, _<_, min}
 use native.Mathlib.Decide.{decLt}
 use native.Mathlib.Omega.{arith}
-use lib.Bits.{bitAnd}
-use lib.Dec.{ltb}
+use lib.Dec.{eqb, ltb}
 use lib.ListN.{length, getD, take, length-take}
 use lib.Seq.{getD-take, take-all}
-use Rattle.table.specs.Layout.{tableWords, maxRules, maxPositions, bytes, rulesOf, positionsOf, firstAt, stride, recordAt, lastAt, takersAt, followAt, recordWord, rowHas}
+use Rattle.sets.specs.Set.{on}
+use Rattle.table.specs.Layout.{tableWords, maxRules, maxPositions, bytes, rulesOf, positionsOf, firstAt, idAt, idWord, openerAt, ownerAt, lastAt, latesAt, takersAt, followAt, rowHas}
 use Rattle.table.specs.Gaps.{firstGaps, followGaps, lastGaps}
-use Rattle.table.specs.Table.{knownFlags, isTable}
+use Rattle.table.specs.Table.{isTable}
 use Rattle.table.specs.Automaton.{automaton}
 use Rattle.table.proofs.Test.{Passes, passes, accepted, refused}
 use Rattle.table.proofs.Rows.{under, row-same}
@@ -29,16 +29,24 @@ module _ (t u : List ℕ) (same : take tableWords t ≡ take tableWords u) where
   automaton-local = λ i. record {
     rules = same-word 1 (omega arith) i;
     positions = same-word 2 (omega arith) i;
-    id = λ a. number a 0 (omega arith) i;
-    flags = λ a. number a 1 (omega arith) i;
+    id = λ a. number maxRules idAt (λ a h. omega arith) a i;
+    once = λ a. on (same-word 3 (omega arith) i) a;
+    opens = λ x. opener x i;
     takes = λ x q. test bytes takersAt (λ x h. omega arith) x q i;
     first = λ g q. test firstGaps firstAt (λ g h. omega arith) g q i;
     follow = λ g p q. tests followGaps maxPositions followAt (λ g p h l. omega arith) g p q i;
-    last = λ g a p. tests lastGaps maxRules (λ g a. lastAt a g) (λ g a h l. omega arith) g a p i;
+    ending = λ g p. test lastGaps lastAt (λ g h. omega arith) g p i;
+    owner = λ p. number maxPositions ownerAt (λ p h. omega arith) p i;
+    late = λ p. same-row latesAt (omega arith) p i;
   }
     where
-      number : (a f : ℕ) → f < stride → cond (ltb a maxRules) (recordWord t a f) 0 ≡ cond (ltb a maxRules) (recordWord u a f) 0
-      number a f l = under maxRules a (λ b. cond b (recordWord t a f) 0) (λ b. cond b (recordWord u a f) 0) (λ h. same-word (recordAt a + f) (omega arith)) refl
+      number : (n : ℕ) (place : ℕ → ℕ) → ((k : ℕ) → k < n → place k < tableWords) → (k : ℕ) → cond (ltb k n) (getD t (place k) 0) 0 ≡ cond (ltb k n) (getD u (place k) 0) 0
+      number n place fits k = under n k (λ b. cond b (getD t (place k) 0) 0) (λ b. cond b (getD u (place k) 0) 0) (λ h. same-word (place k) (fits k h)) refl
+
+      opener : (x : ℕ) → (ltb x bytes && not (eqb (getD t (openerAt x) 0) 0)) ≡ (ltb x bytes && not (eqb (getD u (openerAt x) 0) 0))
+      opener x =
+          under bytes x (λ b. b && not (eqb (getD t (openerAt x) 0) 0)) (λ b. b && not (eqb (getD u (openerAt x) 0) 0))
+          (λ h. ap (λ (y : ℕ). not (eqb y 0)) (same-word (openerAt x) (omega arith))) refl
 
       test : (n : ℕ) (place : ℕ → ℕ) → ((k : ℕ) → k < n → place k + 4 ≤ tableWords) → (k q : ℕ) → (ltb k n && rowHas t (place k) q) ≡ (ltb k n && rowHas u (place k) q)
       test n place fits k q = under n k (λ b. b && rowHas t (place k) q) (λ b. b && rowHas u (place k) q) (λ h. same-row (place k) (fits k h) q) refl
@@ -57,11 +65,8 @@ module _ (t u : List ℕ) (same : take tableWords t ≡ take tableWords u) where
         marked = sym (same-word 0 (omega arith)) ∙ p .marked;
         rules = omega (arith, rules, p .rules);
         positions = omega (arith, positions, p .positions);
-        rising = λ a b l m. omega (arith, field a 0 (omega arith) (omega arith), field b 0 m (omega arith), p .rising a b l (omega (arith, rules)));
-        small = λ a l. omega (arith, field a 0 l (omega arith), p .small a (omega (arith, rules)));
-        known = λ a l. subst (λ (f : ℕ). bitAnd f knownFlags ≡ f) (field a 1 l (omega arith)) (p .known a (omega (arith, rules)));
-        ordered = λ a l. omega (arith, field a 2 l (omega arith), field a 3 l (omega arith), p .ordered a (omega (arith, rules)));
-        inside = λ a l. omega (arith, field a 3 l (omega arith), positions, p .inside a (omega (arith, rules)));
+        rising = λ a b l m. omega (arith, field a (omega arith), field b m, p .rising a b l (omega (arith, rules)));
+        small = λ a l. omega (arith, field a l, p .small a (omega (arith, rules)));
       }
     where
       rules : rulesOf t ≡ rulesOf u
@@ -70,8 +75,8 @@ module _ (t u : List ℕ) (same : take tableWords t ≡ take tableWords u) where
       positions : positionsOf t ≡ positionsOf u
       positions = same-word 2 (omega arith)
 
-      field : (a f : ℕ) → a < rulesOf u → f < stride → recordWord t a f ≡ recordWord u a f
-      field a f h l = same-word (recordAt a + f) (omega (arith, rules, p .rules))
+      field : (a : ℕ) → a < rulesOf u → idWord t a ≡ idWord u a
+      field a h = same-word (idAt a) (omega (arith, rules, p .rules))
 
   -- such lists are long enough for a table together, or equal
   lengths : min tableWords (length t) ≡ min tableWords (length u)

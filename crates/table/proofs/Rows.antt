@@ -1,5 +1,4 @@
--- Sets and records in a list of words: each depends on its own words alone, so a write elsewhere leaves it (`row-below`, `row-above`, `record-below`,
--- `record-above`), and a write to its own words is read back digit by digit.
+-- Sets in a list of words: each depends on its own words alone, so a write elsewhere leaves it (`row-below`, `row-above`), and a write to its own words is read back digit by digit.
 use mathlib.Core.Path.{_≡_, refl, sym, ap, _∙_}
 use mathlib.Core.Bool.{Bool, true, false, _&&_, _||_}
 use mathlib.Core.List.{List, [], _∷_}
@@ -15,7 +14,7 @@ use mir.Syntax.{w64}
 use mir.Val.{Fits}
 use Rattle.sets.specs.Set.{on, has, setOf, emptySet}
 use Rattle.sets.proofs.Laws.{fourOf, getD-fourOf, on-zero, on-or, words-fourOf, by-members, setOf-ext}
-use Rattle.table.specs.Layout.{maxPositions, stride, recordAt, recordWord, rowHas}
+use Rattle.table.specs.Layout.{maxPositions, rowHas}
 use Rattle.table.proofs.Over.{over, over-in, over-below, over-above}
 
 -- what is asked below a limit only is settled there
@@ -108,14 +107,3 @@ module _ (lo hi : ℕ) (g : ℕ → ℕ) (t : List ℕ) where
   pub row-in : (at : ℕ) → lo ≤ at → at + 4 ≤ hi → at + 4 ≤ length t → (q : ℕ) → q < maxPositions → rowHas (over lo hi g t) at q ≡ on (g (at + q / 64)) (q % 64)
   row-in at a b l q h =
       row-member (over lo hi g t) at q h ∙ ap (λ (x : ℕ). on x (q % 64)) (over-in lo hi g t (at + q / 64) (omega arith) (omega arith) (omega arith))
-
-  -- a record outside the range is as it was
-  pub record-below : (a i : ℕ) → i < stride → recordAt a + stride ≤ lo → recordWord (over lo hi g t) a i ≡ recordWord t a i
-  record-below a i l h = over-below lo hi g t (recordAt a + i) (omega arith)
-
-  pub record-above : (a i : ℕ) → hi ≤ recordAt a → recordWord (over lo hi g t) a i ≡ recordWord t a i
-  record-above a i h = over-above lo hi g t (recordAt a + i) (omega arith)
-
-  -- inside, its words are the new ones
-  pub record-in : (a i : ℕ) → i < stride → lo ≤ recordAt a → recordAt a + stride ≤ hi → recordAt a + stride ≤ length t → recordWord (over lo hi g t) a i ≡ g (recordAt a + i)
-  record-in a i l b h m = over-in lo hi g t (recordAt a + i) (omega arith) (omega arith) (omega arith)

@@ -8,14 +8,11 @@ use Prim.Native.Nat.{ℕ, zero, suc, _+_, _^_, _≤_, _<_, zero-le}
 use native.Mathlib.Nat.{not-suc-le-zero, le-of-suc-le-suc, eq-or-lt-of-le, lt-trans}
 use native.Mathlib.Numerals.{add-one}
 use native.Mathlib.Omega.{arith}
-use lib.Bits.{bitAnd, and-le-r}
 use lib.Dec.{eqb, leb, ltb}
 use lib.ListN.{length, getD}
 use borrow.Author.Tests.{lt-ltb, le-leb, eq-eqb, leb-true, ltb-true, eqb-true}
-use Rattle.sets.specs.Set.{on}
-use Rattle.sets.proofs.Digits.{on-and, on-bound}
-use Rattle.table.specs.Layout.{tableWords, maxRules, maxPositions, format, rulesOf, positionsOf, recordWord}
-use Rattle.table.specs.Table.{knownFlags, leastId, recordOk, all, isTable}
+use Rattle.table.specs.Layout.{tableWords, maxRules, maxPositions, format, rulesOf, positionsOf, idWord}
+use Rattle.table.specs.Table.{leastId, idOk, all, isTable}
 
 -- ---- a test of every number below n
 
@@ -46,37 +43,21 @@ all-false f n k h e = go (all n f) refl
     go true p = absurd (true≢false (sym (all-at f n p k h) ∙ e))
     go false p = p
 
--- ---- one record
+-- ---- one id
 
 pub record Fine (t : List ℕ) (a : ℕ) : Type 0 where
-  pub least : leastId t a ≤ recordWord t a 0
-  pub small : recordWord t a 0 < 2 ^ 32
-  pub known : bitAnd (recordWord t a 1) knownFlags ≡ recordWord t a 1
-  pub ordered : recordWord t a 2 ≤ recordWord t a 3
-  pub inside : recordWord t a 3 ≤ positionsOf t
+  pub least : leastId t a ≤ idWord t a
+  pub small : idWord t a < 2 ^ 32
 
-pub fine : (t : List ℕ) (a : ℕ) → recordOk t a ≡ true → Fine t a
-unfolding recordOk
+pub fine : (t : List ℕ) (a : ℕ) → idOk t a ≡ true → Fine t a
+unfolding idOk
 fine t a e =
-    let p = and-eq-true-iff (leb (leastId t a) (recordWord t a 0)) _ .0 e in
-    let q = and-eq-true-iff (ltb (recordWord t a 0) (2 ^ 32)) _ .0 (p .1) in
-    let r = and-eq-true-iff (eqb (bitAnd (recordWord t a 1) knownFlags) (recordWord t a 1)) _ .0 (q .1) in
-    let s = and-eq-true-iff (leb (recordWord t a 2) (recordWord t a 3)) _ .0 (r .1) in
-    record {
-      least = leb-true (leastId t a) (recordWord t a 0) (p .0);
-      small = ltb-true (recordWord t a 0) (2 ^ 32) (q .0);
-      known = eqb-true (bitAnd (recordWord t a 1) knownFlags) (recordWord t a 1) (r .0);
-      ordered = leb-true (recordWord t a 2) (recordWord t a 3) (s .0);
-      inside = leb-true (recordWord t a 3) (positionsOf t) (s .1);
-    }
+    let p = and-eq-true-iff (leb (leastId t a) (idWord t a)) (ltb (idWord t a) (2 ^ 32)) .0 e in
+    record { least = leb-true (leastId t a) (idWord t a) (p .0); small = ltb-true (idWord t a) (2 ^ 32) (p .1) }
 
-pub fine-ok : (t : List ℕ) (a : ℕ) → Fine t a → recordOk t a ≡ true
-unfolding recordOk
-fine-ok t a f =
-    ap₂ (λ (x y : Bool). x && y) (le-leb (leastId t a) (recordWord t a 0) (f .least))
-    (ap₂ (λ (x y : Bool). x && y) (lt-ltb (recordWord t a 0) (2 ^ 32) (f .small))
-    (ap₂ (λ (x y : Bool). x && y) (eq-eqb (bitAnd (recordWord t a 1) knownFlags) (recordWord t a 1) (f .known))
-    (ap₂ (λ (x y : Bool). x && y) (le-leb (recordWord t a 2) (recordWord t a 3) (f .ordered)) (le-leb (recordWord t a 3) (positionsOf t) (f .inside)))))
+pub fine-ok : (t : List ℕ) (a : ℕ) → Fine t a → idOk t a ≡ true
+unfolding idOk
+fine-ok t a f = ap₂ (λ (x y : Bool). x && y) (le-leb (leastId t a) (idWord t a) (f .least)) (lt-ltb (idWord t a) (2 ^ 32) (f .small))
 
 -- ---- the whole test
 
@@ -85,20 +66,17 @@ pub record Passes (t : List ℕ) : Type 0 where
   pub marked : getD t 0 0 ≡ format
   pub rules : rulesOf t ≤ maxRules
   pub positions : positionsOf t ≤ maxPositions
-  pub rising : (a b : ℕ) → a < b → b < rulesOf t → recordWord t a 0 < recordWord t b 0
-  pub small : (a : ℕ) → a < rulesOf t → recordWord t a 0 < 2 ^ 32
-  pub known : (a : ℕ) → a < rulesOf t → bitAnd (recordWord t a 1) knownFlags ≡ recordWord t a 1
-  pub ordered : (a : ℕ) → a < rulesOf t → recordWord t a 2 ≤ recordWord t a 3
-  pub inside : (a : ℕ) → a < rulesOf t → recordWord t a 3 ≤ positionsOf t
+  pub rising : (a b : ℕ) → a < b → b < rulesOf t → idWord t a < idWord t b
+  pub small : (a : ℕ) → a < rulesOf t → idWord t a < 2 ^ 32
 
--- ids that rise from each record to the next rise from each record to every later one
-rise : (t : List ℕ) (n : ℕ) → ((a : ℕ) → a < n → Fine t a) → (a b : ℕ) → a < b → b < n → recordWord t a 0 < recordWord t b 0
+-- ids that rise from each to the next rise from each to every later one
+rise : (t : List ℕ) (n : ℕ) → ((a : ℕ) → a < n → Fine t a) → (a b : ℕ) → a < b → b < n → idWord t a < idWord t b
 rise t n f a zero h l = absurd (not-suc-le-zero h)
 rise t n f a (suc b) h l =
-    ⊎-elim (λ e. subst (λ (c : ℕ). recordWord t c 0 < recordWord t (suc b) 0) (sym e) next)
+    ⊎-elim (λ e. subst (λ (c : ℕ). idWord t c < idWord t (suc b)) (sym e) next)
     (λ m. lt-trans (rise t n f a b m (omega arith)) next) (eq-or-lt-of-le (le-of-suc-le-suc h))
   where
-    next : recordWord t b 0 < recordWord t (suc b) 0
+    next : idWord t b < idWord t (suc b)
     next = f (suc b) l .least
 
 pub passes : (t : List ℕ) → isTable t ≡ true → Passes t
@@ -108,7 +86,7 @@ passes t e =
     let q = and-eq-true-iff (eqb (getD t 0 0) format) _ .0 (p .1) in
     let r = and-eq-true-iff (leb (rulesOf t) maxRules) _ .0 (q .1) in
     let s = and-eq-true-iff (leb (positionsOf t) maxPositions) _ .0 (r .1) in
-    let each : ((a : ℕ) → a < rulesOf t → Fine t a) = λ a h. fine t a (all-at (recordOk t) (rulesOf t) (s .1) a h) in
+    let each : ((a : ℕ) → a < rulesOf t → Fine t a) = λ a h. fine t a (all-at (idOk t) (rulesOf t) (s .1) a h) in
     record {
       long = leb-true tableWords (length t) (p .0);
       marked = eqb-true (getD t 0 0) format (q .0);
@@ -116,30 +94,24 @@ passes t e =
       positions = leb-true (positionsOf t) maxPositions (s .0);
       rising = rise t (rulesOf t) each;
       small = λ a h. each a h .small;
-      known = λ a h. each a h .known;
-      ordered = λ a h. each a h .ordered;
-      inside = λ a h. each a h .inside;
     }
 
--- with a header in order, the records decide
-pub by-records : (t : List ℕ) → tableWords ≤ length t → getD t 0 0 ≡ format → rulesOf t ≤ maxRules → positionsOf t ≤ maxPositions
-    → isTable t ≡ all (rulesOf t) (recordOk t)
+-- with a header in order, the ids decide
+pub by-ids : (t : List ℕ) → tableWords ≤ length t → getD t 0 0 ≡ format → rulesOf t ≤ maxRules → positionsOf t ≤ maxPositions
+    → isTable t ≡ all (rulesOf t) (idOk t)
 unfolding isTable
-by-records t l m r p =
+by-ids t l m r p =
     rw (le-leb tableWords (length t) l, eq-eqb (getD t 0 0) format m, le-leb (rulesOf t) maxRules r, le-leb (positionsOf t) maxPositions p)
 
 pub accepted : (t : List ℕ) → Passes t → isTable t ≡ true
 accepted t p =
-    by-records t (p .long) (p .marked) (p .rules) (p .positions)
-    ∙ at-all (recordOk t) (rulesOf t) (λ a h. fine-ok t a (record {
+    by-ids t (p .long) (p .marked) (p .rules) (p .positions)
+    ∙ at-all (idOk t) (rulesOf t) (λ a h. fine-ok t a (record {
       least = least a h;
       small = p .small a h;
-      known = p .known a h;
-      ordered = p .ordered a h;
-      inside = p .inside a h;
     }))
   where
-    least : (a : ℕ) → a < rulesOf t → leastId t a ≤ recordWord t a 0
+    least : (a : ℕ) → a < rulesOf t → leastId t a ≤ idWord t a
     least zero h = zero-le
     least (suc a) h = p .rising a (suc a) (omega arith) h
 
@@ -149,14 +121,3 @@ refused t h = go (isTable t) refl
     go : (b : Bool) → isTable t ≡ b → isTable t ≡ false
     go true e = absurd (h (passes t e))
     go false e = e
-
--- ---- the flags
-
--- 1, 2, 4 and 8 are digits 0 to 3: known flags have no other
-pub flag-known : (f k : ℕ) → bitAnd f knownFlags ≡ f → on f k ≡ true → k < 4
-flag-known f k e o =
-    let digit = and-eq-true-iff (on f k) (on knownFlags k) .0 (sym (on-and f knownFlags k) ∙ ap (λ (x : ℕ). on x k) e ∙ o) .1 in
-    on-bound 4 knownFlags k (omega arith) digit
-
-pub flags-small : (f : ℕ) → bitAnd f knownFlags ≡ f → f ≤ knownFlags
-flags-small f e = subst (λ (x : ℕ). x ≤ knownFlags) e (and-le-r f knownFlags)

@@ -1,4 +1,4 @@
--- The writes that a change of a table is made of, and what each does to the sets and records in the list: words copied in, sets that gain members, records moved
+-- The writes that a change of a table is made of, and what each does to the sets in the list: words copied in, sets that gain members, words moved
 -- up by one. Each is an `over`, so its laws are those of `over` at one word.
 use mathlib.Core.Path.{_≡_, refl, sym, ap, ap₂, _∙_, subst}
 use mathlib.Core.Bool.{_||_}
@@ -10,8 +10,7 @@ use lib.Bits.{bitOr}
 use lib.ListN.{length, getD}
 use Rattle.sets.specs.Set.{has}
 use Rattle.sets.proofs.Laws.{below-four}
-use Rattle.table.specs.Layout.{maxPositions, stride, recordAt, lastAt, recordWord, rowHas}
-use Rattle.table.specs.Gaps.{lastGaps}
+use Rattle.table.specs.Layout.{maxPositions, rowHas}
 pub use Rattle.table.specs.Invariants.{copied, movedUp}
 use Rattle.table.proofs.Over.{over, over-in, over-ext, Written, written-block, written-above}
 use Rattle.table.proofs.Rows.{row-same, row-or}
@@ -35,10 +34,6 @@ module _ (at n : ℕ) (s t : List ℕ) (fits : at + n ≤ length t) where
       (λ i l.
       let e : at + j + i ≡ at + (j + i) = omega arith in
       ap (λ (w : ℕ). getD (copied at n s t) w 0) e ∙ copied-word (j + i) (omega arith))
-
--- a record copied to its place
-pub copied-record : (a : ℕ) (r t : List ℕ) → recordAt a + stride ≤ length t → (i : ℕ) → i < stride → recordWord (copied (recordAt a) stride r t) a i ≡ getD r i 0
-copied-record a r t h i l = copied-word (recordAt a) stride r t h i l
 
 -- ---- a set that gains members
 
@@ -100,24 +95,9 @@ joined-rows base n family t h k l =
     over-in base (base + n * 4) (joinedWord base family t) t (base + k * 4 + i) (omega arith) (omega arith) (omega arith)
     ∙ ap₂ (λ (x y : ℕ). bitOr (getD t (base + k * 4 + i) 0) (getD (family x) y 0)) set-of word-of)
 
--- ---- records moved up by one
+-- ---- words moved up by one
 
-module _ (base m : ℕ) (t : List ℕ) (fits : base + stride + m ≤ length t) where
-  pub moved-word : (w : ℕ) → base ≤ w → w < base + m → getD (movedUp base m t) (w + stride) 0 ≡ getD t w 0
-  moved-word w a b =
-      let e : w + stride - stride ≡ w = omega arith in
-      over-in (base + stride) (base + stride + m) (λ w. getD t (w - stride) 0) t (w + stride) (omega arith) (omega arith) (omega arith) ∙ ap (λ (i : ℕ). getD t i 0) e
-
-  pub moved-record : (a i : ℕ) → i < stride → base ≤ recordAt a → recordAt a + stride ≤ base + m → recordWord (movedUp base m t) (suc a) i ≡ recordWord t a i
-  moved-record a i l b h =
-      let e : recordAt (suc a) + i ≡ recordAt a + i + stride = omega arith in
-      ap (λ (w : ℕ). getD (movedUp base m t) w 0) e ∙ moved-word (recordAt a + i) (omega arith) (omega arith)
-
-  -- and so its sets of last positions
-  pub moved-last : (a g : ℕ) → g < lastGaps → base ≤ recordAt a → recordAt a + stride ≤ base + m → (q : ℕ)
-      → rowHas (movedUp base m t) (lastAt (suc a) g) q ≡ rowHas t (lastAt a g) q
-  moved-last a g k b h =
-      row-same (movedUp base m t) t (lastAt (suc a) g) (lastAt a g)
-      (λ i l.
-      let e : lastAt (suc a) g + i ≡ lastAt a g + i + stride = omega arith in
-      ap (λ (w : ℕ). getD (movedUp base m t) w 0) e ∙ moved-word (lastAt a g + i) (omega arith) (omega arith))
+pub moved-word : (base m : ℕ) (t : List ℕ) → base + 1 + m ≤ length t → (w : ℕ) → base ≤ w → w < base + m → getD (movedUp base m t) (w + 1) 0 ≡ getD t w 0
+moved-word base m t fits w a b =
+    let e : w + 1 - 1 ≡ w = omega arith in
+    over-in (base + 1) (base + 1 + m) (λ w. getD t (w - 1) 0) t (w + 1) (omega arith) (omega arith) (omega arith) ∙ ap (λ (i : ℕ). getD t i 0) e

@@ -3,7 +3,7 @@ use mathlib.Core.Bool.{cond}
 use mathlib.Core.List.{List, [], _∷_}
 use Prim.Native.Nat.{ℕ, suc, _+_, _-_}
 use lib.ListN.{getD}
-use Rattle.table.specs.Layout.{stride, from-to}
+use Rattle.table.specs.Layout.{from-to}
 
 -- t with g w at each place w from lo on and below hi, where t is the part of a list that begins at place i
 unfoldable pub overFrom : (i lo hi : ℕ) → (ℕ → ℕ) → List ℕ → List ℕ
@@ -18,6 +18,6 @@ over lo hi g t = overFrom 0 lo hi g t
 abbrev pub copied : (at n : ℕ) → (s t : List ℕ) → List ℕ
 copied at n s t = over at (at + n) (λ w. getD s (w - at) 0) t
 
--- the m words from base on, a record's length up
+-- the m words from base on, one up
 abbrev pub movedUp : (base m : ℕ) → List ℕ → List ℕ
-movedUp base m t = over (base + stride) (base + stride + m) (λ w. getD t (w - stride) 0) t
+movedUp base m t = over (base + 1) (base + 1 + m) (λ w. getD t (w - 1) 0) t

@@ -20,9 +20,9 @@ maxPositions = 256
 abbrev pub bytes : ℕ
 bytes = 256
 
--- word 0 marks a rule table of this format: the bytes `watcher3` as a number
+-- word 0 marks a rule table of this format: the bytes `watcher4` as a number
 abbrev pub format : ℕ
-format = 0x77617463_68657233
+format = 0x77617463_68657234
 
 -- the number of rules, and of positions
 abbrev pub rulesOf : List ℕ → ℕ
@@ -31,20 +31,36 @@ rulesOf t = getD t 1 0
 abbrev pub positionsOf : List ℕ → ℕ
 positionsOf t = getD t 2 0
 
--- for each gap the four-word set of positions that can take the first byte of a match after it
+-- the single-match rules: a binary digit for each rule's place
+abbrev pub singlesOf : List ℕ → ℕ
+singlesOf t = getD t 3 0
+
+-- for each gap at which a match can end the four-word set of positions that can end one there
+abbrev pub lastAt : ℕ → ℕ
+lastAt g = 4 + g * 4
+
+-- the set of the positions with which a match can end only where the next byte allows it
+abbrev pub latesAt : ℕ
+latesAt = 56
+
+-- for each gap the set of the positions that can take the first byte of a match after it
 abbrev pub firstAt : ℕ → ℕ
-firstAt g = 4 + g * 4
+firstAt g = 60 + g * 4
 
--- rule records of 56 words, by rising id: id, flags, the rule's first position, the position after its last, and for each gap at which a match can end the set of
--- positions that can end one there
-abbrev pub stride : ℕ
-stride = 56
+-- the rules' ids, rising: the rule in place a has the one at `idAt a`
+abbrev pub idAt : ℕ → ℕ
+idAt a = 128 + a
 
-abbrev pub recordAt : ℕ → ℕ
-recordAt a = 128 + a * stride
+abbrev pub idWord : List ℕ → ℕ → ℕ
+idWord t a = getD t (idAt a) 0
 
-abbrev pub lastAt : ℕ → ℕ → ℕ
-lastAt a g = recordAt a + (4 + g * 4)
+-- for each byte a word that is not 0 where a match can begin with it inside a stream
+abbrev pub openerAt : ℕ → ℕ
+openerAt x = 192 + x
+
+-- for each position the place of its rule
+abbrev pub ownerAt : ℕ → ℕ
+ownerAt p = 448 + p
 
 -- for each byte the set of positions that take it; for each gap between two bytes and each position the set of those that can follow it there
 abbrev pub takersAt : ℕ → ℕ
@@ -52,10 +68,6 @@ takersAt x = 4096 + x * 4
 
 abbrev pub followAt : ℕ → ℕ → ℕ
 followAt g p = 5120 + g * 1024 + p * 4
-
--- word i of record a
-abbrev pub recordWord : List ℕ → ℕ → ℕ → ℕ
-recordWord t a i = getD t (recordAt a + i) 0
 
 -- q is in the set whose four words stand at `at`; a list reads as 0 past its end
 unfoldable pub rowHas : List ℕ → ℕ → ℕ → Bool

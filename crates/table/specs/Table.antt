@@ -2,42 +2,37 @@
 use mathlib.Core.Bool.{Bool, true, cond, _&&_}
 use mathlib.Core.List.{List, _∷_, _++_}
 use Prim.Native.Nat.{ℕ, zero, suc, pred, _^_}
-use lib.Bits.{bitAnd}
 use lib.Dec.{eqb, leb, ltb}
 use lib.ListN.{length, getD, drop, replicate}
-use Rattle.table.specs.Layout.{tableWords, maxRules, maxPositions, format, rulesOf, positionsOf, recordWord}
+use Rattle.table.specs.Layout.{tableWords, maxRules, maxPositions, format, rulesOf, positionsOf, idWord}
 
 -- "Flags, values from Hyperscan's API reference: 1 caseless, 2 dot matches all, 8 single match." "Add flag 4"
 abbrev pub knownFlags : ℕ
 knownFlags = 15
 
--- the least id that record a may have: "Ids: any 32-bit number, each once", and the records stand by rising id
+-- the least id that the rule in place a may have: "Ids: any 32-bit number, each once", and the ids rise
 abbrev pub leastId : List ℕ → ℕ → ℕ
 leastId t zero = 0
-leastId t (suc a) = suc (recordWord t a 0)
+leastId t (suc a) = suc (idWord t a)
 
--- a rule record in order: a 32-bit id above the one before, known flags, positions within the count
-unfoldable pub recordOk : List ℕ → ℕ → Bool
-recordOk t a =
-    leb (leastId t a) (recordWord t a 0)
-    && (ltb (recordWord t a 0) (2 ^ 32)
-    && (eqb (bitAnd (recordWord t a 1) knownFlags) (recordWord t a 1)
-    && (leb (recordWord t a 2) (recordWord t a 3) && leb (recordWord t a 3) (positionsOf t))))
+-- an id in order: of 32 bits, and above the one before
+unfoldable pub idOk : List ℕ → ℕ → Bool
+idOk t a = leb (leastId t a) (idWord t a) && ltb (idWord t a) (2 ^ 32)
 
 -- f holds of each number below n
 unfoldable pub all : ℕ → (ℕ → Bool) → Bool
 all zero f = true
 all (suc n) f = all n f && f n
 
--- "The table's layout is the team's, written in docs/, with a yes-or-no test for any words": enough words, the format, counts within the limits, each record
--- in order
+-- "The table's layout is the team's, written in docs/, with a yes-or-no test for any words": enough words, the format, counts within the limits, ids in
+-- order
 unfoldable pub isTable : List ℕ → Bool
 isTable t =
     leb tableWords (length t)
     && (eqb (getD t 0 0) format
     && (leb (rulesOf t) maxRules
     && (leb (positionsOf t) maxPositions
-    && all (rulesOf t) (recordOk t))))
+    && all (rulesOf t) (idOk t))))
 
 -- the one empty table
 unfoldable pub emptyTable : List ℕ

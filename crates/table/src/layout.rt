@@ -7,32 +7,32 @@ pub const MAX_RULES: u64 = 64;
 
 pub const MAX_POSITIONS: u64 = 256;
 
-// The format word, at FORMAT_AT: the bytes `watcher3` as a number.
-pub const FORMAT: u64 = 0x7761_7463_6865_7233;
+// The format word, at FORMAT_AT: the bytes `watcher4` as a number.
+pub const FORMAT: u64 = 0x7761_7463_6865_7234;
 
-// The header: the format, the two counts, and for each gap the set of positions that can take the first byte of a match after it.
+// The header: the format, the two counts, and the single-match rules, a digit for each rule's place.
 pub const FORMAT_AT: usize = 0;
 
 pub const RULES_AT: usize = 1;
 
 pub const POSITIONS_AT: usize = 2;
 
-pub const FIRST_AT: usize = 4;
+pub const SINGLES_AT: usize = 3;
 
-// Rule records, by rising id: where they begin, how many words each has, and the words of one. From LAST on there is a set for each gap at which a match can end.
-pub const RECORDS_AT: usize = 128;
+// For each gap the set of positions that can end a match there; the set of those that can only where the next byte allows it; for each gap the set of those that can
+// take the first byte of a match after it.
+pub const LAST_AT: usize = 4;
 
-pub const RECORD_WORDS: usize = 56;
+pub const LATES_AT: usize = 56;
 
-pub const ID: usize = 0;
+pub const FIRST_AT: usize = 60;
 
-pub const FLAGS: usize = 1;
+// The rules' ids, rising; for each byte a word that is not 0 where a match can begin with it inside a stream; for each position the place of its rule.
+pub const IDS_AT: usize = 128;
 
-pub const FROM: usize = 2;
+pub const OPENERS_AT: usize = 192;
 
-pub const TO: usize = 3;
-
-pub const LAST: usize = 4;
+pub const OWNERS_AT: usize = 448;
 
 // Sets of positions, of four words each: for each byte those that take it; for each gap between two bytes, and for each position, those that can follow it there.
 pub const SET_WORDS: usize = 4;

@@ -6,29 +6,23 @@ pub mod gaps;
 pub mod layout;
 
 use layout::ACCEPTED;
-use layout::FLAGS;
 use layout::FORMAT;
 use layout::FORMAT_AT;
-use layout::FROM;
-use layout::ID;
 use layout::ID_LIMIT;
-use layout::KNOWN_FLAGS;
+use layout::IDS_AT;
 use layout::MAX_POSITIONS;
 use layout::MAX_RULES;
 use layout::NO_TABLE;
 use layout::POSITIONS_AT;
-use layout::RECORD_WORDS;
-use layout::RECORDS_AT;
 use layout::RULES_AT;
 use layout::SET_WORDS;
 use layout::TABLE_WORDS;
-use layout::TO;
 ghost use mathlib.Core.Path.{_≡_};
 ghost use Prim.Native.Nat.{_+_, _<_, _≤_};
 ghost use lib.ListN.{length, getD};
 ghost use Rattle.sets.specs.Set.{setOf};
-ghost use Rattle.table.specs.Layout.{tableWords, maxRules, positionsOf, rowHas};
-ghost use Rattle.table.specs.Table.{leastId, recordOk, all, isTable, emptyNumber, emptied};
+ghost use Rattle.table.specs.Layout.{tableWords, maxRules, rowHas};
+ghost use Rattle.table.specs.Table.{idOk, all, isTable, emptyNumber, emptied};
 
 // The word at `at`; past the end there are zeros.
 pub fn word(words: &[u64], at: usize) -> u64
@@ -61,30 +55,17 @@ pub fn row(words: &[u64], at: usize) -> [u64; 4]
     [words[at], words[at + 1], words[at + 2], words[at + 3]]
 }
 
-// Whether record a is in order: an id of 32 bits from `least` on, known flags, positions within the count.
-fn record_ok(words: &[u64], a: usize, least: u64, positions: u64) -> bool
-    requires { ⌜ (tableWords ≤ length (now words)) × (a < maxRules) × (least ≡ leastId (now words) a) × (positions ≡ positionsOf (now words)) ⌝ }
-    ensures { λ r. ⌜ r ≡ recordOk (now (words .entry)) a ⌝ }
-{
-    let at = RECORDS_AT + a * RECORD_WORDS;
-    let id = words[at + ID];
-    let flags = words[at + FLAGS];
-    let from = words[at + FROM];
-    let to = words[at + TO];
-    (least <= id)
-        & ((id < ID_LIMIT) & ((flags & KNOWN_FLAGS == flags) & ((from <= to) & (to <= positions))))
-}
-
-// Whether each of the records is in order, by rising id.
-fn records_ok(words: &[u64], rules: usize, positions: u64) -> bool
-    requires { ⌜ (tableWords ≤ length (now words)) × (rules ≤ maxRules) × (positions ≡ positionsOf (now words)) ⌝ }
-    ensures { λ r. ⌜ r ≡ all rules (recordOk (now (words .entry))) ⌝ }
+// Whether each of the ids is in order: of 32 bits, and above the one before.
+fn ids_ok(words: &[u64], rules: usize) -> bool
+    requires { ⌜ (tableWords ≤ length (now words)) × (rules ≤ maxRules) ⌝ }
+    ensures { λ r. ⌜ r ≡ all rules (idOk (now (words .entry))) ⌝ }
 {
     let mut least: u64 = 0;
     let mut a: usize = 0;
     while a < rules {
-        if record_ok(words, a, least, positions) {
-            least = words[RECORDS_AT + a * RECORD_WORDS + ID] + 1;
+        let id = words[IDS_AT + a];
+        if (least <= id) & (id < ID_LIMIT) {
+            least = id + 1;
             a += 1;
         } else {
             return false;
@@ -93,7 +74,7 @@ fn records_ok(words: &[u64], rules: usize, positions: u64) -> bool
     true
 }
 
-// Whether the words are a table. It reads the header and the rule records only, since it runs at every call.
+// Whether the words are a table. It reads the header and the ids only, since it runs at every call.
 pub fn is_table(words: &[u64]) -> bool
     ensures { λ r. ⌜ r ≡ isTable (now (words .entry)) ⌝ }
 {
@@ -111,7 +92,7 @@ pub fn is_table(words: &[u64]) -> bool
     if MAX_POSITIONS < positions {
         return false;
     }
-    records_ok(words, rules as usize, positions)
+    ids_ok(words, rules as usize)
 }
 
 // Writes the empty table over the first 16,384 words; fewer words are left as they are, and refused.

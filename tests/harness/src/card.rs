@@ -10,7 +10,7 @@ use words::card::{sealed, words_of, Card, BLOCKS, BLOCK_BYTES};
 use words::interpreter::Interpreter;
 use words::layout::TABLE_WORDS;
 
-use crate::damaged;
+use crate::damaged::{self, same};
 use crate::rng::Rng;
 
 #[derive(Clone, Debug, Default)]
@@ -165,11 +165,4 @@ impl<C: Card> Run<'_, C> {
         self.read(&mut words, number, &garbage)?;
         Ok(())
     }
-}
-
-fn same<T: PartialEq + std::fmt::Debug>(what: &str, got: T, expected: T) -> Result<(), String> {
-    if got == expected {
-        return Ok(());
-    }
-    Err(format!("{what}: {got:?}, expected {expected:?}"))
 }

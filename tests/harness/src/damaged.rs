@@ -7,6 +7,7 @@
 use std::collections::BTreeMap;
 
 use words::calls::{Answer, Calls, NO_LIMIT};
+use words::gaps::{FIRST_GAPS, FOLLOW_GAPS, LAST_GAPS};
 use words::interpreter::Interpreter;
 use words::layout::*;
 
@@ -22,8 +23,12 @@ pub struct Count {
     pub taken: u64,
     /// Units of work.
     pub used: u64,
-    /// Calls by their number.
+    /// Calls by their number, and additions.
     pub by_number: BTreeMap<u32, u64>,
+    pub additions: BTreeMap<u32, u64>,
+    /// By region: words that were changed, and first calls that they gave another outcome.
+    pub changed: BTreeMap<Region, u64>,
+    pub decided: BTreeMap<Region, u64>,
 }
 
 /// Everything that a call is lent.
@@ -64,50 +69,96 @@ pub fn run<C: Calls>(calls: &C, seed: u64, first: u64, cases: u64) -> Result<Cou
 }
 
 fn one_case<C: Calls>(calls: &C, rng: &mut Rng, count: &mut Count) -> Result<(), String> {
-    let table = table(rng);
+    let Damaged { table, changed } = damaged(rng);
+    changed.iter().for_each(|&(at, _)| one_more(&mut count.changed, region(at)));
     same("test", calls.test(&table), Interpreter.test(&table))?;
     let state = state(rng, &table);
     let mut lent = Lent { table, state, ids: Vec::new(), offsets: Vec::new() };
-    for _ in 0..1 + rng.below(4) {
-        if rng.once_in(8) {
-            opened(calls, &mut lent)?;
+    for turn in 0..1 + rng.below(4) {
+        if turn > 0 && rng.once_in(4) {
+            one_more(&mut count.additions, added(calls, rng, &mut lent)?);
         }
-        if rng.once_in(8) {
-            added(calls, rng, &mut lent)?;
+        if rng.once_in(8) || (turn > 0 && rng.once_in(4)) {
+            opened(calls, &mut lent)?;
         }
         lent.ids = (0..space(rng)).map(|_| rng.word() as u32).collect();
         lent.offsets = (0..space(rng)).map(|_| rng.word()).collect();
-        let longest = *rng.pick(&[3, 40, 40, 40]);
-        let block: Vec<u8> = (0..rng.below(longest)).map(|_| byte(rng)).collect();
+        let longest = *rng.pick(&[2, 3, 40, 40, 40]);
+        let block: Vec<u8> = (0..rng.below(longest)).map(|_| byte(rng, &lent.table)).collect();
         let scan = (!rng.once_in(6)).then(|| (&block[..], allowance(rng)));
-        same("busy figure", calls.busy(&lent.state), Interpreter.busy(&lent.state))?;
         let before = lent.clone();
-        let mut wanted = before.clone();
-        let answer = lent.call(calls, scan);
-        let expected = wanted.call(&Interpreter, scan);
-        let what = |told: &str| format!("{scan:?} on state {:?}: {told}", before.state);
-        same(&what("answer"), answer, expected)?;
-        if lent != wanted {
-            return Err(what("other words were left"));
-        }
-        if answer.number != 0 && lent != before {
-            return Err(what("a refusal changed a word"));
-        }
-        if let Some((block, allowance)) = scan {
-            let more = allowance.saturating_add(*rng.pick(&[1, 2, 300, NO_LIMIT]));
-            let mut others = before.clone();
-            let another = others.call(calls, Some((block, more)));
-            in_bounds(&lent.scanned(&answer), allowance, u64::from(calls.busy(&before.state)))
-                .and_then(|()| carried_further(&lent.scanned(&answer), &others.scanned(&another)))
-                .map_err(|message| what(&message))?;
+        let answer = called(calls, rng, &mut lent, scan)
+            .map_err(|message| format!("{scan:?} on state {:?}: {message}", before.state))?;
+        if turn == 0 {
+            let deciding = deciding(&changed, &before, scan, &(answer, lent.clone()));
+            deciding.into_iter().for_each(|region| one_more(&mut count.decided, region));
         }
         count.calls += 1;
-        *count.by_number.entry(answer.number).or_default() += 1;
+        one_more(&mut count.by_number, answer.number);
         count.reports += answer.count as u64;
         count.taken += answer.taken as u64;
         count.used += answer.used;
     }
     Ok(())
+}
+
+fn one_more<K: Ord>(counts: &mut BTreeMap<K, u64>, of: K) {
+    *counts.entry(of).or_default() += 1;
+}
+
+/// One call, with what it owes: the interpreter's answer and words; a scan also its units, and that
+/// more of them carry it further.
+fn called<C: Calls>(
+    calls: &C,
+    rng: &mut Rng,
+    lent: &mut Lent,
+    scan: Option<(&[u8], u64)>,
+) -> Result<Answer, String> {
+    same("busy figure", calls.busy(&lent.state), Interpreter.busy(&lent.state))?;
+    let before = lent.clone();
+    let mut wanted = before.clone();
+    let answer = lent.call(calls, scan);
+    same("answer", answer, wanted.call(&Interpreter, scan))?;
+    if *lent != wanted {
+        return Err("other words were left".to_string());
+    }
+    if answer.number != 0 && *lent != before {
+        return Err("a refusal changed a word".to_string());
+    }
+    if let Some((block, allowance)) = scan {
+        let more = allowance.saturating_add(*rng.pick(&[1, 2, 300, NO_LIMIT]));
+        let busy = u64::from(calls.busy(&before.state));
+        let mut others = before;
+        let another = others.call(calls, Some((block, more)));
+        in_bounds(&lent.scanned(&answer), allowance, busy)?;
+        carried_further(&lent.scanned(&answer), &others.scanned(&another))?;
+    }
+    Ok(answer)
+}
+
+/// The regions whose changed words gave a call this outcome: with what they were before, it is
+/// another.
+fn deciding(
+    changed: &[(usize, u64)],
+    before: &Lent,
+    scan: Option<(&[u8], u64)>,
+    outcome: &(Answer, Lent),
+) -> Vec<Region> {
+    let mut regions: Vec<Region> = changed.iter().map(|&(at, _)| region(at)).collect();
+    regions.sort_unstable();
+    regions.dedup();
+    regions.retain(|&of| {
+        let mut whole = before.clone();
+        for &(at, was) in changed.iter().rev().filter(|&&(at, _)| region(at) == of) {
+            if let Some(word) = whole.table.get_mut(at) {
+                *word = was;
+            }
+        }
+        let answer = whole.call(&Interpreter, scan);
+        whole.table.clone_from(&before.table);
+        (answer, whole) != *outcome
+    });
+    regions
 }
 
 fn opened<C: Calls>(calls: &C, lent: &mut Lent) -> Result<(), String> {
@@ -120,19 +171,26 @@ fn opened<C: Calls>(calls: &C, lent: &mut Lent) -> Result<(), String> {
     Ok(())
 }
 
-/// An addition, after which the state may be valid no more.
-fn added<C: Calls>(calls: &C, rng: &mut Rng, lent: &mut Lent) -> Result<(), String> {
+/// An addition, after which the state may be valid no more; its number.
+fn added<C: Calls>(calls: &C, rng: &mut Rng, lent: &mut Lent) -> Result<u32, String> {
     let (id, flags, pattern) = (rng.below(40) as u32, *rng.pick(&[0, 1, 4, 8]), pattern(rng));
     let mut wanted = lent.clone();
     let answer = calls.add(&mut lent.table, id, flags, &pattern);
     same("addition", answer, Interpreter.add(&mut wanted.table, id, flags, &pattern))?;
     if *lent != wanted {
-        return Err(format!("the addition of {} left other words", pattern.escape_ascii()));
+        let other: Vec<usize> =
+            (0..lent.table.len()).filter(|&at| lent.table[at] != wanted.table[at]).collect();
+        let pattern = pattern.escape_ascii();
+        return Err(format!("the addition of {pattern} left other words at {other:?}"));
     }
-    Ok(())
+    Ok(answer.0)
 }
 
-fn same<T: PartialEq + std::fmt::Debug>(what: &str, got: T, wanted: T) -> Result<(), String> {
+/// What was got is what was wanted.
+pub(crate) fn same<T>(what: &str, got: T, wanted: T) -> Result<(), String>
+where
+    T: PartialEq + std::fmt::Debug,
+{
     if got == wanted {
         return Ok(());
     }
@@ -160,83 +218,126 @@ fn space(rng: &mut Rng) -> usize {
     }
 }
 
-fn byte(rng: &mut Rng) -> u8 {
-    *rng.pick(&[b'a', b'b', b'c', b'A', b'0', b'_', b'-', b' ', 10, 10, 0, 255])
+/// A byte that means something in patterns or logs, or one that some position takes.
+fn byte(rng: &mut Rng, table: &[u64]) -> u8 {
+    let byte = *rng.pick(&[b'a', b'b', b'c', b'A', b'0', b'_', b'-', b' ', 10, 10, 10, 0, 255]);
+    if table.len() < TABLE_WORDS || byte == b'\n' || rng.once_in(3) {
+        return byte;
+    }
+    let (q, from) = (position(rng, table), rng.byte());
+    let takes = |byte: &u8| has(table, takers(*byte), q);
+    (0..=255u8).map(|step| from.wrapping_add(step)).find(takes).unwrap_or(byte)
 }
+
+/// A table, and what its changed words were: each change with its place, in their order.
+struct Damaged {
+    table: Vec<u64>,
+    changed: Vec<(usize, u64)>,
+}
+
+/// Patterns that match nearly everywhere, some only where the next byte allows it.
+const SHORT: [&[u8]; 10] =
+    [b"a", b"[ab]+", b"[^c]", br"\b.", br".\b", br"\w\B", b".$", b"^[^c]", br"-$\n", br".*\n\B"];
 
 /// A table of a few rules, or of made-up sets, and then damaged.
-pub fn table(rng: &mut Rng) -> Vec<u64> {
-    let mut words = vec![0; TABLE_WORDS + rng.below(3)];
-    Interpreter.empty(&mut words);
-    for _ in 0..rng.below(5) {
+fn damaged(rng: &mut Rng) -> Damaged {
+    let mut table = vec![0; TABLE_WORDS];
+    table.extend((0..rng.below(3)).map(|_| rng.word()));
+    Interpreter.empty(&mut table);
+    for _ in 0..rng.below(6) {
         let (id, flags) = (rng.below(9) as u32, *rng.pick(&[0, 1, 2, 4, 4, 8, 8, 11, 12]));
-        Interpreter.add(&mut words, id, flags, &pattern(rng));
+        let pattern = if rng.once_in(2) { pattern(rng) } else { rng.pick(&SHORT).to_vec() };
+        Interpreter.add(&mut table, id, flags, &pattern);
     }
     if rng.once_in(4) {
-        made_up(rng, &mut words);
+        made_up(rng, &mut table);
     }
+    let mut changed = Vec::new();
     for _ in 0..rng.below(4) {
-        damage(rng, &mut words);
-    }
-    if rng.once_in(40) {
-        words.truncate(TABLE_WORDS - 1 - rng.below(2) * rng.below(TABLE_WORDS));
-    }
-    words
-}
-
-/// Some counts and records that pass the test, and sets of any content, thick or thin.
-fn made_up(rng: &mut Rng, words: &mut [u64]) {
-    let rules = *rng.pick(&[1, 2, 5, 32, 33, 63, 64]);
-    let positions = *rng.pick(&[0, 1, 63, 64, 65, 128, 255, 256]);
-    words[RULES] = rules;
-    words[POSITIONS] = positions;
-    let mut id = 0;
-    for place in 0..rules as usize {
-        id += 1 + rng.word() % 0x0380_0000;
-        words[record(place) + ID] = id;
-        words[record(place) + FLAGS] = *rng.pick(&[0, 1, 2, 4, 8, 15]);
-        words[record(place) + FROM] = 0;
-        words[record(place) + TO] = positions;
-    }
-    let thin = rng.below(6);
-    let word = |rng: &mut Rng| (0..thin).fold(rng.word(), |word, _| word & rng.word());
-    for at in FIRSTS.chain(ROWS) {
-        words[at] = word(rng);
-    }
-    for place in 0..rules as usize {
-        for at in record(place) + LASTS..record(place + 1) {
-            words[at] = word(rng);
+        let of = rng.pick(&REGIONS).0;
+        let most = *rng.pick(&[1, 1, 10, 60]);
+        for _ in 0..1 + rng.below(most) {
+            changed.push(change(rng, &mut table, of));
         }
     }
+    if rng.once_in(40) {
+        table.truncate(TABLE_WORDS - 1 - rng.below(2) * rng.below(TABLE_WORDS));
+    }
+    Damaged { table, changed }
 }
 
-/// One word changed: in the header, in a record, in a set, or anywhere.
-fn damage(rng: &mut Rng, words: &mut [u64]) {
-    let at = match rng.below(6) {
-        0 => rng.below(3),
-        1 => record(place(rng)) + rng.below(LASTS),
-        2 => record(place(rng)) + rng.below(RECORD_WORDS),
-        3 => FIRSTS.start + rng.below(FIRSTS.len()),
-        4 => ROWS.start + rng.below(ROWS.len()),
-        _ => rng.below(words.len()),
-    };
-    words[at] = match rng.below(6) {
-        0 => rng.word(),
-        1 => words[at] ^ 1 << rng.below(64),
-        2 => words[at].wrapping_add(1),
-        3 => words[at] | 1 << *rng.pick(&[16, 32]),
-        4 => rng.below(70) as u64,
+/// The words of such a table.
+pub fn table(rng: &mut Rng) -> Vec<u64> {
+    damaged(rng).table
+}
+
+/// Some counts and ids that pass the test, and all else of any content: sets thick or thin, owners that
+/// are mostly rules, openers that are mostly set, single-match bits past the rules, and sometimes
+/// words where a table has none.
+fn made_up(rng: &mut Rng, words: &mut [u64]) {
+    let rules = *rng.pick(&[1, 2, 5, 32, 33, 63, 64]);
+    words[RULES] = rules;
+    words[POSITIONS] = *rng.pick(&[0, 1, 63, 64, 65, 128, 255, 256]);
+    words[SINGLES] = rng.word();
+    let mut rising = 0;
+    for place in 0..rules as usize {
+        rising += 1 + rng.word() % 0x0380_0000;
+        words[id(place)] = rising;
+    }
+    let thin = rng.below(6);
+    let sets = [Region::Lasts, Region::Lates, Region::Firsts, Region::Takers, Region::Follows];
+    for at in words_in(&sets) {
+        words[at] = (0..thin).fold(rng.word(), |word, _| word & rng.word());
+    }
+    for at in words_in(&[Region::Owners]) {
+        let (near, any) = (rng.word() % 70, rng.word());
+        words[at] = *rng.pick(&[any % rules, any % rules, any % rules, any % rules, near, any]);
+    }
+    for at in words_in(&[Region::Openers]) {
+        let any = rng.word();
+        words[at] = *rng.pick(&[0, 1, any]);
+    }
+    if rng.once_in(2) {
+        words_in(&[Region::Kept, Region::Unused]).into_iter().for_each(|at| words[at] = rng.word());
+    }
+}
+
+/// One word of a region changed: its place, and what it was.
+fn change(rng: &mut Rng, words: &mut [u64], of: Region) -> (usize, u64) {
+    let at = if rng.once_in(4) { *rng.pick(&words_in(&[of])) } else { in_use(rng, words, of) };
+    let was = words[at];
+    words[at] = match rng.below(10) {
+        0 | 1 => 0,
+        2 | 3 => was ^ 1 << (position(rng, words) % 64),
+        4 => was.wrapping_add(1),
+        5 => was | 1 << *rng.pick(&[16, 32]),
+        6 => rng.word() % 70,
+        7 => words[RULES],
+        8 => rng.word(),
         _ => u64::MAX,
     };
+    (at, was)
 }
 
-/// A rule's place: mostly one of the first, which every table may have.
-fn place(rng: &mut Rng) -> usize {
-    if rng.once_in(3) {
-        rng.below(MAX_RULES)
-    } else {
-        rng.below(6)
+/// A word of a region that the table's rules, or the bytes of a block, make use of.
+fn in_use(rng: &mut Rng, words: &[u64], of: Region) -> usize {
+    let (p, q) = (position(rng, words), position(rng, words) / 64);
+    match of {
+        Region::Lasts => last(rng.below(LAST_GAPS)) + q,
+        Region::Lates => LATES + q,
+        Region::Firsts => first(rng.below(FIRST_GAPS)) + q,
+        Region::Ids => id(rng.below(6)),
+        Region::Openers => opener(byte(rng, words)),
+        Region::Owners => owner(p),
+        Region::Takers => takers(byte(rng, words)) + q,
+        Region::Follows => follow(rng.below(FOLLOW_GAPS), p) + q,
+        _ => *rng.pick(&words_in(&[of])),
     }
+}
+
+/// A position that the table has, or one of the first.
+fn position(rng: &mut Rng, words: &[u64]) -> usize {
+    rng.below(words[POSITIONS].clamp(1, MAX_POSITIONS as u64) as usize)
 }
 
 /// A state that was opened on the table, somewhere in its stream, and then perhaps damaged.
@@ -261,7 +362,7 @@ fn state(rng: &mut Rng, table: &[u64]) -> Vec<u64> {
     state[SIDE] = *rng.pick(&[0, 0, 1, 1, 2, 2, 3, (1 << 32) + 1, u64::MAX]);
     let pairs = if state[TAKEN] < 2 { rng.once_in(8) } else { rng.once_in(2) };
     for place in 0..state[STATE_RULES].min(MAX_RULES as u64) as usize {
-        if table[record(place) + FLAGS] & SINGLE_MATCH != 0 && rng.once_in(8) {
+        if table[SINGLES] >> place & 1 == 1 && rng.once_in(8) {
             state[MARKS] |= 1 << place;
         }
         if pairs && rng.once_in(4) {

@@ -160,6 +160,9 @@ fn many_damaged<C: Calls>(calls: &C, seed: u64, first: u64, cases: u64) -> Resul
         count.cases, count.calls, count.taken, count.reports, count.used
     );
     println!("damaged: calls by number {:?}", count.by_number);
+    println!("damaged: additions by number {:?}", count.additions);
+    println!("damaged: words changed by region {:?}", count.changed);
+    println!("damaged: first calls that they decided {:?}", count.decided);
     Ok(())
 }
 

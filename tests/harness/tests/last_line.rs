@@ -7,10 +7,10 @@ mod slipping;
 
 use harness::exhaustive::MEANING;
 use harness::over_words::OverWords;
-use slipping::{scanned, Slipping, With};
+use slipping::{Slipping, With};
 use words::calls::{Answer, Calls};
-use words::gaps::{before_last, Side};
-use words::interpreter::Interpreter;
+use words::gaps::INNER_GAPS;
+use words::interpreter::{scanned, Interpreter};
 use words::layout::*;
 
 #[derive(Clone, Copy, Debug, PartialEq)]
@@ -76,9 +76,7 @@ fn forget(state: &mut [u64]) {
 /// was given or not.
 fn without_lasts(table: &[u64]) -> Vec<u64> {
     let mut words = table.to_vec();
-    for place in 0..words[RULES] as usize {
-        words[last(place, 0)..last(place, before_last(Side::Other))].fill(0);
-    }
+    words[last(0)..last(INNER_GAPS)].fill(0);
     words
 }
 
@@ -125,10 +123,7 @@ impl Slip {
     fn before_close(self, table: &[u64], state: &[u64]) -> Vec<u64> {
         let mut words = table.to_vec();
         if self == NoMarksBetween && Interpreter.test(table) == 0 {
-            let waiting = state[PENDING] & !state[MARKS];
-            for place in (0..MAX_RULES).filter(|a| waiting >> a & 1 == 1) {
-                words[record(place) + FLAGS] &= !SINGLE_MATCH;
-            }
+            words[SINGLES] &= !(state[PENDING] & !state[MARKS]);
         }
         words
     }

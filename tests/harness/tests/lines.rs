@@ -11,11 +11,11 @@ use harness::exhaustive::LINES;
 use harness::over_words::OverWords;
 use harness::random;
 use reference::tree::{Assertion, Node};
-use slipping::{scanned, Slipping, With};
+use slipping::{Slipping, With};
 use words::calls::{Answer, Calls};
 use words::compiler::add_changed;
 use words::gaps::*;
-use words::interpreter::Interpreter;
+use words::interpreter::{ends, scanned, Interpreter};
 use words::layout::*;
 
 #[derive(Clone, Copy, Debug, PartialEq)]
@@ -105,21 +105,13 @@ fn instead(node: Node, of: Assertion, other: Assertion) -> Node {
     }
 }
 
-/// The gaps between two bytes of which the second is not taken for the last.
-fn inner() -> std::ops::Range<usize> {
-    0..before_last(Side::Other)
-}
-
-/// The words with other last sets of each rule: `change` gets those of a rule, four words a gap.
+/// The words with other last sets: `change` gets them, four words a gap.
 fn with_lasts(table: &[u64], change: impl Fn(&mut [[u64; 4]])) -> Vec<u64> {
     let mut words = table.to_vec();
-    for place in 0..words[RULES] as usize {
-        let at = last(place, 0);
-        let sets = &mut words[at..at + 4 * LAST_GAPS];
-        let mut lasts: Vec<[u64; 4]> = sets.chunks(4).map(|s| s.try_into().unwrap()).collect();
-        change(&mut lasts);
-        sets.copy_from_slice(&lasts.concat());
-    }
+    let sets = &mut words[last(0)..last(LAST_GAPS)];
+    let mut lasts: Vec<[u64; 4]> = sets.chunks(4).map(|s| s.try_into().unwrap()).collect();
+    change(&mut lasts);
+    sets.copy_from_slice(&lasts.concat());
     words
 }
 
@@ -138,7 +130,7 @@ fn outside(one: [u64; 4], other: [u64; 4]) -> [u64; 4] {
 /// The words in which a rule ends after a byte of this side as it would at the stream's end.
 fn early(table: &[u64], side: Side) -> Vec<u64> {
     with_lasts(table, |lasts| {
-        let waiting = common(joined(&lasts[inner()]), lasts[at_end(side)]);
+        let waiting = common(joined(&lasts[..INNER_GAPS]), lasts[at_end(side)]);
         lasts[UNSETTLED] = joined(&[lasts[UNSETTLED], waiting]);
     })
 }
@@ -149,17 +141,15 @@ fn sure(table: &[u64], state: &[u64]) -> Vec<u32> {
     let side = Side::in_state(state[SIDE]);
     let mut gaps: Vec<usize> = SIDES.map(|after| between(side, after)).to_vec();
     gaps.push(at_end(side));
-    let ends = |place, gap| {
-        (0..MAX_POSITIONS).any(|p| has(state, 0, p) && has(table, last(place, gap), p))
-    };
+    let ends = |place, gap| ends(table, &state[..4], place, gap);
     let sure =
         |place: &usize| gaps.iter().all(|&gap| ends(*place, gap)) && !ends(*place, UNSETTLED);
-    (0..table[RULES] as usize).filter(sure).map(|a| table[record(a) + ID] as u32).collect()
+    (0..table[RULES] as usize).filter(sure).map(|a| table[id(a)] as u32).collect()
 }
 
 /// The rule's place by its id.
-fn place_of(table: &[u64], id: u32) -> usize {
-    let is_its = |&a: &usize| table[record(a) + ID] == u64::from(id);
+fn place_of(table: &[u64], rule: u32) -> usize {
+    let is_its = |&a: &usize| table[id(a)] == u64::from(rule);
     (0..table[RULES] as usize).find(is_its).expect("the rule is there")
 }
 
@@ -200,20 +190,20 @@ impl Slip {
                 Step { late, ..right }
             }
             NoMarksBetween => {
-                let words = with_lasts(table, |lasts| lasts[inner()].fill([0; 4]));
+                let words = with_lasts(table, |lasts| lasts[..INNER_GAPS].fill([0; 4]));
                 Step { own: step(&words, state, byte).own, ..right }
             }
             GivenAgain => {
                 let words = with_lasts(table, |lasts| {
                     let settled = std::mem::take(&mut lasts[UNSETTLED]);
-                    lasts[inner()].iter_mut().for_each(|set| *set = outside(*set, settled));
+                    lasts[..INNER_GAPS].iter_mut().for_each(|set| *set = outside(*set, settled));
                 });
                 Step { late: step(&words, state, byte).late, ..right }
             }
             HeldThoughGiven => {
                 let words = with_lasts(table, |lasts| {
                     let settled = lasts[UNSETTLED];
-                    lasts[inner()].fill(settled);
+                    lasts[..INNER_GAPS].fill(settled);
                 });
                 let mut next = right.next.clone();
                 next[PENDING] = step(&words, state, byte).next[PENDING];
@@ -236,7 +226,7 @@ impl Slip {
             let place = place_of(table, id);
             if right.next[MARKS] >> place & 1 == 0 {
                 right.own.push((id, right.next[TAKEN]));
-                right.next[MARKS] |= table[record(place) + FLAGS] / SINGLE_MATCH % 2 << place;
+                right.next[MARKS] |= table[SINGLES] & 1 << place;
             }
         }
         right.own.sort();
@@ -265,7 +255,7 @@ impl Slip {
                 lasts[at_end(side)] = joined(&[lasts[at_end(side)], started]);
             }),
             NotAtClosing => with_lasts(table, |lasts| {
-                let waiting = outside(joined(&lasts[inner()]), lasts[UNSETTLED]);
+                let waiting = outside(joined(&lasts[..INNER_GAPS]), lasts[UNSETTLED]);
                 lasts[at_end(side)] = outside(lasts[at_end(side)], waiting);
             }),
             KnownAtTheLastByte => early(table, side),

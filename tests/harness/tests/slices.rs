@@ -14,9 +14,9 @@ use harness::random;
 use harness::rng::Rng;
 use harness::scenario::predict;
 use harness::slices::MOST_UNITS;
-use slipping::{scanned, Slipping, With};
+use slipping::{Slipping, With};
 use words::calls::{Answer, Calls, NO_LIMIT};
-use words::interpreter::Interpreter;
+use words::interpreter::{scanned, Interpreter};
 use words::layout::*;
 
 #[derive(Clone, Copy, Debug, PartialEq)]
@@ -85,14 +85,10 @@ const SLIPS: [Slip; 18] = [
     In32Bits,
 ];
 
-/// How many positions of a set are outside the spans of single-match rules that have reported.
+/// How many live positions are none of a single-match rule that has reported.
 fn unreported(table: &[u64], state: &[u64]) -> u64 {
-    let marked = |p: usize| {
-        (0..table[RULES] as usize).filter(|a| state[MARKS] >> a & 1 == 1).any(|a| {
-            let positions = table[record(a) + FROM]..table[record(a) + TO];
-            positions.contains(&(p as u64))
-        })
-    };
+    let marked =
+        |p| (0..MAX_RULES).any(|a| state[MARKS] >> a & 1 == 1 && table[owner(p)] == a as u64);
     (0..MAX_POSITIONS).filter(|&p| has(state, 0, p) && !marked(p)).count() as u64
 }
 

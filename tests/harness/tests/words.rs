@@ -4,14 +4,16 @@
 
 mod slipping;
 
+use std::borrow::Cow;
+
 use harness::corpus_run::run_folder;
 use harness::damaged::run;
 use harness::over_words::OverWords;
 use harness::random;
-use slipping::{scanned, Slipping, With};
+use slipping::{Slipping, With};
 use words::calls::{Answer, Calls};
-use words::gaps::{before_last, Side};
-use words::interpreter::Interpreter;
+use words::gaps::{Side, INNER_GAPS};
+use words::interpreter::{scanned, Interpreter};
 use words::layout::*;
 
 /// The interpreter with one mistake.
@@ -40,7 +42,7 @@ enum Slip {
     ShortStateIsNoTable,
     OffsetsIn32Bits,
     EqualIds,
-    PositionsIn32Bits,
+    IdsIn32Bits,
 }
 
 const ALL: [Slip; 24] = [
@@ -67,7 +69,7 @@ const ALL: [Slip; 24] = [
     Slip::ShortStateIsNoTable,
     Slip::OffsetsIn32Bits,
     Slip::EqualIds,
-    Slip::PositionsIn32Bits,
+    Slip::IdsIn32Bits,
 ];
 
 /// As many ones as there are rules in the table, from the lowest digit on.
@@ -104,19 +106,6 @@ impl Slip {
             Slip::KindIn32Bits => state[SIDE] &= 0xffff_ffff,
             _ => {}
         }
-    }
-
-    /// The words that the slipping scan takes for the table.
-    fn words_of_scan(self, table: &[u64], state: &[u64], block: &[u8]) -> Vec<u64> {
-        let mut words = table.to_vec();
-        let first = state.get(TAKEN) == Some(&0) && block.len() == 1;
-        let slips = matches!(self, Slip::NoLatePairsBeforeTheFirstByte) && first;
-        if slips && Interpreter.test(table) == 0 {
-            for place in 0..words[RULES] as usize {
-                words[last(place, 0)..last(place, before_last(Side::Other))].fill(0);
-            }
-        }
-        words
     }
 
     /// What the slip makes of the state that a scan left, which took these bytes.
@@ -163,17 +152,25 @@ impl Slip {
 }
 
 impl Slipping for Slip {
+    fn read<'t>(&self, table: &'t [u64], state: &[u64], block: &[u8]) -> Cow<'t, [u64]> {
+        let first = state.get(TAKEN) == Some(&0) && block.len() == 1;
+        let slips = matches!(self, Slip::NoLatePairsBeforeTheFirstByte) && first;
+        if !slips || Interpreter.test(table) != 0 {
+            return Cow::Borrowed(table);
+        }
+        let mut words = table.to_vec();
+        words[last(0)..last(INNER_GAPS)].fill(0);
+        Cow::Owned(words)
+    }
+
     fn test(&self, table: &[u64]) -> u32 {
         let mut words = table.to_vec();
         let two = words.len() >= TABLE_WORDS && words[RULES] == 2;
-        if matches!(self, Slip::EqualIds) && two && words[record(1)] == words[record(0)] {
-            words[record(1)] += 1;
+        if matches!(self, Slip::EqualIds) && two && words[id(1)] == words[id(0)] {
+            words[id(1)] += 1;
         }
-        if matches!(self, Slip::PositionsIn32Bits) && words.len() >= TABLE_WORDS {
-            for place in 0..MAX_RULES {
-                words[record(place) + FROM] &= 0xffff_ffff;
-                words[record(place) + TO] &= 0xffff_ffff;
-            }
+        if matches!(self, Slip::IdsIn32Bits) && words.len() >= TABLE_WORDS {
+            words[id(0)..id(MAX_RULES)].iter_mut().for_each(|id| *id &= 0xffff_ffff);
         }
         Interpreter.test(&words)
     }
@@ -198,7 +195,7 @@ impl Slipping for Slip {
     ) -> Answer {
         let kept = state.to_vec();
         self.before(table, state);
-        let words = self.words_of_scan(table, state, block);
+        let words = self.read(table, state, block);
         let mut answer = Interpreter.scan(&words, state, allowance, block, ids, offsets);
         if answer.number == 0 {
             self.after_scan(table, &kept, state, &block[..answer.taken]);
@@ -218,10 +215,7 @@ impl Slipping for Slip {
         self.before(table, state);
         let mut answer = Interpreter.close(table, state, ids, offsets);
         if matches!(self, Slip::ClosingStoresMarks) && answer.number == 0 {
-            let single = |a: &usize| table[record(*a) + FLAGS] & SINGLE_MATCH != 0;
-            (0..table[RULES] as usize)
-                .filter(single)
-                .for_each(|a| state[MARKS] |= state[PENDING] & 1 << a);
+            state[MARKS] |= state[PENDING] & table[SINGLES];
         }
         self.after(&mut answer, state, &kept, offsets);
         answer
@@ -230,12 +224,20 @@ impl Slipping for Slip {
 
 #[test]
 fn the_interpreter_agrees_with_itself() {
-    let count = run(&Interpreter, 1, 0, 3_000).unwrap();
+    let count = run(&Interpreter, 1, 0, 10_000).unwrap();
     for number in [0, 1, 18, 19, 20, 21, 100] {
         assert!(
             count.by_number.get(&number).is_some_and(|&n| n > 20),
             "number {number} is too rare"
         );
+    }
+    for (region, _) in REGIONS {
+        let decided = count.decided.get(&region).copied().unwrap_or_default();
+        if [Region::Kept, Region::Unused].contains(&region) {
+            assert_eq!(decided, 0, "{region:?} words have no meaning");
+        } else {
+            assert!(decided > 8, "changed words of {region:?} decide too little: {decided}");
+        }
     }
 }
 

@@ -6,8 +6,8 @@ use reference::tree::Node;
 use reference::written::Form;
 use reference::{reader, written};
 
-use crate::gaps::{numbered, Gap, FIRST_GAPS, FOLLOW_GAPS, LAST_GAPS};
-use crate::layout::*;
+use crate::gaps::{numbered, Gap, FIRST_GAPS, FOLLOW_GAPS, INNER_GAPS, LAST_GAPS, UNSETTLED};
+use crate::layout::{self, *};
 
 /// Adds a rule to words that are a table. The number and the place.
 pub fn add(words: &mut [u64], id: u32, flags: u32, pattern: &[u8]) -> (u32, usize) {
@@ -23,10 +23,10 @@ pub fn add_changed(
     change: impl Fn(Node) -> Node,
 ) -> (u32, usize) {
     let rules = words[RULES] as usize;
-    if u64::from(flags) & !KNOWN_FLAGS != 0 {
+    if flags & !KNOWN_FLAGS != 0 {
         return (2, 0);
     }
-    if (0..rules).any(|a| words[record(a) + ID] == u64::from(id)) {
+    if words[layout::id(0)..layout::id(rules)].contains(&u64::from(id)) {
         return (3, 0);
     }
     if rules == MAX_RULES {
@@ -45,7 +45,7 @@ pub fn add_changed(
         return (17, pattern.len());
     }
     let form = written::write_out(&tree);
-    Writer { words, gaps: numbered(), from }.write(id, flags, &form, to);
+    Writer { words, gaps: numbered(), from, to }.write(id, flags & SINGLE_MATCH != 0, &form);
     (0, 0)
 }
 
@@ -53,12 +53,11 @@ pub fn add_changed(
 /// was built by additions has no such members, but damaged words may.
 fn keep_old(words: &mut [u64]) {
     let positions = words[POSITIONS] as usize;
+    let lasts = (0..LAST_GAPS).map(last);
     let firsts = (0..FIRST_GAPS).map(first);
-    let rules = 0..words[RULES] as usize;
-    let records = rules.flat_map(|a| (0..LAST_GAPS).map(move |gap| last(a, gap)));
     let follows = (0..FOLLOW_GAPS).flat_map(|gap| (0..positions).map(move |p| follow(gap, p)));
     let bytes = (0..=255u8).map(takers);
-    for at in firsts.chain(records).chain(follows).chain(bytes) {
+    for at in lasts.chain(firsts).chain(follows).chain(bytes) {
         for i in 0..4 {
             words[at + i] &= match positions.saturating_sub(64 * i) {
                 there @ 0..=63 => (1 << there) - 1,
@@ -68,44 +67,69 @@ fn keep_old(words: &mut [u64]) {
     }
 }
 
-/// Writes a rule, whose positions are numbered from `from` on.
+/// Writes the words that say of the sets of all rules what a scan asks first: with which bytes a match
+/// can begin inside a stream, and with which positions one can end only where the next byte allows it.
+pub fn write_gates(words: &mut [u64]) {
+    let at_inner =
+        |words: &[u64], set: fn(usize) -> usize, p| (0..INNER_GAPS).any(|g| has(words, set(g), p));
+    let positions = 0..MAX_POSITIONS;
+    let starts: Vec<usize> = positions.clone().filter(|&q| at_inner(words, first, q)).collect();
+    for byte in 0..=255u8 {
+        words[opener(byte)] = u64::from(starts.iter().any(|&q| has(words, takers(byte), q)));
+    }
+    words[LATES..LATES + 4].fill(0);
+    for p in positions {
+        if at_inner(words, last, p) && !has(words, last(UNSETTLED), p) {
+            put(words, LATES, p);
+        }
+    }
+}
+
+/// Writes a rule, whose positions are numbered from `from` on and below `to`.
 struct Writer<'w> {
     words: &'w mut [u64],
     /// A gap for each number.
     gaps: Vec<Gap>,
     from: usize,
+    to: usize,
 }
 
 impl Writer<'_> {
-    fn write(&mut self, id: u32, flags: u32, form: &Form, to: usize) {
+    fn write(&mut self, id: u32, single: bool, form: &Form) {
         keep_old(self.words);
-        for row in (0..FOLLOW_GAPS).flat_map(|gap| (self.from..to).map(move |p| follow(gap, p))) {
-            self.words[row..row + 4].fill(0);
+        for gap in 0..FOLLOW_GAPS {
+            self.words[follow(gap, self.from)..follow(gap, self.to)].fill(0);
         }
-        let place = self.new_record(u64::from(id));
-        let at = record(place);
-        self.words[at + FLAGS] = u64::from(flags);
-        self.words[at + FROM] = self.from as u64;
-        self.words[at + TO] = to as u64;
+        let place = self.new_place(u64::from(id), single);
+        self.words[owner(self.from)..owner(self.to)].fill(place as u64);
         for gap in 0..LAST_GAPS {
-            self.put_all(last(place, gap), &lasts(form, &self.gaps[gap]));
+            self.put_all(last(gap), &lasts(form, &self.gaps[gap]));
         }
         for gap in 0..FIRST_GAPS {
             self.put_all(first(gap), &firsts(form, &self.gaps[gap]));
         }
         self.inner(form);
+        write_gates(self.words);
         self.words[RULES] += 1;
-        self.words[POSITIONS] = to as u64;
+        self.words[POSITIONS] = self.to as u64;
     }
 
-    /// Makes room for the record of this id, all else in it zero; its place.
-    fn new_record(&mut self, id: u64) -> usize {
+    /// Makes room for a rule of this id, and writes what there is by places: the rules from its place
+    /// on move up by one, in their ids, in their bits and as owners. Its place.
+    fn new_place(&mut self, id: u64, single: bool) -> usize {
         let rules = self.words[RULES] as usize;
-        let place = (0..rules).filter(|&a| self.words[record(a) + ID] < id).count();
-        self.words.copy_within(record(place)..record(rules), record(place + 1));
-        let at = record(place);
-        self.words[at..at + RECORD_WORDS].fill(0);
-        self.words[at + ID] = id;
+        let ids = &mut self.words[layout::id(0)..=layout::id(rules)];
+        let place = ids[..rules].iter().filter(|&&other| other < id).count();
+        ids.copy_within(place..rules, place + 1);
+        ids[place] = id;
+        let singles = &mut self.words[SINGLES];
+        let below = *singles & ((1 << place) - 1);
+        *singles = below | u64::from(single) << place | (*singles - below) << 1;
+        for owner in &mut self.words[owner(0)..owner(self.from)] {
+            if (place as u64..MAX_RULES as u64).contains(owner) {
+                *owner += 1;
+            }
+        }
         place
     }
 

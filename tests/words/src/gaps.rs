@@ -39,6 +39,10 @@ pub const FOLLOW_GAPS: usize = 10;
 pub const LAST_GAPS: usize = 13;
 pub const FIRST_GAPS: usize = 17;
 
+/// How many gaps there are between two bytes of which the second is not taken for the last: `between`
+/// gives the numbers below this.
+pub const INNER_GAPS: usize = 7;
+
 /// Between two bytes, of which the second is not taken for the last.
 pub fn between(before: Side, after: Side) -> usize {
     match (before, after) {
@@ -176,6 +180,15 @@ mod tests {
                 assert_eq!(gap.holds(assertion), wanted, "{assertion:?} at {gap:?}");
             }
         }
+    }
+
+    #[test]
+    fn the_inner_gaps_are_those_between_two_bytes() {
+        let mut inner: Vec<usize> =
+            SIDES.iter().flat_map(|&one| SIDES.map(|other| between(one, other))).collect();
+        inner.sort_unstable();
+        inner.dedup();
+        assert!(inner.into_iter().eq(0..INNER_GAPS));
     }
 
     #[test]

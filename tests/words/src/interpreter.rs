@@ -1,7 +1,7 @@
 //! What table words mean to the calls. Every question is asked of one position, one rule or one
 //! byte at a time; nothing is computed for a whole set, and nothing is skipped.
 
-use crate::calls::{Answer, Calls};
+use crate::calls::{Answer, Calls, NO_LIMIT};
 use crate::compiler;
 use crate::gaps::*;
 use crate::layout::*;
@@ -21,12 +21,17 @@ impl Table<'_> {
     }
 
     fn single(&self, place: usize) -> bool {
-        self.0[record(place) + FLAGS] & SINGLE_MATCH != 0
+        self.0[SINGLES] >> place & 1 == 1
     }
 
-    /// Can a match of the rule end before this gap with one of these positions?
     fn ends(&self, positions: &[u64], place: usize, gap: usize) -> bool {
-        (0..MAX_POSITIONS).any(|p| has(positions, 0, p) && has(self.0, last(place, gap), p))
+        ends(self.0, positions, place, gap)
+    }
+
+    /// Can the position take the byte as the first of a match after this gap? Inside a stream only if
+    /// a match can begin with the byte.
+    fn starts(&self, gap: usize, byte: u8, q: usize) -> bool {
+        has(self.0, first(gap), q) && (gap >= INNER_GAPS || self.0[opener(byte)] != 0)
     }
 
     /// The rules, as a word, that pass a test.
@@ -43,15 +48,9 @@ impl Table<'_> {
     /// The positions that one more byte leads to, over a gap that has these numbers for those that
     /// start there and for those that follow another.
     fn reached(&self, live: &[u64], byte: u8, start: usize, inside: usize) -> [u64; 4] {
-        let mut next = [0; 4];
-        for q in 0..self.positions() {
-            let reached = has(self.0, first(start), q)
-                || (0..MAX_POSITIONS).any(|p| has(live, 0, p) && has(self.0, follow(inside, p), q));
-            if reached && has(self.0, takers(byte), q) {
-                put(&mut next, 0, q);
-            }
-        }
-        next
+        let follows = |p, q| has(live, 0, p) && has(self.0, follow(inside, p), q);
+        let reached = |q| self.starts(start, byte, q) || (0..MAX_POSITIONS).any(|p| follows(p, q));
+        set_of(|q| q < self.positions() && has(self.0, takers(byte), q) && reached(q))
     }
 
     /// The live positions after one more byte.
@@ -79,15 +78,13 @@ impl Table<'_> {
     /// The rules, as a word, with a pair before one more byte that needs it.
     fn late(&self, state: &[u64], byte: u8) -> u64 {
         let gap = between(Side::in_state(state[SIDE]), Side::of(byte));
-        self.newly(gap, &state[..4], UNSETTLED, &state[..4])
+        let waiting = set_of(|p| has(state, 0, p) && has(self.0, LATES, p));
+        self.newly(gap, &waiting, UNSETTLED, &state[..4])
     }
 
     /// The rules, as a word, with a pair at the stream's end that needs it.
     fn ends_at_end(&self, state: &[u64]) -> u64 {
-        let mut positions = [0; 4];
-        for p in (0..MAX_POSITIONS).filter(|&p| has(state, 0, p) || has(state, HELD, p)) {
-            put(&mut positions, 0, p);
-        }
+        let positions = set_of(|p| has(state, 0, p) || has(state, HELD, p));
         self.newly(at_end(Side::in_state(state[SIDE])), &positions, UNSETTLED, &state[..4])
     }
 
@@ -111,7 +108,7 @@ impl Table<'_> {
                 if marks >> place & 1 == 1 {
                     continue;
                 }
-                reports.push((self.0[record(place) + ID] as u32, end));
+                reports.push((self.0[id(place)] as u32, end));
                 if self.single(place) {
                     marks |= 1 << place;
                 }
@@ -119,6 +116,20 @@ impl Table<'_> {
         }
         (reports, marks)
     }
+}
+
+/// Can a match of the rule in this place end before a gap with one of these positions? Each position
+/// is one rule's; where its owner is no place of a rule, it ends no match.
+pub fn ends(words: &[u64], positions: &[u64], place: usize, gap: usize) -> bool {
+    let its = |p| has(words, last(gap), p) && words[owner(p)] == place as u64;
+    (0..MAX_POSITIONS).any(|p| has(positions, 0, p) && its(p))
+}
+
+/// The positions that pass a test.
+fn set_of(test: impl Fn(usize) -> bool) -> [u64; 4] {
+    let mut set = [0; 4];
+    (0..MAX_POSITIONS).filter(|&p| test(p)).for_each(|p| put(&mut set, 0, p));
+    set
 }
 
 /// Writes reports at the front of the free slots, from `count` on; nothing if they do not all fit.
@@ -142,16 +153,9 @@ fn table(words: &[u64]) -> Option<Table<'_>> {
     if words[RULES] > MAX_RULES as u64 || words[POSITIONS] > MAX_POSITIONS as u64 {
         return None;
     }
-    let mut before: Option<u64> = None;
-    for place in 0..words[RULES] as usize {
-        let of = &words[record(place)..];
-        let (id, flags, from, to) = (of[ID], of[FLAGS], of[FROM], of[TO]);
-        let rises = before.map_or(true, |before| before < id);
-        let known = flags & !KNOWN_FLAGS == 0;
-        if id >> 32 != 0 || !rises || !known || from > to || to > words[POSITIONS] {
-            return None;
-        }
-        before = Some(id);
+    let ids = &words[id(0)..id(words[RULES] as usize)];
+    if ids.iter().any(|&id| id >> 32 != 0) || ids.windows(2).any(|two| two[0] >= two[1]) {
+        return None;
     }
     Some(Table(words))
 }
@@ -184,6 +188,14 @@ fn checked<'w>(
 
 fn refused(number: u32) -> Answer {
     Answer { number, taken: 0, count: 0, used: 0 }
+}
+
+/// The reports of these bytes, which the state is left after, whatever the space.
+pub fn scanned(table: &[u64], state: &mut [u64], bytes: &[u8]) -> Vec<(u32, u64)> {
+    let space = 2 * MAX_RULES * (bytes.len() + 1);
+    let (mut ids, mut offsets) = (vec![0; space], vec![0; space]);
+    let answer = Interpreter.scan(table, state, NO_LIMIT, bytes, &mut ids, &mut offsets);
+    ids.into_iter().zip(offsets).take(answer.count).collect()
 }
 
 impl Calls for Interpreter {

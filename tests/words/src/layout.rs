@@ -1,58 +1,113 @@
 //! The places of a table's words and of a state's words, as docs/TABLE.md and docs/EMBEDDING.md
 //! list them.
 
+use std::ops::Range;
+
 use crate::gaps::{FIRST_GAPS, FOLLOW_GAPS, LAST_GAPS};
 
 pub const TABLE_WORDS: usize = 16_384;
-pub const FORMAT: u64 = 0x7761_7463_6865_7233;
+pub const FORMAT: u64 = u64::from_be_bytes(*b"watcher4");
 pub const MAX_RULES: usize = 64;
 pub const MAX_POSITIONS: usize = 256;
 /// How many bytes a stream may have.
 pub const MAX_STREAM: u64 = 1_099_511_627_775;
 
+pub const KNOWN_FLAGS: u32 = 1 + 2 + 4 + 8;
+pub const SINGLE_MATCH: u32 = 8;
+
 pub const RULES: usize = 1;
 pub const POSITIONS: usize = 2;
+/// The single-match rules, a bit for each place.
+pub const SINGLES: usize = 3;
 
-/// The set of positions that can take a first byte after a gap.
-pub fn first(gap: usize) -> usize {
+/// The set of positions with which a match can end before a gap.
+pub const fn last(gap: usize) -> usize {
     4 + 4 * gap
 }
 
-/// The words of these sets.
-pub const FIRSTS: std::ops::Range<usize> = 4..4 + 4 * FIRST_GAPS;
+/// The set of positions with which a match can end only where the next byte allows it.
+pub const LATES: usize = 56;
 
-/// The words of a record, from its first: after these the sets of `last`.
-pub const ID: usize = 0;
-pub const FLAGS: usize = 1;
-/// The rule's first position, and the one after its last.
-pub const FROM: usize = 2;
-pub const TO: usize = 3;
-pub const LASTS: usize = 4;
-pub const RECORD_WORDS: usize = LASTS + 4 * LAST_GAPS;
-
-pub const KNOWN_FLAGS: u64 = 1 + 2 + 4 + 8;
-pub const SINGLE_MATCH: u64 = 8;
-
-pub fn record(place: usize) -> usize {
-    128 + RECORD_WORDS * place
+/// The set of positions that can take a first byte after a gap.
+pub const fn first(gap: usize) -> usize {
+    60 + 4 * gap
 }
 
-/// The set of positions with which a match of the rule in this place can end before a gap.
-pub fn last(place: usize, gap: usize) -> usize {
-    record(place) + LASTS + 4 * gap
+/// The id of the rule in this place.
+pub const fn id(place: usize) -> usize {
+    128 + place
 }
 
-pub fn takers(byte: u8) -> usize {
+/// Not 0 where a match can begin with the byte inside a stream.
+pub const fn opener(byte: u8) -> usize {
+    192 + byte as usize
+}
+
+/// The place of the position's rule.
+pub const fn owner(position: usize) -> usize {
+    448 + position
+}
+
+/// The set of positions that take the byte.
+pub const fn takers(byte: u8) -> usize {
     4_096 + 4 * byte as usize
 }
 
 /// The set of positions that can follow this one over a gap.
-pub fn follow(gap: usize, position: usize) -> usize {
+pub const fn follow(gap: usize, position: usize) -> usize {
     5_120 + 1_024 * gap + 4 * position
 }
 
-/// The words of the byte sets and of the follow sets.
-pub const ROWS: std::ops::Range<usize> = 4_096..5_120 + 1_024 * FOLLOW_GAPS;
+/// Words of a table with one sort of meaning.
+#[derive(Clone, Copy, Debug, PartialEq, Eq, PartialOrd, Ord)]
+pub enum Region {
+    /// The format and both counts.
+    Header,
+    Singles,
+    Lasts,
+    Lates,
+    Firsts,
+    Ids,
+    Openers,
+    Owners,
+    Takers,
+    Follows,
+    /// Kept for what rules may yet say.
+    Kept,
+    Unused,
+}
+
+/// The whole table, from its first word to its last.
+pub const REGIONS: [(Region, Range<usize>); 16] = [
+    (Region::Header, 0..SINGLES),
+    (Region::Singles, SINGLES..last(0)),
+    (Region::Lasts, last(0)..last(LAST_GAPS)),
+    (Region::Lates, LATES..LATES + 4),
+    (Region::Firsts, first(0)..first(FIRST_GAPS)),
+    (Region::Ids, id(0)..id(MAX_RULES)),
+    (Region::Openers, opener(0)..opener(255) + 1),
+    (Region::Owners, owner(0)..owner(MAX_POSITIONS)),
+    (Region::Unused, 704..706),
+    (Region::Kept, 706..708),
+    (Region::Unused, 708..768),
+    (Region::Kept, 768..960),
+    (Region::Unused, 960..4_096),
+    (Region::Takers, takers(0)..takers(255) + 4),
+    (Region::Follows, follow(0, 0)..follow(FOLLOW_GAPS, 0)),
+    (Region::Unused, 15_360..TABLE_WORDS),
+];
+
+/// The region of a word; a word beyond the table is an unused one.
+pub fn region(at: usize) -> Region {
+    let of = REGIONS.into_iter().find(|(_, words)| words.contains(&at));
+    of.map_or(Region::Unused, |(region, _)| region)
+}
+
+/// The words of some regions.
+pub fn words_in(regions: &[Region]) -> Vec<usize> {
+    let of = REGIONS.into_iter().filter(|(region, _)| regions.contains(region));
+    of.flat_map(|(_, words)| words).collect()
+}
 
 /// Is the position in the set whose four words begin at `at`?
 pub fn has(words: &[u64], at: usize, position: usize) -> bool {
@@ -77,3 +132,14 @@ pub const CLOSED: usize = 14;
 pub const STATE_WORDS: usize = 15;
 /// The number for fewer words than a state has.
 pub const SHORT_STATE: u32 = 100;
+
+#[cfg(test)]
+mod tests {
+    use super::*;
+
+    #[test]
+    fn the_regions_are_the_whole_table() {
+        let words = REGIONS.into_iter().flat_map(|(_, words)| words);
+        assert!(words.eq(0..TABLE_WORDS));
+    }
+}

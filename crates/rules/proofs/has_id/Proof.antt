@@ -1,4 +1,4 @@
--- `rules::has_id` meets its contract. The loop's invariant: none of the records before `a` has the id.
+-- `rules::has_id` meets its contract. The loop's invariant: none of the rules before `a` has the id.
 use Prim.Native.Nat.{_-_, _≤_}
 use native.Mathlib.Omega.{arith}
 use denote.Ref.{now}
@@ -17,17 +17,11 @@ loop-holds c =
     let c-start = c in
     (omega arith, none-first (now (c-start .args .words)) (c-start .args .id))
 
-mul-if1 : tie.Need-mul-if1 Inv-loop μ-loop
-mul-if1 c = omega arith
-
 add-if1 : tie.Need-add-if1 Inv-loop μ-loop
 add-if1 c = omega arith
 
-add-if1-2 : tie.Need-add-if1-2 Inv-loop μ-loop
-add-if1-2 c = omega arith
-
-mul-if1-2 : tie.Need-mul-if1-2 Inv-loop μ-loop
-mul-if1-2 c = omega arith
+mul-if1 : tie.Need-mul-if1 Inv-loop μ-loop
+mul-if1 c = omega arith
 
 shared-slice-read-if1 : tie.Need-shared-slice-read-if1 Inv-loop μ-loop
 shared-slice-read-if1 c = omega arith
@@ -65,10 +59,8 @@ has-id-spec =
     Inv-loop
     μ-loop
     loop-holds
-    mul-if1
     add-if1
-    add-if1-2
-    mul-if1-2
+    mul-if1
     shared-slice-read-if1
     returns
     add-a

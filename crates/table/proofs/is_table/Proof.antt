@@ -1,8 +1,8 @@
--- `table::is_table` meets its contract: each early answer shows a link of the test that fails; with the header in order, the records decide.
+-- `table::is_table` meets its contract: each early answer shows a link of the test that fails; with the header in order, the ids decide.
 use mathlib.Core.Path.{sym, _∙_}
 use native.Mathlib.Omega.{arith}
 use denote.Ref.{now}
-use Rattle.table.proofs.Test.{refused, by-records}
+use Rattle.table.proofs.Test.{refused, by-ids}
 use Rattle.table.proofs.is_table.Statement.{statement}
 use Rattle.table.proofs.is_table.Tie as tie
 
@@ -27,13 +27,13 @@ shared-slice-read-positions c = omega arith
 returns-4 : tie.Need-returns-4
 returns-4 c = sym (refused (now (c .before .before .before .before .before .before .before .before .args .words)) (λ p. omega arith))
 
-records-ok-requires : tie.Need-records-ok-requires
-records-ok-requires c κs = omega arith
+ids-ok-requires : tie.Need-ids-ok-requires
+ids-ok-requires c κs = omega arith
 
 returns-5 : tie.Need-returns-5
 returns-5 c =
     let t = now (c .before .before .before .before .before .before .before .before .before .args .words) in
-    c .records-ok .ensures ∙ sym (by-records t (omega arith) (c .before .before .before .before .before .if2 .left) (omega arith) (omega arith))
+    c .ids-ok .ensures ∙ sym (by-ids t (omega arith) (c .before .before .before .before .before .if2 .left) (omega arith) (omega arith))
 
 pub is-table-spec : {M : Type 1} → statement M
 is-table-spec =
@@ -46,5 +46,5 @@ is-table-spec =
     returns-3
     shared-slice-read-positions
     returns-4
-    records-ok-requires
+    ids-ok-requires
     returns-5)

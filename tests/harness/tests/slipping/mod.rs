@@ -1,10 +1,16 @@
 //! Calls over words that slip somewhere: each is the interpreter's, but for those that a slip says.
 
-use words::calls::{Answer, Calls, NO_LIMIT};
+use std::borrow::Cow;
+
+use words::calls::{Answer, Calls};
 use words::interpreter::Interpreter;
-use words::layout::MAX_RULES;
 
 pub trait Slipping {
+    /// The words that a scan of this block, or a closing, takes for the table.
+    fn read<'t>(&self, table: &'t [u64], _state: &[u64], _block: &[u8]) -> Cow<'t, [u64]> {
+        Cow::Borrowed(table)
+    }
+
     fn test(&self, table: &[u64]) -> u32 {
         Interpreter.test(table)
     }
@@ -26,7 +32,8 @@ pub trait Slipping {
         ids: &mut [u32],
         offsets: &mut [u64],
     ) -> Answer {
-        Interpreter.scan(table, state, allowance, block, ids, offsets)
+        let table = self.read(table, state, block);
+        Interpreter.scan(&table, state, allowance, block, ids, offsets)
     }
 
     fn close(
@@ -36,7 +43,8 @@ pub trait Slipping {
         ids: &mut [u32],
         offsets: &mut [u64],
     ) -> Answer {
-        Interpreter.close(table, state, ids, offsets)
+        let table = self.read(table, state, b"");
+        Interpreter.close(&table, state, ids, offsets)
     }
 
     fn busy(&self, state: &[u64]) -> u32 {
@@ -90,12 +98,4 @@ impl<S: Slipping> Calls for With<S> {
     fn busy(&self, state: &[u64]) -> u32 {
         self.0.busy(state)
     }
-}
-
-/// The reports of these bytes, which the state is left after, whatever the space.
-pub fn scanned(table: &[u64], state: &mut [u64], bytes: &[u8]) -> Vec<(u32, u64)> {
-    let space = 2 * MAX_RULES * (bytes.len() + 1);
-    let (mut ids, mut offsets) = (vec![0; space], vec![0; space]);
-    let answer = Interpreter.scan(table, state, NO_LIMIT, bytes, &mut ids, &mut offsets);
-    ids.into_iter().zip(offsets).take(answer.count).collect()
 }

@@ -1,6 +1,9 @@
 -- `rules::write::add_rule` meets its contract: each call wrote its part, and together they are the defined words.
+use mathlib.Core.Path.{refl}
+use Prim.Native.Nat.{_/_, _%_}
 use native.Mathlib.Omega.{arith}
 use denote.Ref.{now}
+use lib.Dec.{eqb}
 use Rattle.table.specs.Layout.{positionsOf}
 use Rattle.nodes.specs.Nodes.{treeAt}
 use Rattle.rules.specs.Gaps.{holdingAt}
@@ -15,32 +18,35 @@ slice-read-rules c = omega arith
 slice-read-n : tie.Need-slice-read-n
 slice-read-n c = omega arith
 
-add-record-of : tie.Need-add-record-of
-add-record-of c =
-    let c-start = c .before .before .before .before in
+put-place-requires : tie.Need-put-place-requires
+put-place-requires c κs =
+    let c-start = c .before .before .before .before .before in
     omega (arith, sized (treeAt (now (c-start .args .nodes)) (c-start .args .root)) (positionsOf (now (c-start .args .words))) (holdingAt 0) (c-start .pre .2) (c-start .args .parts) (c-start .pre .3))
-
-record-of-requires : tie.Need-record-of-requires
-record-of-requires c κs = tt
-
-put-record-requires : tie.Need-put-record-requires
-put-record-requires c κs = omega arith
 
 put-gaps-requires : tie.Need-put-gaps-requires
 put-gaps-requires c κs = omega arith
 
 put-takers-requires : tie.Need-put-takers-requires
 put-takers-requires c κs =
-    let c-start = c .before .before .before .before .before .before .before .before .before .before .before .before .before .before .before .before in
+    let c-start = c .before .before .before .before .before .before .before .before .before .before .before .before .before .before .before in
     omega (arith, sized (treeAt (now (c-start .args .nodes)) (c-start .args .root)) (positionsOf (now (c-start .args .words))) (holdingAt 0) (c-start .pre .2) (c-start .args .parts) (c-start .pre .3))
+
+put-openers-requires : tie.Need-put-openers-requires
+put-openers-requires c κs = omega arith
+
+put-lates-requires : tie.Need-put-lates-requires
+put-lates-requires c κs = omega arith
 
 add-put-counts : tie.Need-add-put-counts
 add-put-counts c = omega arith
 
 add-put-counts-2 : tie.Need-add-put-counts-2
 add-put-counts-2 c =
-    let c-start = c .before .before .before .before .before .before .before .before .before .before .before .before .before .before .before .before .before .before .before .before in
-    omega (arith, sized (treeAt (now (c-start .args .nodes)) (c-start .args .root)) (positionsOf (now (c-start .args .words))) (holdingAt 0) (c-start .pre .2) (c-start .args .parts) (c-start .pre .3))
+    let openers = c .before .before .before .before .before .before .before in
+    let takers = openers .before .before .before .before in
+    let gaps = takers .before .before .before .before .before .before in
+    let start = gaps .before .before .before .before .before .before .before .before .before .before in
+    omega (arith, sized (treeAt (now (start .args .nodes)) (start .args .root)) (positionsOf (now (start .args .words))) (holdingAt 0) (start .pre .2) (start .args .parts) (start .pre .3))
 
 put-counts-requires : tie.Need-put-counts-requires
 put-counts-requires c κs = omega arith
@@ -50,17 +56,19 @@ same-length c = omega arith
 
 returns : tie.Need-returns
 returns c =
-    let c-start = c .before .before .before .before .before .before .before .before .before .before .before .before .before .before .before .before .before .before .before .before .before .before .before in
-    let c-record-of = c .before .before .before .before .before .before .before .before .before .before .before .before .before .before .before .before .before .before .record-of in
-    let c-put-record = c .before .before .before .before .before .before .before .before .before .before .before .before .before .before .before .before .put-record in
-    let c-put-gaps = c .before .before .before .before .before .before .before .before .before .before .before .before .put-gaps in
-    let c-put-takers = c .before .before .before .before .before .before .put-takers in
-    let c-put-counts = c .before .before .put-counts in
-    let a = c-start .args in
-    let p = c-start .pre in
-    added-is (now (a .words)) (a .id) (a .flags) (treeAt (now (a .nodes)) (a .root)) (p .0) (p .1) (p .2) (a .parts) (p .3)
-    (c-record-of .result) (c-put-record .last .0) (c-put-gaps .last .0) (c-put-takers .last .0) (c-put-counts .last .0) (c-put-record .result)
-    (c-record-of .ensures) (c-put-record .ensures .1) (c-put-record .ensures .2) (c-put-gaps .ensures) (c-put-takers .ensures) (c-put-counts .ensures)
+    let lates = c .before .before .before .before .before .before in
+    let openers = lates .before .before .before .before in
+    let takers = openers .before .before .before .before in
+    let gaps = takers .before .before .before .before .before .before in
+    let place = gaps .before .before .before .before in
+    let start = place .before .before .before .before .before .before in
+    let a = start .args in
+    let p = start .pre in
+    added-is (now (a .words)) (a .id) (a .flags) (treeAt (now (a .nodes)) (a .root)) (p .0) (p .1) (p .2) (a .parts) (p .3) (eqb (a .flags / 8 % 2) 1) refl
+    (place .put-place .last .0) (gaps .put-gaps .last .0) (takers .put-takers .last .0) (openers .put-openers .last .0) (lates .put-lates .last .0)
+    (c .before .before .put-counts .last .0)
+    (place .put-place .ensures) (gaps .put-gaps .ensures) (takers .put-takers .ensures) (openers .put-openers .ensures) (lates .put-lates .ensures)
+    (c .before .before .put-counts .ensures)
 
 pub add-rule-spec : {M : Type 1} → statement M
 add-rule-spec =
@@ -68,11 +76,11 @@ add-rule-spec =
     (tie.spec
     slice-read-rules
     slice-read-n
-    add-record-of
-    record-of-requires
-    put-record-requires
+    put-place-requires
     put-gaps-requires
     put-takers-requires
+    put-openers-requires
+    put-lates-requires
     add-put-counts
     add-put-counts-2
     put-counts-requires

@@ -1,16 +1,15 @@
--- `rules::write::move_up` meets its contract. The loop's invariant: from the top down, the words from `i` on stand one record up; what is read next lies below them.
+-- `rules::write::move_up` meets its contract. The loop's invariant: from the top down, the words from `i` on stand one up; what is read next lies below them.
 use mathlib.Core.Path.{_≡_, ap, _∙_}
 use Prim.Native.Nat.{ℕ, _+_, _-_, _≤_}
 use native.Mathlib.Omega.{arith}
 use denote.Ref.{now}
 use lib.ListN.{getD}
-use Rattle.table.specs.Layout.{stride}
 use Rattle.table.proofs.Over.{Written, written-none, written-down, written-below, written-all-down}
 use Rattle.rules.proofs.write.move_up.Statement.{statement}
 use Rattle.rules.proofs.write.move_up.Tie as tie
 
 abbrev Inv-loop : tie.InvT-loop
-Inv-loop words₀ at n i₀ words i = (i ≤ n) × Written (at + stride + i) (at + stride + n) (λ w. getD words₀ (w - stride) 0) words₀ words
+Inv-loop words₀ at n i₀ words i = (i ≤ n) × Written (at + 1 + i) (at + 1 + n) (λ w. getD words₀ (w - 1) 0) words₀ words
 
 abbrev μ-loop : tie.MeasureT-loop
 μ-loop words₀ at n i₀ words i = i
@@ -52,7 +51,7 @@ loop-again c =
     let t = now (c-start .args .words) in
     let at = c-start .args .at in
     let i = c-loop .i in
-    let e : at + (i - 1) ≡ at + stride + (i - 1) - stride = omega arith in
+    let e : at + (i - 1) ≡ at + 1 + (i - 1) - 1 = omega arith in
     (omega arith, written-down (c-loop .inv .1) (omega arith) (omega arith) (omega arith) (written-below (c-loop .inv .1) (at + (i - 1)) (omega arith) ∙ ap (λ (k : ℕ). getD t k 0) e))
 
 same-length : tie.Need-same-length Inv-loop μ-loop
@@ -62,7 +61,7 @@ returns : tie.Need-returns Inv-loop μ-loop
 returns c =
     let c-start = c .before .before in
     let c-loop = c .before .loop in
-    let e : c-start .args .at + stride + c-loop .i ≡ c-start .args .at + stride = omega arith in written-all-down (c-loop .inv .1) e
+    let e : c-start .args .at + 1 + c-loop .i ≡ c-start .args .at + 1 = omega arith in written-all-down (c-loop .inv .1) e
 
 pub move-up-spec : {M : Type 1} → statement M
 move-up-spec =

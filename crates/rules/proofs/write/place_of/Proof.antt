@@ -21,17 +21,11 @@ loop-holds c =
     let c-start = c in
     (omega arith, omega arith, place-none (now (c-start .args .words)) (c-start .args .id))
 
-mul-if1 : tie.Need-mul-if1 Inv-loop μ-loop
-mul-if1 c = omega arith
-
 add-if1 : tie.Need-add-if1 Inv-loop μ-loop
 add-if1 c = omega arith
 
-add-if1-2 : tie.Need-add-if1-2 Inv-loop μ-loop
-add-if1-2 c = omega arith
-
-mul-if1-2 : tie.Need-mul-if1-2 Inv-loop μ-loop
-mul-if1-2 c = omega arith
+mul-if1 : tie.Need-mul-if1 Inv-loop μ-loop
+mul-if1 c = omega arith
 
 shared-slice-read-if1 : tie.Need-shared-slice-read-if1 Inv-loop μ-loop
 shared-slice-read-if1 c = omega arith
@@ -68,10 +62,8 @@ place-of-spec =
     Inv-loop
     μ-loop
     loop-holds
-    mul-if1
     add-if1
-    add-if1-2
-    mul-if1-2
+    mul-if1
     shared-slice-read-if1
     add-k
     add-a

@@ -26,25 +26,16 @@ returns c =
     let c-start = c .before .before .before .before .before .before .before in
     let c-merge-row = c .before .before .before .merge-row in
     let c-if1 = c .if1 in
-    gap-start (c-start .args .gap) (c-start .args .n) (c-start .args .place) (c-start .args .parts) (now (c-start .args .words)) (c-merge-row .last .0) (c-merge-row .ensures) (c-if1 .taken)
+    gap-start (c-start .args .gap) (c-start .args .n) (c-start .args .parts) (now (c-start .args .words)) (c-merge-row .last .0) (c-merge-row .ensures) (c-if1 .taken)
 
-mul-at : tie.Need-mul-at
-mul-at c = omega arith
+mul-merge-row-2 : tie.Need-mul-merge-row-2
+mul-merge-row-2 c = omega arith
 
-add-at : tie.Need-add-at
-add-at c = omega arith
+add-merge-row-2 : tie.Need-add-merge-row-2
+add-merge-row-2 c = omega arith
 
-mul-at-2 : tie.Need-mul-at-2
-mul-at-2 c = omega arith
-
-add-at-2 : tie.Need-add-at-2
-add-at-2 c = omega arith
-
-add-at-3 : tie.Need-add-at-3
-add-at-3 c = omega arith
-
-put-set-requires : tie.Need-put-set-requires
-put-set-requires c κs = omega arith
+merge-row-requires-2 : tie.Need-merge-row-requires-2
+merge-row-requires-2 c κs = omega arith
 
 same-length-2 : tie.Need-same-length-2
 same-length-2 c = omega arith
@@ -53,10 +44,10 @@ returns-2 : tie.Need-returns-2
 returns-2 c =
     let c-start = c .before .before .before .before .before .before .before .before .before .before .before .before .before in
     let c-merge-row = c .before .before .before .before .before .before .before .before .before .merge-row in
-    let c-put-set = c .before .before .before .put-set in
+    let c-merge-row2 = c .before .before .before .merge-row2 in
     let c-if2 = c .if2 in
-    gap-end (c-start .args .gap) (c-start .args .n) (c-start .args .place) (c-start .args .parts) (now (c-start .args .words)) (c-merge-row .last .0) (c-merge-row .ensures)
-    (c-put-set .last .0) (c-put-set .ensures) (omega arith) (c-if2 .taken)
+    gap-end (c-start .args .gap) (c-start .args .n) (c-start .args .parts) (now (c-start .args .words)) (c-merge-row .last .0) (c-merge-row .ensures)
+    (c-merge-row2 .last .0) (c-merge-row2 .ensures) (omega arith) (c-if2 .taken)
 
 mul-put-follow : tie.Need-mul-put-follow
 mul-put-follow c = omega arith
@@ -74,12 +65,12 @@ returns-3 : tie.Need-returns-3
 returns-3 c =
     let c-start = c .before .before .before .before .before .before .before .before .before .before .before .before .before .before .before .before .before .before .before in
     let c-merge-row = c .before .before .before .before .before .before .before .before .before .before .before .before .before .before .before .merge-row in
-    let c-put-set = c .before .before .before .before .before .before .before .before .before .put-set in
+    let c-merge-row2 = c .before .before .before .before .before .before .before .before .before .merge-row2 in
     let c-put-follow = c .before .before .put-follow in
     let e : 5120 + c-start .args .gap * 1024 ≡ followAt (c-start .args .gap) 0 = omega arith in
-    gap-inside (c-start .args .gap) (c-start .args .n) (c-start .args .place) (c-start .args .parts) (now (c-start .args .words)) (c-merge-row .last .0) (c-merge-row .ensures)
-    (c-put-set .last .0) (c-put-set .ensures) (omega arith) (c-put-follow .last .0)
-    (c-put-follow .ensures ∙ ap (λ (at : ℕ). followPut at (c-start .args .n) (c-start .args .parts .follow) (c-start .args .parts .positions) (c-put-set .last .0)) e)
+    gap-inside (c-start .args .gap) (c-start .args .n) (c-start .args .parts) (now (c-start .args .words)) (c-merge-row .last .0) (c-merge-row .ensures)
+    (c-merge-row2 .last .0) (c-merge-row2 .ensures) (omega arith) (c-put-follow .last .0)
+    (c-put-follow .ensures ∙ ap (λ (at : ℕ). followPut at (c-start .args .n) (c-start .args .parts .follow) (c-start .args .parts .positions) (c-merge-row2 .last .0)) e)
 
 pub put-gap-spec : {M : Type 1} → statement M
 put-gap-spec =
@@ -90,12 +81,9 @@ put-gap-spec =
     merge-row-requires
     same-length
     returns
-    mul-at
-    add-at
-    mul-at-2
-    add-at-2
-    add-at-3
-    put-set-requires
+    mul-merge-row-2
+    add-merge-row-2
+    merge-row-requires-2
     same-length-2
     returns-2
     mul-put-follow

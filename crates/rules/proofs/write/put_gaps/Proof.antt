@@ -16,16 +16,16 @@ use Rattle.rules.proofs.write.put_gaps.Statement.{statement}
 use Rattle.rules.proofs.write.put_gaps.Tie as tie
 
 abbrev Inv-loop : tie.InvT-loop
-Inv-loop words₀ n place nodes root g₀ words g =
-    (g ≤ firstGaps) × (length words ≡ length words₀) × (words ≡ gapsPut g n place (partsAt (treeAt nodes root) n) words₀)
+Inv-loop words₀ n nodes root g₀ words g =
+    (g ≤ firstGaps) × (length words ≡ length words₀) × (words ≡ gapsPut g n (partsAt (treeAt nodes root) n) words₀)
 
 abbrev μ-loop : tie.MeasureT-loop
-μ-loop words₀ n place nodes root g₀ words g = firstGaps - g
+μ-loop words₀ n nodes root g₀ words g = firstGaps - g
 
 loop-holds : tie.Need-loop-holds Inv-loop μ-loop
 loop-holds c =
     let c-start = c .before .before in
-    (omega arith, omega arith, gaps-none (c-start .args .n) (c-start .args .place) (partsAt (treeAt (now (c-start .args .nodes)) (c-start .args .root)) (c-start .args .n)) (now (c-start .args .words)))
+    (omega arith, omega arith, gaps-none (c-start .args .n) (partsAt (treeAt (now (c-start .args .nodes)) (c-start .args .root)) (c-start .args .n)) (now (c-start .args .words)))
 
 holding-requires : tie.Need-holding-requires Inv-loop μ-loop
 holding-requires c κs = omega arith
@@ -39,7 +39,7 @@ put-gap-requires c κs =
     let c-build = c .before .build in
     let c-holding = c .before .before .holding in
     let x = treeAt (now (c-start .args .nodes)) (c-start .args .root) in
-    let e = ap (λ (p : Parts). p .positions) (c-build .ensures) ∙ sized-parts x (c-start .args .n) (c-holding .result) (c-start .pre .2) in
+    let e = ap (λ (p : Parts). p .positions) (c-build .ensures) ∙ sized-parts x (c-start .args .n) (c-holding .result) (c-start .pre .1) in
     omega (arith, e)
 
 add-g : tie.Need-add-g Inv-loop μ-loop
@@ -58,7 +58,7 @@ loop-again c =
     let x = treeAt (now (c-start .args .nodes)) (c-start .args .root) in (
       omega arith,
       omega arith,
-      gaps-turn (c-loop .g) (c-start .args .n) (c-start .args .place) (partsAt x (c-start .args .n)) (c-build .result) (now (c-start .args .words)) (c-loop .words) (c-put-gap .last .0)
+      gaps-turn (c-loop .g) (c-start .args .n) (partsAt x (c-start .args .n)) (c-build .result) (now (c-start .args .words)) (c-loop .words) (c-put-gap .last .0)
           (c-loop .inv .2) (c-build .ensures ∙ ap (partsOf x (c-start .args .n)) (c-holding .ensures)) (c-put-gap .ensures),
     )
 
@@ -72,7 +72,7 @@ returns c =
     let c-loop = c .before .loop in
     let c-start = c .before .before .before .before in
     let e : c-loop .g ≡ firstGaps = omega arith in
-    c-loop .inv .2 ∙ ap (λ (m : ℕ). gapsPut m (c-start .args .n) (c-start .args .place) (partsAt (treeAt (now (c-start .args .nodes)) (c-start .args .root)) (c-start .args .n)) (now (c-start .args .words))) e
+    c-loop .inv .2 ∙ ap (λ (m : ℕ). gapsPut m (c-start .args .n) (partsAt (treeAt (now (c-start .args .nodes)) (c-start .args .root)) (c-start .args .n)) (now (c-start .args .words))) e
 
 pub put-gaps-spec : {M : Type 1} → statement M
 put-gaps-spec =

@@ -5,7 +5,7 @@ use Prim.Native.Nat.{ℕ, _<_}
 use denote.Ref.{now}
 use Rattle.sets.specs.Set.{setOf, intersectionOf, keptBelow, sizeOf}
 use Rattle.table.specs.Gaps.{firstGaps, followGaps}
-use Rattle.table.specs.Automaton.{automaton}
+use Rattle.table.specs.Automaton.{automaton, starts}
 use Rattle.table.proofs.GapBounds.{gapOf-follow, firstGap-first}
 use Rattle.steps.specs.Step.{stepped}
 use Rattle.steps.proofs.Bounds.{followRows, follow-offset-fits, follow-fits, follow-inside}
@@ -88,7 +88,7 @@ returns-2 c =
     let a = c-start .args in
     let t = now (a .words) in
     let w = automaton t in
-    let first = c-firsts .ensures ∙ ap (λ (g : ℕ). setOf (w .first g)) (c-first-gap .ensures) in
+    let first = c-firsts .ensures ∙ ap (λ (g : ℕ). setOf (starts w g (a .byte))) (c-first-gap .ensures) in
     let met = c-intersection .ensures ∙ ap₂ intersectionOf (c-walk .ensures .1) (c-takers .ensures ∙ set-on t (setOf (w .takes (a .byte))) (c-if1 .left)) in (
       c-below .ensures ∙ ap (λ (s : List ℕ). keptBelow s (a .positions)) met
           ∙ next-words t (a .line) (a .before) (a .after) (a .live) (a .taken) (c-firsts .result) _ (a .positions) (a .byte) first (ap followRows (c-gap-of .ensures))

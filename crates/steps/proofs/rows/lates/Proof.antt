@@ -1,130 +1,27 @@
--- `steps::rows::lates` meets its contract: each turn joins what one rule has in its last sets between two bytes and not whatever follows.
-use mathlib.Core.Path.{_≡_, sym, ap, ap₂, _∙_}
-use Prim.Native.Nat.{_-_, _≤_, zero-le}
-use native.Mathlib.Nat.{le-refl, lt-of-lt-of-le}
+-- `steps::rows::lates` meets its contract: the set that the words have, where there are enough.
+use mathlib.Core.Path.{sym, _∙_}
 use denote.Ref.{now}
-use lib.Dec.{lit<}
-use Rattle.sets.specs.Set.{unionOf, intersectionOf}
-use Rattle.table.specs.Layout.{maxRules, rulesOf}
 use Rattle.table.specs.Automaton.{automaton}
 use Rattle.steps.specs.Step.{latesOf}
-use Rattle.steps.proofs.Bounds.{up, reached, less-left, few-rules, next-place-fits}
-use Rattle.steps.proofs.TableSets.{set-on, set-off, joinedBelow, joined-none, joined-more, lateIn, late-set, lates-all}
+use Rattle.steps.proofs.TableSets.{set-on, set-off}
 use Rattle.steps.proofs.rows.lates.Statement.{statement}
 use Rattle.steps.proofs.rows.lates.Tie as tie
 
-abbrev Inv-loop : tie.InvT-loop
-Inv-loop words rules s₀ a₀ s a = (rules ≤ maxRules) × (a ≤ rules) × (s ≡ joinedBelow (lateIn (automaton words)) a)
-
-abbrev μ-loop : tie.MeasureT-loop
-μ-loop words rules s₀ a₀ s a = rules - a
-
-empty-requires : tie.Need-empty-requires Inv-loop μ-loop
+empty-requires : tie.Need-empty-requires
 empty-requires c κs = tt
 
-returns : tie.Need-returns Inv-loop μ-loop
+returns : tie.Need-returns
 returns c =
-    let c-empty = c .empty in
-    let c-start = c .before .before .before in
-    let c-if1 = c .before .if1 in
-    c-empty .ensures ∙ sym (set-off (now (c-start .args .words)) (latesOf (automaton (now (c-start .args .words)))) (c-if1 .taken))
+    let t = now (c .before .before .before .args .words) in
+    c .empty .ensures ∙ sym (set-off t (latesOf (automaton t)) (c .before .if1 .taken))
 
-rule-count-requires : tie.Need-rule-count-requires Inv-loop μ-loop
-rule-count-requires c κs =
-    let c-if1 = c .if1 in
-    c-if1 .left
+late-row-requires : tie.Need-late-row-requires
+late-row-requires c κs = c .if1 .left
 
-empty-requires-2 : tie.Need-empty-requires-2 Inv-loop μ-loop
-empty-requires-2 c κs = tt
-
-loop-holds : tie.Need-loop-holds Inv-loop μ-loop
-loop-holds c =
-    let c-rule-count = c .before .rule-count in
-    let c-start = c .before .before .before .before in
-    let c-empty2 = c .empty2 in
-    (few-rules (c-rule-count .result) (rulesOf (now (c-start .args .words))) (c-rule-count .ensures), zero-le, c-empty2 .ensures ∙ joined-none (lateIn (automaton (now (c-start .args .words)))))
-
-inner-lasts-requires : tie.Need-inner-lasts-requires Inv-loop μ-loop
-inner-lasts-requires c κs =
-    let c-loop = c .before .loop in
-    let c-loop-test = c .loop-test in
-    let c-if1 = c .before .before .before .before .if1 in
-    (c-if1 .left, lt-of-lt-of-le (c-loop-test .taken) (c-loop .inv .0))
-
-last-row-requires : tie.Need-last-row-requires Inv-loop μ-loop
-last-row-requires c κs =
-    let c-loop = c .before .before .loop in
-    let c-loop-test = c .before .loop-test in
-    let c-if1 = c .before .before .before .before .before .if1 in
-    (c-if1 .left, lt-of-lt-of-le (c-loop-test .taken) (c-loop .inv .0), lit< tt)
-
-complement-requires : tie.Need-complement-requires Inv-loop μ-loop
-complement-requires c κs = tt
-
-intersection-requires : tie.Need-intersection-requires Inv-loop μ-loop
-intersection-requires c κs = tt
-
-union-requires : tie.Need-union-requires Inv-loop μ-loop
-union-requires c κs = tt
-
-add-a : tie.Need-add-a Inv-loop μ-loop
-add-a c =
-    let c-loop = c .before .before .before .before .before .before .loop in
-    let c-loop-test = c .before .before .before .before .before .loop-test in
-    next-place-fits (c-loop .a) (lt-of-lt-of-le (c-loop-test .taken) (c-loop .inv .0))
-
-loop-less : tie.Need-loop-less Inv-loop μ-loop
-loop-less c =
-    let c-rule-count = c .before .before .before .before .before .before .before .before .rule-count in
-    let c-loop = c .before .before .before .before .before .before .loop in
-    let c-loop-test = c .before .before .before .before .before .loop-test in
-    less-left (c-rule-count .result) (c-loop .a) (c-loop .a) (le-refl (c-loop .a)) (c-loop-test .taken)
-
-loop-again : tie.Need-loop-again Inv-loop μ-loop
-loop-again c =
-    let c-loop = c .before .before .before .before .before .before .loop in
-    let c-rule-count = c .before .before .before .before .before .before .before .before .rule-count in
-    let c-loop-test = c .before .before .before .before .before .loop-test in
-    let c-inner-lasts = c .before .before .before .before .inner-lasts in
-    let c-last-row = c .before .before .before .last-row in
-    let c-complement = c .before .before .complement in
-    let c-intersection = c .before .intersection in
-    let c-union = c .union in
-    let c-start = c .before .before .before .before .before .before .before .before .before .before .before in
-    let w = automaton (now (c-start .args .words)) in
-    let only =
-    c-intersection .ensures ∙ ap (intersectionOf (c-inner-lasts .result)) (c-complement .ensures)
-    ∙ late-set w (c-loop .a) (c-inner-lasts .result) (c-last-row .result) (c-inner-lasts .ensures) (c-last-row .ensures) in
-    (c-loop .inv .0, up (c-loop .a) (c-rule-count .result) (c-loop-test .taken), c-union .ensures ∙ ap₂ unionOf (c-loop .inv .2) only ∙ joined-more (lateIn w) (c-loop .a))
-
-returns-2 : tie.Need-returns-2 Inv-loop μ-loop
+returns-2 : tie.Need-returns-2
 returns-2 c =
-    let c-start = c .before .before .before .before .before .before in
-    let c-loop = c .before .loop in
-    let c-rule-count = c .before .before .before .rule-count in
-    let c-loop-test = c .loop-test in
-    let c-if1 = c .before .before .before .before .if1 in
-    let t = now (c-start .args .words) in
-    c-loop .inv .2 ∙ ap (joinedBelow (lateIn (automaton t))) (reached (c-loop .a) (c-rule-count .result) (c-loop .inv .1) (c-loop-test .left) ∙ c-rule-count .ensures) ∙ lates-all t
-    ∙ sym (set-on t (latesOf (automaton t)) (c-if1 .left))
+    let t = now (c .before .before .before .args .words) in
+    c .late-row .ensures ∙ sym (set-on t (latesOf (automaton t)) (c .before .if1 .left))
 
 pub lates-spec : {M : Type 1} → statement M
-lates-spec =
-    tie.close
-    (tie.spec
-    Inv-loop
-    μ-loop
-    empty-requires
-    returns
-    rule-count-requires
-    empty-requires-2
-    loop-holds
-    inner-lasts-requires
-    last-row-requires
-    complement-requires
-    intersection-requires
-    union-requires
-    add-a
-    loop-less
-    loop-again
-    returns-2)
+lates-spec = tie.close (tie.spec empty-requires returns late-row-requires returns-2)

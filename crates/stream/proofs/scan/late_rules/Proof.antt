@@ -4,7 +4,7 @@ use denote.Ref.{now}
 use Rattle.table.specs.Gaps.{between, unsettled}
 use Rattle.table.specs.Automaton.{automaton}
 use Rattle.table.proofs.Test.{passes}
-use Rattle.steps.specs.Step.{endsNewly, rulesWhere}
+use Rattle.steps.specs.Step.{endsNewly, lateIn, rulesWhere}
 use Rattle.steps.proofs.TableSets.{number-on}
 use Rattle.stream.proofs.Quiet.{late-none}
 use Rattle.stream.proofs.scan.late_rules.Statement.{statement}
@@ -22,7 +22,7 @@ returns c =
     let c-late-ending = c .late-ending in
     let a = c-start .args in
     let t = now (a .words) in
-    c-late-ending .ensures ∙ number-on t (rulesWhere (automaton t) (endsNewly (automaton t) (between (a .before) (a .after)) (a .live) unsettled (a .live))) (passes t (c-start .pre .0) .long)
+    c-late-ending .ensures ∙ number-on t (rulesWhere (automaton t) (endsNewly (automaton t) (between (a .before) (a .after)) (lateIn (automaton t) (a .live)) unsettled (a .live))) (passes t (c-start .pre .0) .long)
 
 returns-2 : tie.Need-returns-2
 returns-2 c =

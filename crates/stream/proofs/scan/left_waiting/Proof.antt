@@ -29,36 +29,36 @@ shared-slice-read-positions c =
 side-of-requires : tie.Need-side-of-requires
 side-of-requires c κs = tt
 
-step-requires : tie.Need-step-requires
-step-requires c κs = tt
+line-step-requires : tie.Need-line-step-requires
+line-step-requires c κs = tt
 
 returns-2 : tie.Need-returns-2
 returns-2 c =
-    let c-start = c .before .before .before .before .before .before .before in
-    let c-if1 = c .before .before .before .before .before .if1 in
-    let c-side-of = c .before .before .before .side-of in
-    let c-step = c .before .before .step in
+    let c-start = c .before .before .before .before .before .before in
+    let c-if1 = c .before .before .before .before .if1 in
+    let c-side-of = c .before .before .side-of in
+    let c-step = c .before .line-step in
     let c-if2 = c .if2 in
     let a = c-start .args in
     let t = now (a .words) in
     let s = stateOf (a .live) 0 (a .before) (a .taken) in
-    (line-held t (c-start .pre) s (a .byte) (c-if1 .left) (c-side-of .result) (c-side-of .ensures) (c-step .result .live) (c-step .ensures .0), start-pending t (c-start .pre) s (a .byte) (c-if1 .left) (c-if2 .taken))
+    (line-held t (c-start .pre) s (a .byte) (c-if1 .left) (c-side-of .result) (c-side-of .ensures) (c-step .result) (c-step .ensures), start-pending t (c-start .pre) s (a .byte) (c-if1 .left) (c-if2 .taken))
 
 line-ending-requires : tie.Need-line-ending-requires
 line-ending-requires c κs = tt
 
 returns-3 : tie.Need-returns-3
 returns-3 c =
-    let c-start = c .before .before .before .before .before .before .before .before in
-    let c-if1 = c .before .before .before .before .before .before .if1 in
-    let c-side-of = c .before .before .before .before .side-of in
-    let c-step = c .before .before .before .step in
+    let c-start = c .before .before .before .before .before .before .before in
+    let c-if1 = c .before .before .before .before .before .if1 in
+    let c-side-of = c .before .before .before .side-of in
+    let c-step = c .before .before .line-step in
     let c-if2 = c .before .if2 in
     let c-line-ending = c .line-ending in
     let a = c-start .args in
     let t = now (a .words) in
     let s = stateOf (a .live) 0 (a .before) (a .taken) in
-    (line-held t (c-start .pre) s (a .byte) (c-if1 .left) (c-side-of .result) (c-side-of .ensures) (c-step .result .live) (c-step .ensures .0), line-pending t (c-start .pre) s (a .byte) (c-if1 .left) (c-if2 .left) (c-line-ending .result) (c-line-ending .ensures))
+    (line-held t (c-start .pre) s (a .byte) (c-if1 .left) (c-side-of .result) (c-side-of .ensures) (c-step .result) (c-step .ensures), line-pending t (c-start .pre) s (a .byte) (c-if1 .left) (c-if2 .left) (c-line-ending .result) (c-line-ending .ensures))
 
 pub left-waiting-spec : {M : Type 1} → statement M
 left-waiting-spec =
@@ -68,7 +68,7 @@ left-waiting-spec =
     returns
     shared-slice-read-positions
     side-of-requires
-    step-requires
+    line-step-requires
     returns-2
     line-ending-requires
     returns-3)

@@ -1,6 +1,6 @@
 -- `stream::scan::run` meets its contract: each turn passes over the bytes that change nothing and takes one more (`Running`), or leaves the loop where its
 -- reports do not fit.
-use mathlib.Core.Path.{_≡_, sym, ap, ap₂, _∙_, subst}
+use mathlib.Core.Path.{_≡_, sym, ap₂, _∙_, subst}
 use mathlib.Core.Logic.{inr}
 use mathlib.Core.Bool.{Bool, false}
 use mathlib.Core.List.{List}
@@ -9,17 +9,17 @@ use native.Mathlib.Nat.{le-refl}
 use native.Mathlib.Omega.{arith}
 use denote.Ref.{now}
 use lib.ListN.{length, getD}
-use Rattle.sets.specs.Set.{on, keptBelow, sizeOf}
+use Rattle.sets.specs.Set.{on, sizeOf}
 use Rattle.kinds.specs.declared.Side.{Side}
 use Rattle.kinds.specs.Side.{sideOf}
 use Rattle.table.specs.Layout.{tableWords, positionsOf}
 use Rattle.table.specs.Gaps.{between, unsettled}
 use Rattle.table.specs.Automaton.{automaton, single}
 use Rattle.table.proofs.Test.{passes}
-use Rattle.steps.specs.Step.{setOn, stepped, ends, endsNewly, lastsOf, latesOf, firstsOf, rulesWhere}
+use Rattle.steps.specs.Step.{setOn, stepped, ends, endsNewly, lastsOf, latesOf, lateIn, rulesWhere}
 use Rattle.steps.proofs.Bounds.{less-left}
 use Rattle.steps.proofs.TableSets.{set-on, number-on}
-use Rattle.stream.specs.Invariants.{stateOf, sideAt, inStream}
+use Rattle.stream.specs.Invariants.{stateOf, sideAt}
 use Rattle.stream.proofs.Bounds.{positions-word, short-end, from-end, to-end, before-end, paid-for, all-spent, sum-fits, next-small, after-fits, count-fits, ids-fit, offsets-fit, rules-few}
 use Rattle.stream.proofs.Runs.{rules-alone}
 use Rattle.stream.proofs.Turns.{Running, Before, Paid, running-start, before-start, paid-start, ids-hold, offsets-hold, running-skip, before-passed, paid-skip, running-room, running-run, before-step, paid-byte, unpaid, spent, running-stop, running-done}
@@ -35,33 +35,27 @@ module _ (t live : List ℕ) (old new old′ new′ : Side) (is : old ≡ old′
       e ∙ set-on t (stepped (automaton t) false old new (positionsOf t) live taken x) h
       ∙ ap₂ (λ (y z : Side). stepped (automaton t) false y z (positionsOf t) live taken x) is turns
 
-  lately : (late : ℕ) → late ≡ rulesWhere (automaton t) (endsNewly (automaton t) (between old new) live unsettled live)
-      → late ≡ rulesWhere (automaton t) (endsNewly (automaton t) (between old′ new′) live unsettled live)
-  lately late e = e ∙ ap₂ (λ (y z : Side). rulesWhere (automaton t) (endsNewly (automaton t) (between y z) live unsettled live)) is turns
+  lately : (late : ℕ) → late ≡ rulesWhere (automaton t) (endsNewly (automaton t) (between old new) (lateIn (automaton t) live) unsettled live)
+      → late ≡ rulesWhere (automaton t) (endsNewly (automaton t) (between old′ new′) (lateIn (automaton t) live) unsettled live)
+  lately late e = e ∙ ap₂ (λ (y z : Side). rulesWhere (automaton t) (endsNewly (automaton t) (between y z) (lateIn (automaton t) live) unsettled live)) is turns
 
 -- the rules of a test alone
 alone : (t : List ℕ) (f : ℕ → Bool) (word : ℕ) → word ≡ rulesWhere (automaton t) f → word ≡ rulesWhere (automaton t) (on word)
 alone t f word e = subst (λ (x : ℕ). x ≡ rulesWhere (automaton t) (on x)) (sym e) (rules-alone (automaton t) f)
 
 abbrev Inv-loop : tie.InvT-loop
-Inv-loop live₀ reported₀ side taken words allowance block ids₀ offsets₀ positions first last late single before₀ count₀ at₀ left₀ live reported ids offsets before count at left =
+Inv-loop live₀ reported₀ side taken words allowance block ids₀ offsets₀ positions last late single before₀ count₀ at₀ left₀ live reported ids offsets before count at left =
     Running (automaton words) (stateOf live₀ reported₀ side taken) block ids₀ offsets₀ live reported ids offsets count at × Before (automaton words) (stateOf live₀ reported₀ side taken) block before at
     × Paid (automaton words) (stateOf live₀ reported₀ side taken) allowance block at left
 
 abbrev μ-loop : tie.MeasureT-loop
-μ-loop live₀ reported₀ side taken words allowance block ids₀ offsets₀ positions first last late single before₀ count₀ at₀ left₀ live reported ids offsets before count at left = length block - at
+μ-loop live₀ reported₀ side taken words allowance block ids₀ offsets₀ positions last late single before₀ count₀ at₀ left₀ live reported ids offsets before count at left = length block - at
 
 shared-slice-read-positions : tie.Need-shared-slice-read-positions Inv-loop μ-loop
 shared-slice-read-positions c =
     let c-start = c .before .before .before .before .before in
     let t = now (c-start .args .words) in
     positions-word (length t) (passes t (c-start .pre .0) .long)
-
-openings-requires : tie.Need-openings-requires Inv-loop μ-loop
-openings-requires c κs = tt
-
-below-requires : tie.Need-below-requires Inv-loop μ-loop
-below-requires c κs = tt
 
 lasts-requires : tie.Need-lasts-requires Inv-loop μ-loop
 lasts-requires c κs = tt
@@ -74,7 +68,7 @@ singles-requires c κs = tt
 
 loop-holds : tie.Need-loop-holds Inv-loop μ-loop
 loop-holds c =
-    let c-start = c .before .before .before .before .before .before .before .before .before .before in
+    let c-start = c .before .before .before .before .before .before .before .before in
     let a = c-start .args in
     let w = automaton (now (a .words)) in
     let s = stateOf (a .live) (a .reported) (a .side) (a .taken) in
@@ -82,7 +76,7 @@ loop-holds c =
 
 returns : tie.Need-returns Inv-loop μ-loop
 returns c =
-    let c-start = c .before .before .before .before .before .before .before .before .before .before .before .before .before .before .before in
+    let c-start = c .before .before .before .before .before .before .before .before .before .before .before .before .before in
     let c-loop = c .before .before .before .before .loop in
     let c-ahead = c .before .before .ahead in
     let c-payable = c .before .before .before .payable in
@@ -106,16 +100,11 @@ payable-requires c κs =
     c-loop .inv .0 .inside
 
 ahead-requires : tie.Need-ahead-requires Inv-loop μ-loop
-unfolding automaton inStream
 ahead-requires c κs =
-    let c-start = c .before .before .before .before .before .before .before .before .before .before .before .before in
-    let c-below = c .before .before .before .before .before .below in
-    let c-openings = c .before .before .before .before .before .before .openings in
+    let c-start = c .before .before .before .before .before .before .before .before .before .before in
     let c-loop = c .before .loop in
     let c-payable = c .payable in
-    let t = now (c-start .args .words) in
     let n = length (now (c-start .args .block)) in (
-      c-below .ensures ∙ ap (λ (x : List ℕ). keptBelow x (positionsOf t)) (c-openings .ensures ∙ set-on t (firstsOf (automaton t)) (passes t (c-start .pre .0) .long)),
       from-end (c-loop .at) (c-payable .result) n (c-loop .left) (c-loop .inv .0 .inside) (c-payable .ensures),
       short-end (c-payable .result) n (c-loop .at + c-loop .left) (c-payable .ensures),
       c-start .pre .1,
@@ -134,12 +123,12 @@ sub-left-2 c =
     let c-loop = c .before .before .before .loop in
     let c-ahead = c .before .ahead in
     let c-payable = c .before .before .payable in
-    let c-start = c .before .before .before .before .before .before .before .before .before .before .before .before .before .before in
+    let c-start = c .before .before .before .before .before .before .before .before .before .before .before .before in
     paid-for (c-loop .at) (c-ahead .result) (c-payable .result) (length (now (c-start .args .block))) (c-loop .left) (c-ahead .ensures .inside) (c-payable .ensures)
 
 add-gap : tie.Need-add-gap Inv-loop μ-loop
 add-gap c =
-    let c-start = c .before .before .before .before .before .before .before .before .before .before .before .before .before .before .before in
+    let c-start = c .before .before .before .before .before .before .before .before .before .before .before .before .before in
     let c-ahead = c .before .before .ahead in
     let c-payable = c .before .before .before .payable in
     let c-loop = c .before .before .before .before .loop in
@@ -149,7 +138,7 @@ shared-slice-read-byte : tie.Need-shared-slice-read-byte Inv-loop μ-loop
 shared-slice-read-byte c =
     let c-ahead = c .before .before .before .ahead in
     let c-payable = c .before .before .before .before .payable in
-    let c-start = c .before .before .before .before .before .before .before .before .before .before .before .before .before .before .before .before in
+    let c-start = c .before .before .before .before .before .before .before .before .before .before .before .before .before .before in
     let c-loop = c .before .before .before .before .before .loop in
     let c-if1 = c .before .if1 in
     before-end (c-ahead .result) (c-payable .result) (length (now (c-start .args .block))) (c-loop .at + c-loop .left) (c-ahead .ensures .inside) (c-if1 .left) (c-payable .ensures)
@@ -158,7 +147,7 @@ side-at-requires : tie.Need-side-at-requires Inv-loop μ-loop
 side-at-requires c κs =
     let c-ahead = c .before .before .before .ahead in
     let c-payable = c .before .before .before .before .payable in
-    let c-start = c .before .before .before .before .before .before .before .before .before .before .before .before .before .before .before .before in
+    let c-start = c .before .before .before .before .before .before .before .before .before .before .before .before .before .before in
     let c-loop = c .before .before .before .before .before .loop in
     to-end (c-ahead .result) (c-payable .result) (length (now (c-start .args .block))) (c-loop .at + c-loop .left) (c-ahead .ensures .inside) (c-payable .ensures)
 
@@ -180,14 +169,14 @@ add-cost c =
 
 late-rules-requires : tie.Need-late-rules-requires Inv-loop μ-loop
 late-rules-requires c κs =
-    let c-start = c .before .before .before .before .before .before .before .before .before .before .before .before .before .before .before .before .before .before .before .before .before .before in
+    let c-start = c .before .before .before .before .before .before .before .before .before .before .before .before .before .before .before .before .before .before .before .before in
     let c-lates = c .before .before .before .before .before .before .before .before .before .before .before .before .before .lates in
     let t = now (c-start .args .words) in
     (c-start .pre .0, c-lates .ensures ∙ set-on t (latesOf (automaton t)) (passes t (c-start .pre .0) .long))
 
 own-rules-requires : tie.Need-own-rules-requires Inv-loop μ-loop
 own-rules-requires c κs =
-    let c-start = c .before .before .before .before .before .before .before .before .before .before .before .before .before .before .before .before .before .before .before .before .before .before .before in
+    let c-start = c .before .before .before .before .before .before .before .before .before .before .before .before .before .before .before .before .before .before .before .before .before in
     let c-lasts = c .before .before .before .before .before .before .before .before .before .before .before .before .before .before .before .lasts in
     let t = now (c-start .args .words) in
     (c-start .pre .0, c-lasts .ensures ∙ set-on t (lastsOf (automaton t)) (passes t (c-start .pre .0) .long))
@@ -195,12 +184,12 @@ own-rules-requires c κs =
 mul-deliver : tie.Need-mul-deliver Inv-loop μ-loop
 mul-deliver c =
     let c-loop = c .before .before .before .before .before .before .before .before .before .before .before .before .before .loop in
-    let c-start = c .before .before .before .before .before .before .before .before .before .before .before .before .before .before .before .before .before .before .before .before .before .before .before .before in
+    let c-start = c .before .before .before .before .before .before .before .before .before .before .before .before .before .before .before .before .before .before .before .before .before .before in
     ids-fit (c-loop .count) (length (now (c-start .args .ids))) (length (now (c-start .args .offsets))) (c-loop .inv .0 .room) (c-start .good .1 .1 .1 .1 .1 .1 .1 .0 .1)
 
 sub-deliver : tie.Need-sub-deliver Inv-loop μ-loop
 sub-deliver c =
-    let c-start = c .before .before .before .before .before .before .before .before .before .before .before .before .before .before .before .before .before .before .before .before .before .before .before .before in
+    let c-start = c .before .before .before .before .before .before .before .before .before .before .before .before .before .before .before .before .before .before .before .before .before .before in
     let c-loop = c .before .before .before .before .before .before .before .before .before .before .before .before .before .loop in
     let a = c-start .args in
     let l = c-loop in
@@ -210,7 +199,7 @@ sub-deliver c =
 
 part-deliver-start : tie.Need-part-deliver-start Inv-loop μ-loop
 part-deliver-start c =
-    let c-start = c .before .before .before .before .before .before .before .before .before .before .before .before .before .before .before .before .before .before .before .before .before .before .before .before in
+    let c-start = c .before .before .before .before .before .before .before .before .before .before .before .before .before .before .before .before .before .before .before .before .before .before in
     let c-loop = c .before .before .before .before .before .before .before .before .before .before .before .before .before .loop in
     let a = c-start .args in
     let l = c-loop in
@@ -226,12 +215,12 @@ part-deliver-end c =
 mul-deliver-2 : tie.Need-mul-deliver-2 Inv-loop μ-loop
 mul-deliver-2 c =
     let c-loop = c .before .before .before .before .before .before .before .before .before .before .before .before .before .before .loop in
-    let c-start = c .before .before .before .before .before .before .before .before .before .before .before .before .before .before .before .before .before .before .before .before .before .before .before .before .before in
+    let c-start = c .before .before .before .before .before .before .before .before .before .before .before .before .before .before .before .before .before .before .before .before .before .before .before in
     offsets-fit (c-loop .count) (length (now (c-start .args .ids))) (length (now (c-start .args .offsets))) (c-loop .inv .0 .room) (c-start .good .1 .1 .1 .1 .1 .1 .1 .1 .0 .1)
 
 sub-deliver-2 : tie.Need-sub-deliver-2 Inv-loop μ-loop
 sub-deliver-2 c =
-    let c-start = c .before .before .before .before .before .before .before .before .before .before .before .before .before .before .before .before .before .before .before .before .before .before .before .before .before in
+    let c-start = c .before .before .before .before .before .before .before .before .before .before .before .before .before .before .before .before .before .before .before .before .before .before .before in
     let c-loop = c .before .before .before .before .before .before .before .before .before .before .before .before .before .before .loop in
     let a = c-start .args in
     let l = c-loop in
@@ -241,7 +230,7 @@ sub-deliver-2 c =
 
 part-deliver-start-2 : tie.Need-part-deliver-start-2 Inv-loop μ-loop
 part-deliver-start-2 c =
-    let c-start = c .before .before .before .before .before .before .before .before .before .before .before .before .before .before .before .before .before .before .before .before .before .before .before .before .before in
+    let c-start = c .before .before .before .before .before .before .before .before .before .before .before .before .before .before .before .before .before .before .before .before .before .before .before in
     let c-loop = c .before .before .before .before .before .before .before .before .before .before .before .before .before .before .loop in
     let a = c-start .args in
     let l = c-loop in
@@ -256,7 +245,7 @@ part-deliver-end-2 c =
 
 deliver-requires : tie.Need-deliver-requires Inv-loop μ-loop
 deliver-requires c κs =
-    let c-start = c .before .before .before .before .before .before .before .before .before .before .before .before .before .before .before .before .before .before .before .before .before .before .before .before .before .before in
+    let c-start = c .before .before .before .before .before .before .before .before .before .before .before .before .before .before .before .before .before .before .before .before .before .before .before .before in
     let c-ahead = c .before .before .before .before .before .before .before .before .before .before .before .before .before .ahead in
     let c-payable = c .before .before .before .before .before .before .before .before .before .before .before .before .before .before .payable in
     let c-loop = c .before .before .before .before .before .before .before .before .before .before .before .before .before .before .before .loop in
@@ -274,14 +263,14 @@ deliver-requires c κs =
     let inside = before-end (c-ahead .result) (c-payable .result) n (c-loop .at + c-loop .left) (c-ahead .ensures .inside) (c-if1 .left) (c-payable .ensures) in (
       c-start .pre .0,
       c-singles .ensures ∙ number-on t (rulesWhere w (single w)) (passes t (c-start .pre .0) .long),
-      alone t (endsNewly w (between (c-side-at .result) (c-side-of .result)) (c-loop .live) unsettled (c-loop .live)) (c-late-rules .result) (c-late-rules .ensures),
+      alone t (endsNewly w (between (c-side-at .result) (c-side-of .result)) (lateIn w (c-loop .live)) unsettled (c-loop .live)) (c-late-rules .result) (c-late-rules .ensures),
       alone t (ends w unsettled (c-step .result .live)) (c-own-rules .result) (c-own-rules .ensures),
       next-small (a .taken) (c-ahead .result) n (c-start .pre .1) inside,
     )
 
 add-count : tie.Need-add-count Inv-loop μ-loop
 add-count c =
-    let c-start = c .before .before .before .before .before .before .before .before .before .before .before .before .before .before .before .before .before .before .before .before .before .before .before .before .before .before .before .before .before .before .before .before .before in
+    let c-start = c .before .before .before .before .before .before .before .before .before .before .before .before .before .before .before .before .before .before .before .before .before .before .before .before .before .before .before .before .before .before .before in
     let c-loop = c .before .before .before .before .before .before .before .before .before .before .before .before .before .before .before .before .before .before .before .before .before .before .loop in
     let c-ahead = c .before .before .before .before .before .before .before .before .before .before .before .before .before .before .before .before .before .before .before .before .ahead in
     let c-deliver = c .before .before .before .before .before .before .deliver in
@@ -309,7 +298,7 @@ add-count c =
 
 add-at : tie.Need-add-at Inv-loop μ-loop
 add-at c =
-    let c-start = c .before .before .before .before .before .before .before .before .before .before .before .before .before .before .before .before .before .before .before .before .before .before .before .before .before .before .before .before .before .before .before .before .before in
+    let c-start = c .before .before .before .before .before .before .before .before .before .before .before .before .before .before .before .before .before .before .before .before .before .before .before .before .before .before .before .before .before .before .before in
     let c-ahead = c .before .before .before .before .before .before .before .before .before .before .before .before .before .before .before .before .before .before .before .before .ahead in
     let c-payable = c .before .before .before .before .before .before .before .before .before .before .before .before .before .before .before .before .before .before .before .before .before .payable in
     let c-loop = c .before .before .before .before .before .before .before .before .before .before .before .before .before .before .before .before .before .before .before .before .before .before .loop in
@@ -319,7 +308,7 @@ add-at c =
 
 loop-less : tie.Need-loop-less Inv-loop μ-loop
 loop-less c =
-    let c-start = c .before .before .before .before .before .before .before .before .before .before .before .before .before .before .before .before .before .before .before .before .before .before .before .before .before .before .before .before .before .before .before .before .before in
+    let c-start = c .before .before .before .before .before .before .before .before .before .before .before .before .before .before .before .before .before .before .before .before .before .before .before .before .before .before .before .before .before .before .before in
     let c-loop = c .before .before .before .before .before .before .before .before .before .before .before .before .before .before .before .before .before .before .before .before .before .before .loop in
     let c-ahead = c .before .before .before .before .before .before .before .before .before .before .before .before .before .before .before .before .before .before .before .before .ahead in
     let c-payable = c .before .before .before .before .before .before .before .before .before .before .before .before .before .before .before .before .before .before .before .before .before .payable in
@@ -329,7 +318,7 @@ loop-less c =
 
 loop-again : tie.Need-loop-again Inv-loop μ-loop
 loop-again c =
-    let c-start = c .before .before .before .before .before .before .before .before .before .before .before .before .before .before .before .before .before .before .before .before .before .before .before .before .before .before .before .before .before .before .before .before .before in
+    let c-start = c .before .before .before .before .before .before .before .before .before .before .before .before .before .before .before .before .before .before .before .before .before .before .before .before .before .before .before .before .before .before .before in
     let c-loop = c .before .before .before .before .before .before .before .before .before .before .before .before .before .before .before .before .before .before .before .before .before .before .loop in
     let c-ahead = c .before .before .before .before .before .before .before .before .before .before .before .before .before .before .before .before .before .before .before .before .ahead in
     let c-deliver = c .before .before .before .before .before .before .deliver in
@@ -387,7 +376,7 @@ same-length-4 c =
 
 returns-2 : tie.Need-returns-2 Inv-loop μ-loop
 returns-2 c =
-    let c-start = c .before .before .before .before .before .before .before .before .before .before .before .before .before .before .before .before .before .before .before .before .before .before in
+    let c-start = c .before .before .before .before .before .before .before .before .before .before .before .before .before .before .before .before .before .before .before .before in
     let c-loop = c .before .before .before .before .before .before .before .before .before .before .before .loop in
     let c-ahead = c .before .before .before .before .before .before .before .before .before .ahead in
     let c-payable = c .before .before .before .before .before .before .before .before .before .before .payable in
@@ -421,7 +410,7 @@ same-length-6 c =
 
 returns-3 : tie.Need-returns-3 Inv-loop μ-loop
 returns-3 c =
-    let c-start = c .before .before .before .before .before .before .before .before .before .before .before .before .before .before .before .before .before .before .before .before .before .before .before .before .before .before .before .before .before .before .before .before in
+    let c-start = c .before .before .before .before .before .before .before .before .before .before .before .before .before .before .before .before .before .before .before .before .before .before .before .before .before .before .before .before .before .before in
     let c-loop = c .before .before .before .before .before .before .before .before .before .before .before .before .before .before .before .before .before .before .before .before .before .loop in
     let c-ahead = c .before .before .before .before .before .before .before .before .before .before .before .before .before .before .before .before .before .before .before .ahead in
     let c-deliver = c .before .before .before .before .before .deliver in
@@ -460,8 +449,6 @@ run-spec =
     Inv-loop
     μ-loop
     shared-slice-read-positions
-    openings-requires
-    below-requires
     lasts-requires
     lates-requires
     singles-requires
