@@ -24,7 +24,7 @@ use Rattle.nodes.specs.Nodes.{Syntax}
 use Rattle.automaton.specs.Parts.{fourWords, flat, rowsOf, padded, worldOf, formParts, noParts, partsOf}
 use Rattle.automaton.specs.declared.Parts.{Parts}
 use Rattle.automaton.specs.declared.fragments.Fragment.{Fragment}
-use Rattle.automaton.specs.Invariants.{Written, fragmentOf, hasAt, Built}
+use Rattle.automaton.specs.Invariants.{Written, fragmentOf, hasAt, Built, Fresh}
 use Rattle.automaton.proofs.Words.{four-at, four-ext}
 use Rattle.automaton.proofs.Steps.{length-flat}
 
@@ -112,6 +112,9 @@ has-zeros p q h i =
     zero-word (fourWords (drop (p * 4) (zeros 1024))) q
     (four-at (drop (p * 4) (zeros 1024)) (q / 64) (omega arith) ∙ getD-drop (p * 4) (zeros 1024) (q / 64) 0
     ∙ getD-replicate 1024 (p * 4 + q / 64) 0 0 (omega arith))
+
+pub fresh-zeros : (b : ℕ) → Fresh (zeros 1024) (zeros 1024) b
+fresh-zeros b = record { full = length-zeros 1024; wide = length-zeros 1024; clear = λ p q h i l. has-zeros p q h i }
 
 -- ---- the byte sets
 

@@ -1,7 +1,7 @@
 -- Rows of four words: what a row holds after a row was written, and what the loop that joins two sets adds. A row is read word by word, so each law is
 -- one about a word at an index.
 use mathlib.Core.Path.{_≡_, refl, sym, ap, ap₂, _∙_}
-use mathlib.Core.Bool.{Bool, true, false, true≢false, _&&_, _||_, or-false}
+use mathlib.Core.Bool.{Bool, true, false, true≢false, _&&_, _||_, and-false, or-false}
 use mathlib.Core.Logic.{_⊎_, inl, inr}
 use mathlib.Core.List.{List, [], _∷_, _++_}
 use Prim.Native.Nat.{ℕ, zero, suc, _+_, _*_, _/_, _%_, _≤_, _<_}
@@ -12,8 +12,8 @@ use borrow.Author.Tests.{eqb-true, eq-eqb, ne-eqb, lt-ltb, le-ltb}
 use lib.Dec.{eqb, ltb}
 use lib.ListN.{length, getD, drop, set, length-set}
 use lib.Seq.{sets, length-sets, getD-set-same, getD-set-other, getD-drop}
-use Rattle.sets.specs.Set.{on, has, unionOf}
-use Rattle.sets.proofs.Laws.{getD-fourOf, has-union}
+use Rattle.sets.specs.Set.{on, has, unionOf, isEmpty}
+use Rattle.sets.proofs.Laws.{getD-fourOf, has-union, empty-none}
 use Rattle.automaton.specs.Parts.{fourWords}
 use Rattle.automaton.specs.Invariants.{hasAt, addedTo, Joined}
 
@@ -45,7 +45,7 @@ four-to r n a b c d =
 
 -- ---- a run of stores, read again
 
-getD-sets-out : (vs l : List ℕ) (i k : ℕ) → (k < i) ⊎ (i + length vs ≤ k) → getD (sets l i vs) k 0 ≡ getD l k 0
+pub getD-sets-out : (vs l : List ℕ) (i k : ℕ) → (k < i) ⊎ (i + length vs ≤ k) → getD (sets l i vs) k 0 ≡ getD l k 0
 getD-sets-out [] l i k h = refl
 getD-sets-out (v ∷ vs) l i k (inl h) =
     getD-sets-out vs (set l i v) (suc i) k (inl (omega arith)) ∙ getD-set-other l i k v 0 (λ e. omega arith)
@@ -89,7 +89,7 @@ module _ (r : List ℕ) (long : length r ≡ 1024) (p : ℕ) (low : p < 256) (s 
       apart i h (no l) = inr (omega arith)
 
 -- adding s to row p
-has-added : (r : List ℕ) → length r ≡ 1024 → (p : ℕ) → p < 256 → (s : List ℕ) (o q : ℕ) → q < 256 → hasAt (addedTo r p s) o q ≡ (hasAt r o q || (eqb o p && has s q))
+pub has-added : (r : List ℕ) → length r ≡ 1024 → (p : ℕ) → p < 256 → (s : List ℕ) (o q : ℕ) → q < 256 → hasAt (addedTo r p s) o q ≡ (hasAt r o q || (eqb o p && has s q))
 unfolding hasAt addedTo
 has-added r long p low s o q h = go (ℕ-discrete o p)
   where
@@ -116,6 +116,22 @@ joined-none l s r = record {
   member = λ full p q h i.
       sym (or-false (hasAt r p q)) ∙ ap (λ (b : Bool). hasAt r p q || (b && (has l p && has s q))) (sym (le-ltb p 0 (omega arith)));
 }
+
+-- an empty set joins nothing
+pub joined-nothing : (l s r : List ℕ) → (isEmpty l || isEmpty s) ≡ true → Joined l s 256 r r
+joined-nothing l s r e = record {
+  long = refl;
+  member = λ full p q h i. sym (ap (λ (b : Bool). hasAt r p q || b) (none p q h i) ∙ or-false (hasAt r p q));
+}
+  where
+    none : (p q : ℕ) → p < 256 → q < 256 → (ltb p 256 && (has l p && has s q)) ≡ false
+    none p q h i = go (isEmpty l) refl
+      where
+        go : (b : Bool) → isEmpty l ≡ b → (ltb p 256 && (has l p && has s q)) ≡ false
+        go true f = rw (empty-none l f p h) (and-false (ltb p 256))
+        go false f =
+            let g : isEmpty s ≡ true = ap (λ (b : Bool). b || isEmpty s) (sym f) ∙ e in
+            rw (empty-none s g q i, and-false (has l p)) (and-false (ltb p 256))
 
 -- what is below n + 1 is below n, or n
 below-next : (n p : ℕ) → ltb p (n + 1) ≡ (ltb p n || eqb p n)

@@ -2,9 +2,9 @@
 use mathlib.Core.Path.{_≡_}
 use mathlib.Core.Bool.{Bool, true, false, cond, _&&_, _||_}
 use mathlib.Core.List.{List}
-use Prim.Native.Nat.{ℕ, _+_, _*_, _≤_, _<_}
-use lib.Dec.{ltb}
-use lib.ListN.{length, drop}
+use Prim.Native.Nat.{ℕ, _+_, _-_, _*_, _≤_, _<_}
+use lib.Dec.{leb, ltb}
+use lib.ListN.{length, take, drop}
 use lib.Seq.{sets}
 use Rattle.sets.specs.Set.{has, setOf, emptySet, unionOf, inserted}
 use Rattle.regex.specs.Tree.{Extra, atMost, unbounded}
@@ -104,3 +104,52 @@ pub record Built (world : ℕ) (f : Written) (b : ℕ) (r r' t t' : List ℕ) (g
   pub long : length r' ≡ length r
   pub follows : length r ≡ 1024 → (p q : ℕ) → p < 256 → q < 256 → hasAt r' p q ≡ (hasAt r p q || follow (worldOf world) f b p q)
   pub takes : t' ≡ sets t (b * 4) (flat (items f))
+
+-- ---- copies
+
+-- q is one of the n numbers from c on
+abbrev pub among : (c n q : ℕ) → Bool
+among c n q = leb c q && ltb q (c + n)
+
+-- those of the first i numbers from c on that are in s, each n further on
+unfoldable pub movedOn : (c n i : ℕ) → List ℕ → List ℕ
+movedOn c n i s = setOf (λ q. among (c + n) i q && has s (q - n))
+
+-- the fragment x, numbered from c on, right behind itself
+unfoldable pub movedPart : ℕ → Fragment → Fragment
+movedPart c x = record {
+  size = x .size;
+  null = x .null;
+  first = movedOn c (x .size) (x .size) (x .first);
+  last = movedOn c (x .size) (x .size) (x .last);
+}
+
+-- the rows r, where the first i rows from c on stand again n further on, their members moved likewise
+pub record Copied (c n i : ℕ) (r r' : List ℕ) : Type 0 where
+  pub long : length r' ≡ length r
+  pub member : length r ≡ 1024 → (p q : ℕ) → p < 256 → q < 256
+      → hasAt r' p q ≡ (hasAt r p q || (among (c + n) i p && (among (c + n) n q && hasAt r (p - n) (q - n))))
+
+-- the part x that stands from c on, once more right behind itself: y
+pub record Again (c : ℕ) (x : Fragment) (r r' t t' : List ℕ) (y : Fragment) : Type 0 where
+  pub fragment : y ≡ movedPart c x
+  pub follows : Copied c (x .size) (x .size) r r'
+  pub takes : t' ≡ sets t ((c + x .size) * 4) (take (x .size * 4) (drop (c * 4) t))
+
+-- there are 256 rows of each kind, and those of r from b on are empty
+pub record Fresh (r t : List ℕ) (b : ℕ) : Type 0 where
+  pub full : length r ≡ 1024
+  pub wide : length t ≡ 1024
+  pub clear : (p q : ℕ) → p < 256 → q < 256 → b ≤ p → hasAt r p q ≡ false
+
+-- the form f is built from c on, as x, and the rows of r from there on have nothing else
+pub record Stands (world : ℕ) (f : Written) (c : ℕ) (r t : List ℕ) (x : Fragment) : Type 0 where
+  pub full : length r ≡ 1024
+  pub wide : length t ≡ 1024
+  pub fragment : x ≡ fragmentOf world f c
+  pub follows : (p q : ℕ) → p < 256 → q < 256 → c ≤ p → hasAt r p q ≡ follow (worldOf world) f c p q
+  pub takes : take (positions f * 4) (drop (c * 4) t) ≡ flat (items f)
+
+-- where the form f is built from b on, as x, all of w is built now
+unfoldable pub Extends : (world : ℕ) (f w : Written) (b : ℕ) (r r' t t' : List ℕ) (x y : Fragment) → Type 0
+Extends world f w b r r' t t' x y = (o u : List ℕ) → Built world f b o r u t x → Built world w b o r' u t' y

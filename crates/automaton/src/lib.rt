@@ -1,8 +1,12 @@
-// The builder: from the reader's numbered nodes to the position automaton of the written-out form: first, last and follow sets, and the byte set of each
-// position, by recursion over the nodes, the node number falling.
+// The builder: from the reader's numbered nodes to the position automaton of the written-out form:
+// first, last and follow sets, and the byte set of each position, by recursion over the nodes, the node
+// number falling. Each node is walked once: the copies of a repeat are made from its first one.
+mod copies;
 mod forms;
 mod fragments;
 mod items;
+mod joins;
+mod repeats;
 mod rows;
 
 ghost use mathlib.Core.Path.{_≡_};

@@ -18,13 +18,21 @@ pub(super) fn put(rows: &mut [u64; 1024], p: usize, s: [u64; 4])
     rows[at + 3] = s[3];
 }
 
+// Row p.
+pub(super) fn row(rows: &[u64; 1024], p: usize) -> [u64; 4]
+    requires { ⌜ p < 256 ⌝ }
+    ensures { λ r. ⌜ r ≡ fourWords (drop (p * 4) (now (rows .entry))) ⌝ }
+{
+    let at = p * 4;
+    [rows[at], rows[at + 1], rows[at + 2], rows[at + 3]]
+}
+
 // Adds s to row p.
-fn add(rows: &mut [u64; 1024], p: usize, s: [u64; 4])
+pub(super) fn add(rows: &mut [u64; 1024], p: usize, s: [u64; 4])
     requires { ⌜ p < 256 ⌝ }
     ensures { λ _. ⌜ now (rows .exit) ≡ addedTo (now (rows .entry)) p s ⌝ }
 {
-    let at = p * 4;
-    let old = [rows[at], rows[at + 1], rows[at + 2], rows[at + 3]];
+    let old = row(rows, p);
     put(rows, p, sets::union(old, s));
 }
 
@@ -32,6 +40,9 @@ fn add(rows: &mut [u64; 1024], p: usize, s: [u64; 4])
 pub(super) fn join(rows: &mut [u64; 1024], last: [u64; 4], first: [u64; 4])
     ensures { λ _. ⌜ Joined last first 256 (now (rows .entry)) (now (rows .exit)) ⌝ }
 {
+    if sets::is_empty(last) | sets::is_empty(first) {
+        return;
+    }
     let mut p: usize = 0;
     while p < 256 {
         if sets::contains(last, p as u8) {

@@ -1,4 +1,4 @@
--- The two figures of a node's tree by its children. Assumes nothing.
+-- The figures of a node's tree by its children. Assumes nothing.
 use mathlib.Core.Path.{_≡_, refl, sym, ap, _∙_}
 use mathlib.Core.Bool.{Bool, true, false, _&&_, _||_}
 use mathlib.Core.List.{List}
@@ -12,7 +12,7 @@ use Rattle.atoms.specs.Number.{cap}
 use Rattle.regex.specs.Tree.{Extra, repeat}
 use Rattle.regex.specs.Count.{copied, capped, saturating, nullable}
 use Rattle.regex.proofs.Counted.{saturated}
-use Rattle.nodes.specs.Nodes.{Syntax, opOf, xOf, yOf, zOf, extraOf, nodeOf, treeAt}
+use Rattle.nodes.specs.Nodes.{Syntax, opOf, xOf, yOf, zOf, extraOf, nodeOf, treeAt, asserts}
 use Rattle.nodes.specs.Invariants.{childAt}
 use Rattle.nodes.proofs.Base.{either, split}
 use Rattle.nodes.proofs.Trees.{tree-node, child-in, child-out}
@@ -35,6 +35,13 @@ nullable-inside a k x r h e = e ∙ ap nullable (sym (child-in a k x h))
 pub nullable-outside : (a : List ℕ) (k x : ℕ) → k ≤ x → true ≡ nullable (childAt a k x)
 unfolding nullable
 nullable-outside a k x h = sym (ap nullable (child-out a k x h))
+
+pub asserts-inside : (a : List ℕ) (k x : ℕ) (r : Bool) → x < k → r ≡ asserts (treeAt a x) → r ≡ asserts (childAt a k x)
+asserts-inside a k x r h e = e ∙ ap asserts (sym (child-in a k x h))
+
+pub asserts-outside : (a : List ℕ) (k x : ℕ) → k ≤ x → false ≡ asserts (childAt a k x)
+unfolding asserts
+asserts-outside a k x h = sym (ap asserts (child-out a k x h))
 
 nullable-repeat : (t : Syntax) (n : ℕ) (j : Extra) → (n ≡ 0 → ⊥) → nullable t ≡ nullable (repeat t n j)
 unfolding nullable
@@ -90,3 +97,20 @@ module _ (a : List ℕ) (k w : ℕ) (ew : w ≡ getD a k 0) where
     unfolding nullable nodeOf
     nullable-left =
         rw (tree-node a k, ← ew, ne-eqb _ 1 h1, ne-eqb _ 3 h3, ne-eqb _ 4 h4, ne-eqb _ 5 h5) (split (eqb (opOf w) 2) (λ e. rw e) (λ e. rw e))
+
+  pub asserts-assertion : opOf w ≡ 2 → true ≡ asserts (treeAt a k)
+  unfolding asserts nodeOf
+  asserts-assertion h = rw (tree-node a k, ← ew, h)
+
+  pub asserts-both : (p q : Bool) → ((opOf w ≡ 3) ⊎ (opOf w ≡ 4)) → p ≡ asserts (childAt a k (xOf w)) → q ≡ asserts (childAt a k (yOf w)) → (p || q) ≡ asserts (treeAt a k)
+  unfolding asserts nodeOf
+  asserts-both p q h ep eq = rw (tree-node a k, ← ew, ep, eq) (⊎-elim (λ e. rw e) (λ e. rw e) h)
+
+  pub asserts-repeat : (p : Bool) → opOf w ≡ 5 → p ≡ asserts (childAt a k (xOf w)) → p ≡ asserts (treeAt a k)
+  unfolding asserts nodeOf
+  asserts-repeat p h ep = rw (tree-node a k, ← ew, ep, h)
+
+  pub asserts-none : (opOf w ≡ 2 → ⊥) → (opOf w ≡ 3 → ⊥) → (opOf w ≡ 4 → ⊥) → (opOf w ≡ 5 → ⊥) → false ≡ asserts (treeAt a k)
+  unfolding asserts nodeOf
+  asserts-none h2 h3 h4 h5 =
+      rw (tree-node a k, ← ew, ne-eqb _ 2 h2, ne-eqb _ 3 h3, ne-eqb _ 4 h4, ne-eqb _ 5 h5) (split (eqb (opOf w) 1) (λ e. rw e) (λ e. rw e))

@@ -1,6 +1,6 @@
 -- How words hold a syntax tree: a node is one word, its number is the word's index, and its children have smaller numbers. An item's set stands in
 -- the four words before it. Assumes nothing: these are definitions.
-use mathlib.Core.Bool.{cond}
+use mathlib.Core.Bool.{Bool, true, false, cond, _||_}
 use mathlib.Core.List.{List, [], _∷_, _++_}
 use Prim.Native.Nat.{ℕ, zero, suc, _+_, _-_, _*_, _/_, _%_, _^_}
 use lib.Dec.{eqb, ltb}
@@ -72,6 +72,15 @@ treeWithin (suc d) a k = nodeOf (getD a k 0) (take 4 (drop (k - 4) a)) (λ j. co
 -- the tree of node k of the words a
 unfoldable pub treeAt : List ℕ → ℕ → Syntax
 treeAt a k = treeWithin (suc k) a k
+
+-- the tree has an assertion
+unfoldable pub asserts : Syntax → Bool
+asserts empty = false
+asserts (item c) = false
+asserts (assertion a) = true
+asserts (then x y) = asserts x || asserts y
+asserts (or x y) = asserts x || asserts y
+asserts (repeat x n j) = asserts x
 
 -- how many words a tree takes, and those words, the first of them number n: children first, the left before the right
 unfoldable pub width : Syntax → ℕ

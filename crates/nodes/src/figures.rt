@@ -1,5 +1,7 @@
-// The two figures of a tree, worked out over its nodes by recursion with the node number falling: how many positions it has, and whether it could
-// match no bytes. Any words stand for some tree, so nothing is asked of them.
+// Three figures of a tree, worked out over its nodes by recursion with the node number falling: how
+// many positions it has, whether it could match no bytes, and whether it has an assertion. Any words
+// stand for some tree, so nothing is asked of them.
+use crate::layout::ASSERTION;
 use crate::layout::ENDLESS;
 use crate::layout::ITEM;
 use crate::layout::OR;
@@ -9,7 +11,7 @@ use crate::layout::word;
 ghost use mathlib.Core.Path.{_≡_};
 ghost use Prim.Native.Nat.{_<_};
 ghost use Rattle.regex.specs.Count.{copied, capped, saturating, nullable};
-ghost use Rattle.nodes.specs.Nodes.{treeAt, extraOf};
+ghost use Rattle.nodes.specs.Nodes.{treeAt, extraOf, asserts};
 ghost use Rattle.nodes.specs.Invariants.{childAt};
 
 // A number as it is up to 256, and 257 for all above.
@@ -93,4 +95,35 @@ pub fn nullable(a: &[u64], k: usize) -> bool
         return y == 0 || nullable_child(a, k, x);
     }
     true
+}
+
+// Whether node k's child x has an assertion.
+fn asserts_child(a: &[u64], k: usize, x: u64) -> bool
+    ensures { λ r. ⌜ r ≡ asserts (childAt (now (a .entry)) k x) ⌝ }
+{
+    if x < k as u64 {
+        asserts(a, x as usize)
+    } else {
+        false
+    }
+}
+
+// Whether node k's tree has an assertion.
+pub fn asserts(a: &[u64], k: usize) -> bool
+    ensures { λ r. ⌜ r ≡ asserts (treeAt (now (a .entry)) k) ⌝ }
+{
+    let w = word(a, k);
+    let op = w % 8;
+    let x = w / 8 % 8192;
+    let y = w / 65536 % 131072;
+    if op == ASSERTION {
+        return true;
+    }
+    if op == THEN || op == OR {
+        return asserts_child(a, k, x) | asserts_child(a, k, y);
+    }
+    if op == REPEAT {
+        return asserts_child(a, k, x);
+    }
+    false
 }

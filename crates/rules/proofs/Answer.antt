@@ -8,7 +8,7 @@ use native.Mathlib.Omega.{arith}
 use lib.Bits.{bitAnd}
 use lib.Dec.{eqb, leb, ltb}
 use lib.ListN.{length}
-use borrow.Author.Tests.{eq-eqb, ne-eqb, le-leb, lt-leb, lt-ltb, le-ltb, leb-false, leb-true}
+use borrow.Author.Tests.{eq-eqb, ne-eqb, le-leb, lt-leb, lt-ltb, le-ltb, leb-false}
 use Rattle.sets.specs.Set.{any}
 use Rattle.sets.proofs.Laws.{any-at}
 use Rattle.table.specs.Layout.{maxRules, maxPositions, rulesOf, positionsOf, idWord}
@@ -16,14 +16,13 @@ use Rattle.table.specs.Table.{isTable, knownFlags}
 use Rattle.table.proofs.Test.{Passes, passes}
 use Rattle.regex.specs.Form.{write, positions}
 use Rattle.regex.specs.Count.{limit}
+use Rattle.regex.proofs.Counted.{within-limit}
 use Rattle.nodes.specs.Nodes.{Syntax, treeAt}
 use Rattle.pattern.specs.Walk.{Read, tree, refused}
 use Rattle.pattern.specs.Read.{readOf, optionsOf, answerOf}
 use Rattle.pattern.specs.declared.Reading.{Reading}
 use Rattle.pattern.proofs.Answers.{accepted-tree}
-use Rattle.automaton.specs.Parts.{partsOf, formParts, noParts}
-use Rattle.automaton.specs.declared.Parts.{Parts}
-use Rattle.rules.specs.Gaps.{holdingAt, partsAt}
+use Rattle.rules.specs.Gaps.{partsAt}
 use Rattle.rules.specs.Words.{added}
 use Rattle.rules.specs.Add.{answer, unknownFlag, hasId, placed, addAnswer, withRule, addWords}
 use Rattle.rules.specs.Invariants.{firstFault}
@@ -143,7 +142,7 @@ module _ (t : List ℕ) (id flags : ℕ) (s : List ℕ) where
         go (tree x) z = absurd (n (ap (λ (x : Reading). x .number) (e ∙ ap answerOf z)))
 
     -- the pattern is read
-    module _ (r : Reading) (is : r ≡ answerOf (readOf s (optionsOf flags))) (fine : r .number ≡ 0) (parts : Parts) (built : parts ≡ partsAt (treeAt (r .nodes) (r .root)) (positionsOf t) 0) where
+    module _ (r : Reading) (is : r ≡ answerOf (readOf s (optionsOf flags))) (fine : r .number ≡ 0) where
       x : Syntax
       x = accepted-tree s (optionsOf flags) r is fine .0
 
@@ -155,28 +154,27 @@ module _ (t : List ℕ) (id flags : ℕ) (s : List ℕ) where
       unfolding x
       here = accepted-tree s (optionsOf flags) r is fine .2 .tree
 
-      fits-is : parts .fits ≡ leb (positionsOf t + positions (write x)) limit
-      unfolding partsOf formParts
-      fits-is = ap (λ (p : Parts). p .fits) (built ∙ ap (λ (y : Syntax). partsAt y (positionsOf t) 0) here) ∙ go (leb (positionsOf t + positions (write x)) limit)
-        where
-          go : (b : Bool) → cond b (formParts (write x) (positionsOf t) (holdingAt 0)) noParts .fits ≡ b
-          go true = refl
-          go false = refl
+      -- the reader has counted the positions, and there are at most 256
+      counted : r .positions ≡ positions (write x)
+      unfolding x
+      counted =
+          let a = accepted-tree s (optionsOf flags) r is fine .2 in
+          a .positions ∙ within-limit x (a .few)
 
       last-answer : addAnswer t id flags s ≡ cond (ltb limit (positionsOf t + positions (write x))) (answer 17 (length s)) (answer 0 0)
       unfolding placed
       last-answer = then-read ∙ ap (placed (positionsOf t) (length s)) read
 
       -- its positions do not fit
-      pub too-many : parts .fits ≡ false → Answers (answer 17 (length s)) t
-      too-many e =
-          let over : limit < positionsOf t + positions (write x) = leb-false (positionsOf t + positions (write x)) limit (sym fits-is ∙ e) in
+      pub too-many : limit < positionsOf t + r .positions → Answers (answer 17 (length s)) t
+      too-many h =
+          let over : limit < positionsOf t + positions (write x) = omega (arith, counted) in
           kept (answer 17 (length s)) (sym (last-answer ∙ ap (λ (b : Bool). cond b (answer 17 (length s)) (answer 0 0)) (lt-ltb limit (positionsOf t + positions (write x)) over))) (λ z. omega arith)
 
       -- they do
-      module _ (e : parts .fits ≡ true) where
+      module _ (h : positionsOf t + r .positions ≤ limit) where
         room : positionsOf t + positions (write x) ≤ limit
-        room = leb-true (positionsOf t + positions (write x)) limit (sym fits-is ∙ e)
+        room = omega (arith, counted)
 
         pub fits-room : positionsOf t + positions (write (treeAt (r .nodes) (r .root))) ≤ maxPositions
         fits-room = subst (λ (y : Syntax). positionsOf t + positions (write y) ≤ maxPositions) (sym here) room

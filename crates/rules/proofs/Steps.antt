@@ -1,5 +1,5 @@
 -- One law for each private writer: what a turn of its loop keeps, or what its calls make together.
-use mathlib.Core.Path.{_≡_, refl, sym, ap, ap₂, _∙_, subst}
+use mathlib.Core.Path.{_≡_, refl, sym, ap, ap₂, _∙_, subst, fun-ext}
 use mathlib.Core.Bool.{Bool, true, false, not, _&&_, _||_, and-false, and-true, or-false, Bool·not-not}
 use mathlib.Core.List.{List, [], _∷_}
 use Prim.Native.Nat.{ℕ, _+_, _-_, _*_, _/_, _%_, _≤_, _<_}
@@ -16,7 +16,10 @@ use Rattle.table.specs.Layout.{maxPositions, singlesOf, firstAt, idAt, idWord, 
 use Rattle.table.specs.Gaps.{lastGaps, followGaps, innerGaps, unsettled}
 use Rattle.table.proofs.Over.{from-to-in, from-to-below, from-to-above, over, Written, written-none, written-above, written-block, written-all}
 use Rattle.table.proofs.Writes.{copied, movedUp}
+use Rattle.nodes.specs.Nodes.{Syntax, asserts}
 use Rattle.automaton.specs.declared.Parts.{Parts}
+use Rattle.automaton.proofs.Unasserted.{same-parts}
+use Rattle.rules.specs.Gaps.{holdingAt, partsAt}
 use Rattle.rules.specs.Words.{singlesWith}
 use Rattle.rules.specs.Invariants.{merged, mergedRow, rowsWord, mergedRows, smaller, idPut, singlesPut, ownersPut, placePut, newTakers, followPut, gapPut, gapsPut, innerRows, lateSet, latesPut, openerOf}
 use Rattle.rules.proofs.Rows.{merged-words, merged-same}
@@ -218,3 +221,9 @@ gaps-none n parts t = refl
 pub gaps-turn : (g n : ℕ) (parts : ℕ → Parts) (p : Parts) (t s s' : List ℕ) → s ≡ gapsPut g n parts t → p ≡ parts g → s' ≡ gapPut g n p s → s' ≡ gapsPut (g + 1) n parts t
 unfolding gapsPut
 gaps-turn g n parts p t s s' a b c = c ∙ ap₂ (gapPut g n) b a ∙ ap (λ (m : ℕ). gapsPut m n parts t) (sym (add-one g))
+
+-- a rule without assertions has at every gap what it has at the first
+pub gaps-same : (m n : ℕ) (x : Syntax) (p : Parts) (t : List ℕ) → asserts x ≡ false → p ≡ partsAt x n 0
+    → gapsPut m n (λ g. p) t ≡ gapsPut m n (partsAt x n) t
+gaps-same m n x p t free e =
+    ap (λ (f : ℕ → Parts). gapsPut m n f t) (fun-ext (λ g. e ∙ same-parts x free n (holdingAt 0) (holdingAt g)))

@@ -4,6 +4,7 @@ mod write;
 
 use table::layout::IDS_AT;
 use table::layout::KNOWN_FLAGS;
+use table::layout::MAX_POSITIONS;
 use table::layout::MAX_RULES;
 use table::layout::POSITIONS_AT;
 use table::layout::RULES_AT;
@@ -73,21 +74,21 @@ pub fn add(words: &mut [u64], id: u32, flags: u32, pattern: &[u8]) -> Added
         };
     }
     let nodes = reading.nodes;
+    if words[POSITIONS_AT] + reading.positions as u64 > MAX_POSITIONS {
+        return Added {
+            number: 17,
+            place: pattern.len(),
+        };
+    }
     let parts = automaton::build(
         &nodes,
         reading.root,
         words[POSITIONS_AT] as usize,
         write::holding(0),
     );
-    if parts.fits {
-        write::add_rule(words, id, flags, &nodes, reading.root, parts);
-        return Added {
-            number: 0,
-            place: 0,
-        };
-    }
+    write::add_rule(words, id, flags, &nodes, reading.root, parts);
     Added {
-        number: 17,
-        place: pattern.len(),
+        number: 0,
+        place: 0,
     }
 }

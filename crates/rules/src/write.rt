@@ -294,8 +294,9 @@ fn put_gap(words: &mut [u64], gap: usize, n: usize, parts: Parts)
     put_follow(words, FOLLOW_AT + gap * FOLLOW_WORDS, n, &follow, more);
 }
 
-// The sets of a rule at every gap: the tree of node `root`, its positions numbered from n on, is built for each.
-fn put_gaps(words: &mut [u64], n: usize, nodes: &[u64], root: usize)
+// The sets of a rule at every gap: the tree of node `root`, its positions numbered from n on, is
+// built for each.
+fn put_each(words: &mut [u64], n: usize, nodes: &[u64], root: usize)
     requires { ⌜ (tableWords ≤ length (now words)) × (n + positions (write (treeAt (now nodes) root)) ≤ maxPositions) ⌝ }
     ensures { λ r. ⌜ now (words .exit) ≡ gapsPut firstGaps n (partsAt (treeAt (now (nodes .entry)) root) n) (now (words .entry)) ⌝ }
 {
@@ -305,6 +306,31 @@ fn put_gaps(words: &mut [u64], n: usize, nodes: &[u64], root: usize)
         put_gap(words, g, n, parts);
         g += 1;
     }
+}
+
+// The same sets at every gap.
+fn put_same(words: &mut [u64], n: usize, parts: Parts)
+    requires { ⌜ (tableWords ≤ length (now words)) × (n + parts .positions ≤ maxPositions) ⌝ }
+    ensures { λ r. ⌜ now (words .exit) ≡ gapsPut firstGaps n (λ g. parts) (now (words .entry)) ⌝ }
+{
+    let mut g: usize = 0;
+    while g < FIRST_GAPS {
+        put_gap(words, g, n, parts);
+        g += 1;
+    }
+}
+
+// The sets of a rule at every gap; `parts` are its parts at the first. Without an assertion a rule has
+// the same parts at all.
+fn put_gaps(words: &mut [u64], n: usize, nodes: &[u64], root: usize, parts: Parts)
+    requires { ⌜ (tableWords ≤ length (now words)) × (n + positions (write (treeAt (now nodes) root)) ≤ maxPositions) × (parts ≡ partsAt (treeAt (now nodes) root) n 0) ⌝ }
+    ensures { λ r. ⌜ now (words .exit) ≡ gapsPut firstGaps n (partsAt (treeAt (now (nodes .entry)) root) n) (now (words .entry)) ⌝ }
+{
+    if nodes::asserts(nodes, root) {
+        put_each(words, n, nodes, root);
+        return;
+    }
+    put_same(words, n, parts);
 }
 
 // What some set has of those of the gaps between two bytes, which stand from `at` on.
@@ -387,7 +413,7 @@ pub(super) fn add_rule(
     let more = parts.positions;
     let single = flags / SINGLE % 2 == 1;
     put_place(words, rules, n, more, id as u64, single);
-    put_gaps(words, n, nodes, root);
+    put_gaps(words, n, nodes, root, parts);
     let takes = parts.takes;
     put_takers(words, n, &takes, more);
     put_openers(words);

@@ -21,7 +21,9 @@ returns c =
     let c-start = c .before .before .before .before .before in
     let c-first-fault = c .before .first-fault in
     let c-if1 = c .if1 in
-    early (now (c-start .args .words)) (c-start .args .id) (c-start .args .flags) (now (c-start .args .pattern)) (c-first-fault .result) (c-first-fault .ensures) (c-if1 .taken)
+    let a = c-start .args in
+    early (now (a .words)) (a .id) (a .flags) (now (a .pattern)) (c-first-fault .result)
+    (c-first-fault .ensures) (c-if1 .taken)
 
 read-requires : tie.Need-read-requires
 read-requires c κs = tt
@@ -31,23 +33,74 @@ same-length-2 c = omega arith
 
 returns-2 : tie.Need-returns-2
 returns-2 c =
-    let c-start = c .before .before .before .before .before .before .before .before in
+    let back = c .before .before .before .before .before .before in
+    let c-start = back .before .before in
     let c-if1 = c .before .before .before .if1 in
     let c-first-fault = c .before .before .before .before .first-fault in
     let c-read = c .before .before .read in
     let c-if2 = c .if2 in
-    unread (now (c-start .args .words)) (c-start .args .id) (c-start .args .flags) (now (c-start .args .pattern)) (sym (c-if1 .left) ∙ c-first-fault .ensures)
-    (c-read .result) (c-read .ensures) (c-if2 .taken)
+    let a = c-start .args in
+    unread (now (a .words)) (a .id) (a .flags) (now (a .pattern))
+    (sym (c-if1 .left) ∙ c-first-fault .ensures) (c-read .result) (c-read .ensures) (c-if2 .taken)
+
+slice-read-if3 : tie.Need-slice-read-if3
+slice-read-if3 c =
+    let back = c .before .before .before .before .before .before in
+    let c-start = back .before .before .before .before in
+    let c-if1 = c .before .before .before .before .before .if1 in
+    let c-first-fault = c .before .before .before .before .before .before .first-fault in
+    let a = c-start .args in
+    let p =
+    passed-table (now (a .words)) (a .id) (a .flags) (now (a .pattern))
+    (sym (c-if1 .left) ∙ c-first-fault .ensures) in
+    omega arith
+
+cast-if3 : tie.Need-cast-if3
+cast-if3 c = omega arith
+
+add-if3 : tie.Need-add-if3
+add-if3 c =
+    let back = c .before .before .before .before .before .before in
+    let c-start = back .before .before .before .before .before in
+    let c-if1 = c .before .before .before .before .before .before .if1 in
+    let c-first-fault = back .before .first-fault in
+    let a = c-start .args in
+    let p =
+    passed-table (now (a .words)) (a .id) (a .flags) (now (a .pattern))
+    (sym (c-if1 .left) ∙ c-first-fault .ensures) in
+    omega arith
+
+same-length-3 : tie.Need-same-length-3
+same-length-3 c = omega arith
+
+returns-3 : tie.Need-returns-3
+returns-3 c =
+    let back = c .before .before .before .before .before .before in
+    let c-start = back .before .before .before .before .before .before in
+    let c-if1 = back .before .if1 in
+    let c-first-fault = back .before .before .first-fault in
+    let c-read = c .before .before .before .before .before .before .read in
+    let c-if2 = c .before .before .before .before .if2 in
+    let c-if3 = c .if3 in
+    let a = c-start .args in
+    too-many (now (a .words)) (a .id) (a .flags) (now (a .pattern))
+    (sym (c-if1 .left) ∙ c-first-fault .ensures) (c-read .result) (c-read .ensures) (c-if2 .left)
+    (c-if3 .taken)
 
 slice-aggregate-build : tie.Need-slice-aggregate-build
 slice-aggregate-build c = search needs
 
 slice-read-build : tie.Need-slice-read-build
 slice-read-build c =
-    let c-start = c .before .before .before .before .before .before .before .before .before .before .before in
-    let c-if1 = c .before .before .before .before .before .before .if1 in
-    let c-first-fault = c .before .before .before .before .before .before .before .first-fault in
-    let p = passed-table (now (c-start .args .words)) (c-start .args .id) (c-start .args .flags) (now (c-start .args .pattern)) (sym (c-if1 .left) ∙ c-first-fault .ensures) in
+    let back = c .before .before .before .before .before .before in
+    let back2 = back .before .before .before .before .before .before in
+    let c-start = back2 .before .before in
+    let c-if1 = back .before .before .before .if1 in
+    let c-first-fault = back .before .before .before .before .first-fault in
+    let a = c-start .args in
+    let p =
+    passed-table (now (a .words)) (a .id) (a .flags) (now (a .pattern))
+    (sym (c-if1 .left) ∙ c-first-fault .ensures) in
     omega arith
 
 holding-requires : tie.Need-holding-requires
@@ -57,66 +110,52 @@ build-requires : tie.Need-build-requires
 build-requires c κs = tt
 
 slice-aggregate-add-rule : tie.Need-slice-aggregate-add-rule
-slice-aggregate-add-rule c = slice-aggregate-build (c .before .before .before .before .before .before)
+slice-aggregate-add-rule c = slice-aggregate-build (c .before .before .before .before .before)
 
 add-rule-requires : tie.Need-add-rule-requires
 add-rule-requires c κs =
-    let c-start = c .before .before .before .before .before .before .before .before .before .before .before .before .before .before .before .before in
-    let c-build = c .before .before .before .build in
-    let c-read = c .before .before .before .before .before .before .before .before .before .before .read in
-    let c-holding = c .before .before .before .before .holding in
-    let c-if1 = c .before .before .before .before .before .before .before .before .before .before .before .if1 in
-    let c-first-fault = c .before .before .before .before .before .before .before .before .before .before .before .before .first-fault in
-    let c-if2 = c .before .before .before .before .before .before .before .before .if2 in
-    let c-if3 = c .before .before .if3 in
-    let t = now (c-start .args .words) in
-    let id = c-start .args .id in
-    let flags = c-start .args .flags in
-    let s = now (c-start .args .pattern) in
-    let built = c-build .ensures ∙ ap (partsOf (treeAt (c-read .result .nodes) (c-read .result .root)) (positionsOf t)) (c-holding .ensures) in
+    let back = c .before .before .before .before .before .before in
+    let back2 = back .before .before .before .before .before .before in
+    let c-start = back2 .before .before .before .before .before .before in
+    let c-read = back .before .before .before .before .before .before .read in
+    let c-if1 = back2 .before .if1 in
+    let c-first-fault = back2 .before .before .first-fault in
+    let c-if2 = back .before .before .before .before .if2 in
+    let c-if3 = c .before .before .before .before .before .before .if3 in
+    let c-build = c .before .before .build in
+    let c-holding = c .before .before .before .holding in
+    let a = c-start .args in
+    let t = now (a .words) in
+    let s = now (a .pattern) in
+    let r = c-read .result in
     let checked = sym (c-if1 .left) ∙ c-first-fault .ensures in (
-      passed-table t id flags s checked .long,
-      passed-few t id flags s checked,
-      fits-room t id flags s checked (c-read .result) (c-read .ensures) (c-if2 .left) (c-build .result) built (c-if3 .taken),
-      built,
+      passed-table t (a .id) (a .flags) s checked .long,
+      passed-few t (a .id) (a .flags) s checked,
+      fits-room t (a .id) (a .flags) s checked r (c-read .ensures) (c-if2 .left) (c-if3 .left),
+      c-build .ensures ∙ ap (partsOf (treeAt (r .nodes) (r .root)) (positionsOf t))
+          (c-holding .ensures),
     )
-
-same-length-3 : tie.Need-same-length-3
-same-length-3 c = omega arith
-
-returns-3 : tie.Need-returns-3
-returns-3 c =
-    let c-start = c .before .before .before .before .before .before .before .before .before .before .before .before .before .before .before .before .before .before .before in
-    let c-build = c .before .before .before .before .before .before .build in
-    let c-read = c .before .before .before .before .before .before .before .before .before .before .before .before .before .read in
-    let c-holding = c .before .before .before .before .before .before .before .holding in
-    let c-if1 = c .before .before .before .before .before .before .before .before .before .before .before .before .before .before .if1 in
-    let c-first-fault = c .before .before .before .before .before .before .before .before .before .before .before .before .before .before .before .first-fault in
-    let c-if2 = c .before .before .before .before .before .before .before .before .before .before .before .if2 in
-    let c-if3 = c .before .before .before .before .before .if3 in
-    let c-add-rule = c .before .before .add-rule in
-    let t = now (c-start .args .words) in
-    let built = c-build .ensures ∙ ap (partsOf (treeAt (c-read .result .nodes) (c-read .result .root)) (positionsOf t)) (c-holding .ensures) in
-    accepted t (c-start .args .id) (c-start .args .flags) (now (c-start .args .pattern)) (sym (c-if1 .left) ∙ c-first-fault .ensures)
-    (c-read .result) (c-read .ensures) (c-if2 .left) (c-build .result) built (c-if3 .taken) (c-add-rule .last .0) (c-add-rule .ensures)
 
 same-length-4 : tie.Need-same-length-4
 same-length-4 c = omega arith
 
 returns-4 : tie.Need-returns-4
 returns-4 c =
-    let c-start = c .before .before .before .before .before .before .before .before .before .before .before .before .before .before in
-    let c-build = c .before .build in
-    let c-read = c .before .before .before .before .before .before .before .before .read in
-    let c-holding = c .before .before .holding in
-    let c-if1 = c .before .before .before .before .before .before .before .before .before .if1 in
-    let c-first-fault = c .before .before .before .before .before .before .before .before .before .before .first-fault in
-    let c-if2 = c .before .before .before .before .before .before .if2 in
-    let c-if3 = c .if3 in
-    let t = now (c-start .args .words) in
-    let built = c-build .ensures ∙ ap (partsOf (treeAt (c-read .result .nodes) (c-read .result .root)) (positionsOf t)) (c-holding .ensures) in
-    too-many t (c-start .args .id) (c-start .args .flags) (now (c-start .args .pattern)) (sym (c-if1 .left) ∙ c-first-fault .ensures)
-    (c-read .result) (c-read .ensures) (c-if2 .left) (c-build .result) built (c-if3 .left)
+    let back = c .before .before .before .before .before .before in
+    let back2 = back .before .before .before .before .before .before in
+    let back3 = back2 .before .before .before .before .before .before in
+    let c-start = back3 .before .before .before in
+    let c-if1 = back2 .before .before .before .before .if1 in
+    let c-first-fault = back2 .before .before .before .before .before .first-fault in
+    let c-read = back2 .before .before .before .read in
+    let c-if2 = back2 .before .if2 in
+    let c-if3 = back .before .before .before .if3 in
+    let c-add-rule = c .before .before .add-rule in
+    let a = c-start .args in
+    accepted (now (a .words)) (a .id) (a .flags) (now (a .pattern))
+    (sym (c-if1 .left) ∙ c-first-fault .ensures) (c-read .result) (c-read .ensures) (c-if2 .left)
+    (c-if3 .left)
+    (c-add-rule .last .0) (c-add-rule .ensures)
 
 pub add-spec : {M : Type 1} → statement M
 add-spec =
@@ -128,13 +167,16 @@ add-spec =
     read-requires
     same-length-2
     returns-2
+    slice-read-if3
+    cast-if3
+    add-if3
+    same-length-3
+    returns-3
     slice-aggregate-build
     slice-read-build
     holding-requires
     build-requires
     slice-aggregate-add-rule
     add-rule-requires
-    same-length-3
-    returns-3
     same-length-4
     returns-4)

@@ -24,7 +24,9 @@ put-place-requires c κs =
     omega (arith, sized (treeAt (now (c-start .args .nodes)) (c-start .args .root)) (positionsOf (now (c-start .args .words))) (holdingAt 0) (c-start .pre .2) (c-start .args .parts) (c-start .pre .3))
 
 put-gaps-requires : tie.Need-put-gaps-requires
-put-gaps-requires c κs = omega arith
+put-gaps-requires c κs =
+    let c-start = c .before .before .before .before .before .before .before .before .before in
+    (omega arith, c-start .pre .2, c-start .pre .3)
 
 put-takers-requires : tie.Need-put-takers-requires
 put-takers-requires c κs =

@@ -1,91 +1,64 @@
--- `rules::write::put_gaps` meets its contract. The loop's invariant: the sets of the gaps before `g` are put in.
-use mathlib.Core.Path.{_≡_, ap, _∙_}
-use Prim.Native.Nat.{ℕ, _-_, _≤_}
+-- `rules::write::put_gaps` meets its contract: without an assertion the parts of the first gap are
+-- those
+-- of all.
+use mathlib.Core.Path.{sym, _∙_}
 use native.Mathlib.Omega.{arith}
 use denote.Ref.{now}
-use lib.ListN.{length}
 use Rattle.table.specs.Gaps.{firstGaps}
 use Rattle.nodes.specs.Nodes.{treeAt}
-use Rattle.automaton.specs.Parts.{partsOf}
-use Rattle.automaton.specs.declared.Parts.{Parts}
-use Rattle.rules.specs.Gaps.{partsAt}
-use Rattle.rules.specs.Invariants.{gapsPut}
-use Rattle.rules.proofs.Parts.{sized-parts}
-use Rattle.rules.proofs.Steps.{gaps-none, gaps-turn}
+use Rattle.rules.specs.Gaps.{holdingAt}
+use Rattle.rules.proofs.Parts.{sized}
+use Rattle.rules.proofs.Steps.{gaps-same}
 use Rattle.rules.proofs.write.put_gaps.Statement.{statement}
 use Rattle.rules.proofs.write.put_gaps.Tie as tie
 
-abbrev Inv-loop : tie.InvT-loop
-Inv-loop words₀ n nodes root g₀ words g =
-    (g ≤ firstGaps) × (length words ≡ length words₀) × (words ≡ gapsPut g n (partsAt (treeAt nodes root) n) words₀)
+asserts-requires : tie.Need-asserts-requires
+asserts-requires c κs = tt
 
-abbrev μ-loop : tie.MeasureT-loop
-μ-loop words₀ n nodes root g₀ words g = firstGaps - g
+put-each-requires : tie.Need-put-each-requires
+put-each-requires c κs = omega arith
 
-loop-holds : tie.Need-loop-holds Inv-loop μ-loop
-loop-holds c =
-    let c-start = c .before .before in
-    (omega arith, omega arith, gaps-none (c-start .args .n) (partsAt (treeAt (now (c-start .args .nodes)) (c-start .args .root)) (c-start .args .n)) (now (c-start .args .words)))
+same-length : tie.Need-same-length
+same-length c = omega arith
 
-holding-requires : tie.Need-holding-requires Inv-loop μ-loop
-holding-requires c κs = omega arith
+returns : tie.Need-returns
+returns c =
+    let c-put-each = c .before .before .put-each in
+    c-put-each .ensures
 
-build-requires : tie.Need-build-requires Inv-loop μ-loop
-build-requires c κs = tt
-
-put-gap-requires : tie.Need-put-gap-requires Inv-loop μ-loop
-put-gap-requires c κs =
-    let c-start = c .before .before .before .before .before .before .before in
-    let c-build = c .before .build in
-    let c-holding = c .before .before .holding in
-    let x = treeAt (now (c-start .args .nodes)) (c-start .args .root) in
-    let e = ap (λ (p : Parts). p .positions) (c-build .ensures) ∙ sized-parts x (c-start .args .n) (c-holding .result) (c-start .pre .1) in
-    omega (arith, e)
-
-add-g : tie.Need-add-g Inv-loop μ-loop
-add-g c = omega arith
-
-loop-less : tie.Need-loop-less Inv-loop μ-loop
-loop-less c = omega arith
-
-loop-again : tie.Need-loop-again Inv-loop μ-loop
-loop-again c =
-    let c-start = c .before .before .before .before .before .before .before .before .before .before in
-    let c-loop = c .before .before .before .before .before .before .before .loop in
-    let c-build = c .before .before .before .before .build in
-    let c-put-gap = c .before .before .put-gap in
-    let c-holding = c .before .before .before .before .before .holding in
-    let x = treeAt (now (c-start .args .nodes)) (c-start .args .root) in (
-      omega arith,
-      omega arith,
-      gaps-turn (c-loop .g) (c-start .args .n) (partsAt x (c-start .args .n)) (c-build .result) (now (c-start .args .words)) (c-loop .words) (c-put-gap .last .0)
-          (c-loop .inv .2) (c-build .ensures ∙ ap (partsOf x (c-start .args .n)) (c-holding .ensures)) (c-put-gap .ensures),
+put-same-requires : tie.Need-put-same-requires
+put-same-requires c κs =
+    let c-start = c .before .before .before .before .before in
+    let a = c-start .args in
+    omega (
+      arith,
+      sized (treeAt (now (a .nodes)) (a .root)) (a .n) (holdingAt 0) (c-start .pre .1)
+          (a .parts) (c-start .pre .2),
     )
 
-same-length : tie.Need-same-length Inv-loop μ-loop
-same-length c =
-    let c-loop = c .before .loop in
-    c-loop .inv .1
+same-length-2 : tie.Need-same-length-2
+same-length-2 c = omega arith
 
-returns : tie.Need-returns Inv-loop μ-loop
-returns c =
-    let c-loop = c .before .loop in
-    let c-start = c .before .before .before .before in
-    let e : c-loop .g ≡ firstGaps = omega arith in
-    c-loop .inv .2 ∙ ap (λ (m : ℕ). gapsPut m (c-start .args .n) (partsAt (treeAt (now (c-start .args .nodes)) (c-start .args .root)) (c-start .args .n)) (now (c-start .args .words))) e
+returns-2 : tie.Need-returns-2
+returns-2 c =
+    let back = c .before .before .before .before .before .before in
+    let c-start = back .before .before in
+    let c-put-same = c .before .before .put-same in
+    let c-asserts = c .before .before .before .before .before .asserts in
+    let c-if1 = c .before .before .before .before .if1 in
+    let a = c-start .args in
+    c-put-same .ensures
+    ∙ gaps-same firstGaps (a .n) (treeAt (now (a .nodes)) (a .root)) (a .parts) (now (a .words))
+    (sym (c-asserts .ensures) ∙ c-if1 .left) (c-start .pre .2)
 
 pub put-gaps-spec : {M : Type 1} → statement M
 put-gaps-spec =
     tie.close
     (tie.spec
-    Inv-loop
-    μ-loop
-    loop-holds
-    holding-requires
-    build-requires
-    put-gap-requires
-    add-g
-    loop-less
-    loop-again
+    asserts-requires
+    put-each-requires
     same-length
-    returns)
+    returns
+    put-same-requires
+    same-length-2
+    returns-2)

@@ -1,6 +1,6 @@
--- `forms::then` meets its contract: a join, and the two fragments in turn.
-use Rattle.automaton.proofs.forms.then.Statement.{statement}
-use Rattle.automaton.proofs.forms.then.Tie as tie
+-- `joins::then` meets its contract: a join, and the two fragments in turn.
+use Rattle.automaton.proofs.joins.then.Statement.{statement}
+use Rattle.automaton.proofs.joins.then.Tie as tie
 
 join-requires : tie.Need-join-requires
 join-requires c κs = tt
