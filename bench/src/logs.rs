@@ -1,9 +1,13 @@
-//! A logger's records, made from a seed. A quiet log has a fault once in a thousand records; in a
-//! busy one about every other record has something that a rule looks for, or nearly.
+//! The logs. Two are a logger's records, made from a seed: a quiet log has a fault once in a
+//! thousand records; in a busy one about every other record has something that a rule looks for, or
+//! nearly. The third is the shipped example's log over and over.
 
 use harness::rng::Rng;
 
-const FAULTS: &[&str] = &[
+pub const BYTES: usize = 4 << 20;
+
+/// What a record has in place of `ok`.
+pub const FAULTS: &[&str] = &[
     "FAULT E417",
     "OVERLOAD",
     "slack ROPE",
@@ -33,19 +37,31 @@ const FAULTS: &[&str] = &[
     "WATCH",
 ];
 
-pub fn quiet(seed: u64, bytes: usize) -> Vec<u8> {
-    log(seed, bytes, 1_000)
+pub struct Log {
+    pub name: &'static str,
+    pub bytes: Vec<u8>,
 }
 
-pub fn busy(seed: u64, bytes: usize) -> Vec<u8> {
-    log(seed, bytes, 2)
+pub fn quiet(seed: u64) -> Log {
+    Log { name: "quiet", bytes: records(seed, 1_000) }
 }
 
-fn log(seed: u64, bytes: usize, fault_once_in: usize) -> Vec<u8> {
+pub fn busy(seed: u64) -> Log {
+    Log { name: "busy", bytes: records(seed, 2) }
+}
+
+/// It is cut in front, so that it ends as the example's log does.
+pub fn example() -> Log {
+    let whole = include_bytes!("../../examples/logger/log.txt");
+    let bytes = whole.repeat(BYTES.div_ceil(whole.len()));
+    Log { name: "example", bytes: bytes[bytes.len() - BYTES..].to_vec() }
+}
+
+fn records(seed: u64, fault_once_in: usize) -> Vec<u8> {
     let mut rng = Rng::new(seed);
-    let mut log = Vec::with_capacity(bytes + 80);
+    let mut log = Vec::with_capacity(BYTES + 80);
     let mut record = 0;
-    while log.len() < bytes {
+    while log.len() < BYTES {
         let (load, rest) = (rng.below(90_000), rng.below(1_000));
         log.extend(format!("{record:08} ch{} load={load:05}.{rest:03} ", rng.below(4)).bytes());
         if rng.once_in(fault_once_in) {
@@ -56,6 +72,6 @@ fn log(seed: u64, bytes: usize, fault_once_in: usize) -> Vec<u8> {
         log.push(b'\n');
         record += 1;
     }
-    log.truncate(bytes);
+    log.truncate(BYTES);
     log
 }

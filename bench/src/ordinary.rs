@@ -1,12 +1,13 @@
 //! An ordinary matcher: the position automaton of all rules with a Vec of live positions, as one
 //! writes it in an afternoon. Its positions come from the tree of `reference`.
 
-use reference::rule::check;
+use reference::rule;
 use words::calls::Calls;
 use words::gaps::*;
 use words::interpreter::Interpreter;
 use words::layout::*;
 
+use crate::matcher::{Matcher, Reports};
 use crate::rules::Rule;
 
 struct Position {
@@ -17,7 +18,7 @@ struct Position {
     last: [Option<usize>; LAST_GAPS],
 }
 
-pub struct Matcher {
+pub struct Ordinary {
     positions: Vec<Position>,
     /// By the gap before the first byte.
     first: [Vec<usize>; FIRST_GAPS],
@@ -37,101 +38,70 @@ pub struct Stream {
     taken: u64,
 }
 
-/// The words of a table with these rules.
-pub fn table(rules: &[Rule]) -> Vec<u64> {
-    let mut words = vec![0; TABLE_WORDS];
-    Interpreter.empty(&mut words);
-    for &(id, flags, pattern) in rules {
-        assert!(check(&[], id, flags, pattern.as_bytes()).is_ok(), "{pattern}");
-        assert_eq!(Interpreter.add(&mut words, id, flags, pattern.as_bytes()), (0, 0), "{pattern}");
-    }
-    words
-}
-
-impl Matcher {
-    pub fn new(rules: &[Rule]) -> Matcher {
-        let words = table(rules);
-        let count = words[RULES] as usize;
+impl Ordinary {
+    /// Of rules by rising id.
+    pub fn new(rules: &[Rule]) -> Ordinary {
+        let mut words = vec![0; TABLE_WORDS];
+        Interpreter.empty(&mut words);
+        let mut read: Vec<rule::Rule> = Vec::new();
+        for Rule { id, flags, pattern } in rules {
+            let pattern = pattern.as_bytes();
+            read.push(rule::check(&read, *id, *flags, pattern).expect("the rule is accepted"));
+            assert_eq!(Interpreter.add(&mut words, *id, *flags, pattern), (0, 0));
+        }
+        let count = read.len();
         let members = |at: usize| (0..MAX_POSITIONS).filter(|&p| has(&words, at, p)).collect();
-        let rule_at =
-            |gap: usize, p: usize| has(&words, last(gap), p).then(|| words[owner(p)] as usize);
-        let position = |p: usize| Position {
+        let ends = |gap: usize, p: usize| has(&words, last(gap), p);
+        let owners = (0..count).flat_map(|a| std::iter::repeat_n(a, read[a].positions));
+        let position = |(p, owner): (usize, usize)| Position {
             takes: std::array::from_fn(|byte| has(&words, takers(byte as u8), p)),
             follow: std::array::from_fn(|gap| members(follow(gap, p))),
-            last: std::array::from_fn(|gap| rule_at(gap, p)),
+            last: std::array::from_fn(|gap| ends(gap, p).then_some(owner)),
         };
-        Matcher {
-            positions: (0..words[POSITIONS] as usize).map(position).collect(),
+        Ordinary {
+            positions: owners.enumerate().map(position).collect(),
             first: std::array::from_fn(|gap| members(first(gap))),
-            ids: (0..count).map(|a| words[id(a)] as u32).collect(),
-            single: (0..count).map(|a| words[SINGLES] >> a & 1 == 1).collect(),
+            ids: read.iter().map(|rule| rule.id).collect(),
+            single: read.iter().map(rule::Rule::single_match).collect(),
         }
     }
 
-    pub fn open(&self) -> Stream {
-        Stream {
-            live: Vec::new(),
-            before: Vec::new(),
-            seen: vec![false; self.positions.len()],
-            found: Vec::new(),
-            reported: vec![false; self.ids.len()],
-            sides: [Side::Other; 2],
-            taken: 0,
+    fn step(&self, stream: &mut Stream, byte: u8, reports: &mut Reports) {
+        let side = Side::of(byte);
+        let gap = between(stream.sides[0], side);
+        self.late(stream, gap, reports);
+        let start = if stream.taken == 0 { at_start(side) } else { gap };
+        let next = &mut stream.before;
+        next.clear();
+        for &p in &self.first[start] {
+            enter(&self.positions, &mut stream.seen, next, p, byte);
         }
-    }
-
-    pub fn scan(&self, stream: &mut Stream, block: &[u8], mut report: impl FnMut(u32, u64)) {
-        for &byte in block {
-            let side = Side::of(byte);
-            let gap = between(stream.sides[0], side);
-            self.late(stream, gap, &mut report);
-            let start = if stream.taken == 0 { at_start(side) } else { gap };
-            let next = &mut stream.before;
-            next.clear();
-            for &p in &self.first[start] {
+        for &from in &stream.live {
+            for &p in &self.positions[from].follow[gap] {
                 enter(&self.positions, &mut stream.seen, next, p, byte);
             }
-            for &from in &stream.live {
-                for &p in &self.positions[from].follow[gap] {
-                    enter(&self.positions, &mut stream.seen, next, p, byte);
-                }
-            }
-            std::mem::swap(&mut stream.live, &mut stream.before);
-            stream.sides = [side, stream.sides[0]];
-            stream.taken += 1;
-            stream.found.clear();
-            for &p in &stream.live {
-                stream.seen[p] = false;
-                stream.found.extend(self.positions[p].last[UNSETTLED]);
-            }
-            self.give(stream, stream.taken, &mut report);
         }
+        std::mem::swap(&mut stream.live, &mut stream.before);
+        stream.sides = [side, stream.sides[0]];
+        stream.taken += 1;
+        stream.found.clear();
+        for &p in &stream.live {
+            stream.seen[p] = false;
+            stream.found.extend(self.positions[p].last[UNSETTLED]);
+        }
+        self.give(stream, stream.taken, reports);
     }
 
     /// The pairs at the last byte that the next one settles.
-    fn late(&self, stream: &mut Stream, gap: usize, report: &mut impl FnMut(u32, u64)) {
+    fn late(&self, stream: &mut Stream, gap: usize, reports: &mut Reports) {
         let waits = |p: &usize| {
             let last = &self.positions[*p].last;
             last[gap].is_some() && last[UNSETTLED].is_none()
         };
         if stream.live.iter().any(waits) {
             stream.found = self.newly(&stream.live, gap, &stream.live, UNSETTLED);
-            self.give(stream, stream.taken, report);
+            self.give(stream, stream.taken, reports);
         }
-    }
-
-    /// The pairs before a last newline, then those at the end.
-    pub fn close(&self, stream: &mut Stream, mut report: impl FnMut(u32, u64)) {
-        let [side, before] = stream.sides;
-        let mut ending = stream.live.clone();
-        if stream.taken > 0 && side == Side::Newline {
-            let given = between(before, Side::Newline);
-            stream.found = self.newly(&stream.before, before_last(before), &stream.before, given);
-            self.give(stream, stream.taken - 1, &mut report);
-            ending.extend(self.over_the_line(stream));
-        }
-        stream.found = self.newly(&ending, at_end(side), &stream.live, UNSETTLED);
-        self.give(stream, stream.taken, &mut report);
     }
 
     /// The rules that end at a gap with one of these positions, but for those that a live one ended
@@ -152,7 +122,7 @@ impl Matcher {
     }
 
     /// Reports the rules that were found at this end, by rising id, each once.
-    fn give(&self, stream: &mut Stream, end: u64, report: &mut impl FnMut(u32, u64)) {
+    fn give(&self, stream: &mut Stream, end: u64, reports: &mut Reports) {
         if stream.found.is_empty() {
             return;
         }
@@ -160,19 +130,55 @@ impl Matcher {
         stream.found.dedup();
         for &place in &stream.found {
             if !stream.reported[place] {
-                report(self.ids[place], end);
+                reports.push((self.ids[place], end));
                 stream.reported[place] = self.single[place];
             }
         }
     }
+}
 
-    /// The bytes of its lists, for the table of memory.
-    pub fn size(&self) -> usize {
+impl Matcher for Ordinary {
+    type Stream = Stream;
+
+    fn open(&mut self) -> Stream {
+        Stream {
+            live: Vec::new(),
+            before: Vec::new(),
+            seen: vec![false; self.positions.len()],
+            found: Vec::new(),
+            reported: vec![false; self.ids.len()],
+            sides: [Side::Other; 2],
+            taken: 0,
+        }
+    }
+
+    fn scan(&mut self, stream: &mut Stream, block: &[u8], reports: &mut Reports) {
+        block.iter().for_each(|&byte| self.step(stream, byte, reports));
+    }
+
+    /// The pairs before a last newline, then those at the end.
+    fn close(&mut self, mut stream: Stream, reports: &mut Reports) {
+        let [side, before] = stream.sides;
+        let mut ending = stream.live.clone();
+        if stream.taken > 0 && side == Side::Newline {
+            let given = between(before, Side::Newline);
+            stream.found = self.newly(&stream.before, before_last(before), &stream.before, given);
+            let end = stream.taken - 1;
+            self.give(&mut stream, end, reports);
+            ending.extend(self.over_the_line(&stream));
+        }
+        stream.found = self.newly(&ending, at_end(side), &stream.live, UNSETTLED);
+        let end = stream.taken;
+        self.give(&mut stream, end, reports);
+    }
+
+    /// The lists that are always there only.
+    fn sizes(&self) -> (usize, usize) {
         let follow = |p: &Position| p.follow.iter().map(Vec::len).sum::<usize>();
-        let first: usize = self.first.iter().map(Vec::len).sum();
-        std::mem::size_of::<Position>() * self.positions.len()
-            + std::mem::size_of::<usize>()
-                * (self.positions.iter().map(follow).sum::<usize>() + first)
+        let members: usize = self.first.iter().map(Vec::len).sum::<usize>()
+            + self.positions.iter().map(follow).sum::<usize>();
+        let lists = size_of_val(&self.positions[..]) + size_of::<usize>() * members;
+        (lists, size_of::<Stream>() + self.positions.len() + self.ids.len())
     }
 }
 
