@@ -1,4 +1,5 @@
--- The cases come out as they must: the checker reads every pattern by the definitions. Assumes nothing.
+-- The cases come out as they must: the checker reads every pattern by the definitions. Assumes
+-- nothing.
 use mathlib.Core.Path.{_≡_, refl}
 use mathlib.Core.List.{[]}
 use Rattle.sets.specs.Set.{on, has, wordOf, setOf, emptySet, fullSet, inserted, insertedRange, unionOf, complementOf}
@@ -16,11 +17,11 @@ use Rattle.tokens.specs.Quantifier.{bounded, open-ended, bracesOf, formOf, mark
 use Rattle.tokens.specs.Token.{escaped, unquotedOf, spelledOf, lexemeOf, itemSet}
 use Rattle.regex.specs.Count.{copied, capped, saturating, nullable}
 use Rattle.pattern.specs.Walk.{chained, chosen, one, repeating, closing, opening, act, next, finish, walk}
-use Rattle.pattern.specs.Read.{judged, readOf, optionsOf}
+use Rattle.pattern.specs.Read.{judged, readOf, limitedRead, optionsOf}
 use Rattle.answers.specs.Cases.{gives, right, wrong, cases, itemsOf, agrees, strange, takings, assertionsOf, same, asserts, misread, assertings}
 
 pub none-wrong : wrong cases ≡ []
-unfolding isDigit isLower isUpper isBlank otherCase digitOf digits valueFrom blanks numeralOf bracedOf shortOf flipped64 raised controlOf typeOf namedOf placedOf hexOf octalOf isAlpha isAlnum escapeOf lower isMark gapOf names begins named nameAmong nameOf bracketOf memberOf rangeFault jointOf memberAt membersOf classOf lettersOf beforeClose commentOf openingOf bounded open-ended bracesOf formOf marked quantifierOf escaped unquotedOf lexemeOf copied capped saturating nullable chained chosen one repeating closing opening act next finish walk judged readOf optionsOf bytes gives right wrong cases isCntrl anyRaw withRaw spelledAt spelledOf
+unfolding isDigit isLower isUpper isBlank otherCase digitOf digits valueFrom blanks numeralOf bracedOf shortOf flipped64 raised controlOf typeOf namedOf placedOf hexOf octalOf isAlpha isAlnum escapeOf lower isMark gapOf names begins named nameAmong nameOf bracketOf memberOf rangeFault jointOf memberAt membersOf classOf lettersOf beforeClose commentOf openingOf bounded open-ended bracesOf formOf marked quantifierOf escaped unquotedOf lexemeOf copied capped saturating nullable chained chosen one repeating closing opening act next finish walk judged readOf limitedRead optionsOf bytes gives right wrong cases isCntrl anyRaw withRaw spelledAt spelledOf
 none-wrong = refl
 
 pub none-strange : strange takings ≡ []

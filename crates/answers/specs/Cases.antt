@@ -1,5 +1,6 @@
--- Patterns with the answers they must have, with bytes that their items must take or leave, and with the assertions that they must have. The theorems are
--- `none-wrong`, `none-strange` and `none-misread` of proofs/Cases.antt. Assumes nothing: these are definitions.
+-- Patterns with the answers they must have, with bytes that their items must take or leave, and
+-- with the assertions that they must have. The theorems are `none-wrong`, `none-strange` and
+-- `none-misread` of proofs/Cases.antt. Assumes nothing: these are definitions.
 use mathlib.Core.Bool.{Bool, true, false, cond, not, _&&_}
 use mathlib.Core.List.{List, [], _∷_, _++_}
 use Prim.Native.Nat.{ℕ}
@@ -12,11 +13,12 @@ use Rattle.regex.specs.Tree.{empty, item, assertion, then, or, repeat}
 use Rattle.regex.specs.Rule.{Assertion, at-start, at-last-line, at-end, line-start, line-end, word-edge, no-word-edge, ByteSet}
 use Rattle.nodes.specs.Nodes.{Syntax, codeOf}
 use Rattle.pattern.specs.Walk.{Read, tree, refused}
-use Rattle.pattern.specs.Read.{optionsOf, readOf}
+use Rattle.pattern.specs.Read.{optionsOf, readOf, limitedRead}
 
 -- ---- answers
 
--- a pattern under flags, 1 caseless, 2 dot matches all and 4 line mode, with the number and place of its refusal, or 0 and 0 where it is accepted
+-- a pattern under flags, 1 caseless, 2 dot matches all and 4 line mode, with the number and place
+-- of its refusal, or 0 and 0 where it is accepted
 pub record Case : Type 0 where
   pub flags : ℕ
   pub pattern : List ℕ
@@ -30,7 +32,7 @@ gives (refused n p) number place = eqb n number && eqb p place
 
 -- the pattern of a case reads as the case says
 unfoldable pub right : Case → Bool
-right c = gives (readOf (c .pattern) (optionsOf (c .flags))) (c .number) (c .place)
+right c = gives (limitedRead (c .pattern) (optionsOf (c .flags))) (c .number) (c .place)
 
 -- the cases that do not
 unfoldable pub wrong : List Case → List Case
@@ -71,7 +73,8 @@ cases =
     ∷ row 0 "" 15 0
     ∷ row 0 "((((((((((((((((a))))))))))))))))" 0 0
     ∷ row 0 "(((((((((((((((((a)))))))))))))))))" 13 16
-    -- "Raise .. the pattern to 1,024 bytes": 256 positions, and 257 at the pattern's length; 1,024 bytes and 1,025; a place beyond 255
+    -- "Raise .. the pattern to 1,024 bytes": 256 positions, and 257 at the pattern's length; 1,024
+    -- bytes and 1,025; a place beyond 255
     ∷ long "" 256 "" 0 0
     ∷ long "" 257 "" 16 257
     ∷ long "" 1024 "" 16 1024
@@ -380,7 +383,8 @@ cases =
     ∷ row 0 "[-[:digit:]]" 0 0
     ∷ row 0 "[a-[:x:]]" 14 1
     ∷ row 0 "[a-[.x.]]" 14 1
-    -- "`\Q..\E` inside and outside classes": a quote without an end goes to the pattern's end; a quantifier after one repeats its last byte
+    -- "`\Q..\E` inside and outside classes": a quote without an end goes to the pattern's end; a
+    -- quantifier after one repeats its last byte
     ∷ row 0 "\\Qa" 0 0
     ∷ row 0 "\\Q*" 0 0
     ∷ row 0 "\\Qa(b" 0 0
@@ -421,7 +425,8 @@ cases =
     ∷ row 0 "[a-\\E-z]" 9 1
     ∷ row 0 "[\\E]" 8 4
     ∷ row 0 "[\\E" 8 3
-    -- in a class a quoted `^`, `-`, `]` or `[:` is a member, and a quoted member may be the end of a range
+    -- in a class a quoted `^`, `-`, `]` or `[:` is a member, and a quoted member may be the end of
+    -- a range
     ∷ row 0 "[\\Qa]\\E]" 0 0
     ∷ row 0 "[\\Q^\\Ea]" 0 0
     ∷ row 0 "[\\Qz-a\\E]" 0 0
@@ -437,7 +442,8 @@ cases =
     ∷ row 0 "[\\Qz\\E-a]" 9 3
     ∷ row 0 "[z-\\Qa\\E]" 9 1
     ∷ row 0 "[a-\\Q]\\E]" 9 1
-    -- "`(?#..)`": a comment ends at the first `)`; "An open comment is 12 at the pattern's length, after any token's fault."
+    -- "`(?#..)`": a comment ends at the first `)`; "An open comment is 12 at the pattern's length,
+    -- after any token's fault."
     ∷ row 0 "(?#x)a" 0 0
     ∷ row 0 "(?#\\Q)a" 0 0
     ∷ row 0 "(?#a(?#b)c" 0 0
@@ -454,7 +460,8 @@ cases =
     ∷ row 0 "[a(?#" 8 5
     ∷ row 0 "[z-a](?#" 9 1
     ∷ row 0 "a)(?#" 12 1
-    -- "A quantifier after a comment applies to the item before, and is 10 if that has one already, a `?` or `+` too."
+    -- "A quantifier after a comment applies to the item before, and is 10 if that has one already,
+    -- a `?` or `+` too."
     ∷ row 0 "a(?#x)*" 15 7
     ∷ row 0 "a(?#x)+" 0 0
     ∷ row 0 "a(?#x)(?#y)*b" 0 0
@@ -479,7 +486,8 @@ cases =
     ∷ row 0 "a|\\E*" 10 4
     ∷ row 0 "$(?#){2}" 10 5
     ∷ row 0 "a(?i)(?#)*" 10 9
-    -- "PCRE also lets `$` hold just before a newline that is the last byte. Mend it, and add `\Z` with the same meaning (14 in a class); `\z` stays."
+    -- "PCRE also lets `$` hold just before a newline that is the last byte. Mend it, and add `\Z`
+    -- with the same meaning (14 in a class); `\z` stays."
     ∷ row 0 "a\\Z" 0 0
     ∷ row 0 "(?:a\\Z)+" 0 0
     ∷ row 0 "(\\Z)*a" 0 0
@@ -551,7 +559,8 @@ cases =
     ∷ row 0 "\\x{ 41 " 6 0
     ∷ row 0 "\\x{ \\E41}" 6 0
     ∷ row 0 "[\\x{ }]" 6 1
-    -- "A raw byte below 32, or 127, anywhere in a pattern, .. is refused with 23"; written as an escape, or above these, it is not
+    -- "A raw byte below 32, or 127, anywhere in a pattern, .. is refused with 23"; written as an
+    -- escape, or above these, it is not
     ∷ row 0 "a\tb" 23 1
     ∷ row 0 "a\r" 23 1
     ∷ row 0 "\u{1f}" 23 0
@@ -564,7 +573,8 @@ cases =
     ∷ row 0 "\\x7f" 0 0
     ∷ row 0 "\\cI" 0 0
     ∷ row 0 "[\\t\\x0d]" 0 0
-    -- "as a fault of the token it lies in and at that token's first byte": escapes, members and ranges of a class, openings
+    -- "as a fault of the token it lies in and at that token's first byte": escapes, members and
+    -- ranges of a class, openings
     ∷ row 0 "a\\\t" 23 1
     ∷ row 0 "\\x\t" 23 2
     ∷ row 0 "\\x4\t" 23 3
@@ -581,7 +591,8 @@ cases =
     ∷ row 0 "(?:\t)" 23 3
     ∷ row 0 "(?i:\t)" 23 4
     ∷ row 0 "\\E\t" 23 2
-    -- so of a complete form between braces, "Raw tabs are skipped too and are then 23"; of what is none, the tab is a token itself
+    -- so of a complete form between braces, "Raw tabs are skipped too and are then 23"; of what is
+    -- none, the tab is a token itself
     ∷ row 0 "a{\t2}" 23 1
     ∷ row 0 "a{2\t}?" 23 1
     ∷ row 0 "a{2,\t3}" 23 1
@@ -899,7 +910,8 @@ itemsOf (then x y) = itemsOf x ++ itemsOf y
 itemsOf (or x y) = itemsOf x ++ itemsOf y
 itemsOf (repeat x n j) = itemsOf x
 
--- an accepted pattern under flags, one of its items by its number from 0 on, a byte, and whether the item takes it
+-- an accepted pattern under flags, one of its items by its number from 0 on, a byte, and whether
+-- the item takes it
 pub record Taking : Type 0 where
   pub flags : ℕ
   pub pattern : List ℕ
@@ -1171,14 +1183,16 @@ unfoldable pub assertings : List Asserting
 assertings =
     has-all 0 "^a$" (at-start ∷ at-last-line ∷ [])
     ∷ has-all 0 "\\Aa\\Z|a\\z" (at-start ∷ at-last-line ∷ at-end ∷ [])
-    -- `^` and `$` go by "flag 4 and option `m`", by neither of the other two; `\A`, `\Z` and `\z` by none
+    -- `^` and `$` go by "flag 4 and option `m`", by neither of the other two; `\A`, `\Z` and `\z`
+    -- by none
     ∷ has-all 4 "^a$" (line-start ∷ line-end ∷ [])
     ∷ has-all 3 "^a$" (at-start ∷ at-last-line ∷ [])
     ∷ has-all 0 "(?m)^a$" (line-start ∷ line-end ∷ [])
     ∷ has-all 0 "(?is)^a$" (at-start ∷ at-last-line ∷ [])
     ∷ has-all 4 "(?i-s)^a$" (line-start ∷ line-end ∷ [])
     ∷ has-all 4 "\\Aa\\Z|a\\z" (at-start ∷ at-last-line ∷ at-end ∷ [])
-    -- "applied left to right", to what stands after; "A setting lasts to the end of its group, later branches included."
+    -- "applied left to right", to what stands after; "A setting lasts to the end of its group,
+    -- later branches included."
     ∷ has-all 0 "(?m-m)^a" (at-start ∷ [])
     ∷ has-all 4 "^(?-m)^a$" (line-start ∷ at-start ∷ at-last-line ∷ [])
     ∷ has-all 0 "^(?m)^a" (at-start ∷ line-start ∷ [])

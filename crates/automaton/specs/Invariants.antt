@@ -98,7 +98,8 @@ pub record Joined (l s : List ℕ) (n : ℕ) (r r' : List ℕ) : Type 0 where
 abbrev pub Room : Written → ℕ → Type 0
 Room f b = b + positions f ≤ 256
 
--- the fragment of f; its follow pairs are added to the rows r, and its byte sets are written into the rows t
+-- the fragment of f; its follow pairs are added to the rows r, and its byte sets are written into
+-- the rows t
 pub record Built (world : ℕ) (f : Written) (b : ℕ) (r r' t t' : List ℕ) (g : Fragment) : Type 0 where
   pub fragment : g ≡ fragmentOf world f b
   pub long : length r' ≡ length r
@@ -124,7 +125,8 @@ movedPart c x = record {
   last = movedOn c (x .size) (x .size) (x .last);
 }
 
--- the rows r, where the first i rows from c on stand again n further on, their members moved likewise
+-- the rows r, where the first i rows from c on stand again n further on, their members moved
+-- likewise
 pub record Copied (c n i : ℕ) (r r' : List ℕ) : Type 0 where
   pub long : length r' ≡ length r
   pub member : length r ≡ 1024 → (p q : ℕ) → p < 256 → q < 256

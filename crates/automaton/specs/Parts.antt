@@ -1,5 +1,5 @@
--- The parts of a rule's automaton in one world, its positions numbered from `base` on: the sets of the written-out form as words.
--- Assumes nothing: these are definitions.
+-- The parts of a rule's automaton in one world, its positions numbered from `base` on: the sets of
+-- the written-out form as words. Assumes nothing: these are definitions.
 use mathlib.Core.Bool.{Bool, true, false, cond}
 use mathlib.Core.List.{List, [], _∷_, _++_}
 use Prim.Native.Nat.{ℕ, zero, suc, _+_, _-_}
@@ -31,7 +31,8 @@ unfoldable pub flat : List ByteSet → List ℕ
 flat [] = []
 flat (c ∷ cs) = fourWords c ++ flat cs
 
--- The world of a number: its binary digits are the assertions that hold, by their numbers in a node.
+-- The world of a number: its binary digits are the assertions that hold, by their numbers in a
+-- node.
 abbrev pub worldOf : ℕ → Assertion → Bool
 worldOf world a = on world (codeOf a)
 
@@ -56,6 +57,7 @@ noParts = record {
   takes = replicate 1024 0;
 }
 
--- The parts of a tree: of its written-out form, where its positions and those before them are at most 256 together.
+-- The parts of a tree: of its written-out form, where its positions and those before them are at
+-- most 256 together.
 unfoldable pub partsOf : Syntax → (base world : ℕ) → Parts
 partsOf t base world = cond (leb (base + positions (write t)) limit) (formParts (write t) base world) noParts

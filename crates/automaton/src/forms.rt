@@ -1,6 +1,7 @@
-// The written-out form, node by node: each function returns the fragment of its form, whose positions
-// are numbered from b on, adds its follow pairs to `follow` and writes its byte sets into `takes`. A
-// digit of `world` says whether the assertion of that number holds at the gaps. The node number falls.
+// The written-out form, node by node: each function returns the fragment of its form, whose
+// positions are numbered from b on, adds its follow pairs to `follow` and writes its byte sets into
+// `takes`. A digit of `world` says whether the assertion of that number holds at the gaps. The node
+// number falls.
 use crate::fragments;
 use crate::fragments::Fragment;
 use crate::items;
@@ -14,7 +15,8 @@ ghost use Rattle.nodes.specs.Nodes.{assertionOf};
 ghost use Rattle.automaton.specs.Parts.{worldOf};
 ghost use Rattle.automaton.specs.Invariants.{formAt, childForm, Room, Fresh, Built};
 
-// Whether the assertion of this number holds in a world. Every number above the last stands for the last.
+// Whether the assertion of this number holds in a world. Every number above the last stands for the
+// last.
 fn holds(world: u64, x: u64) -> bool
     ensures { λ r. ⌜ r ≡ worldOf world (assertionOf x) ⌝ }
 {

@@ -1,9 +1,11 @@
-// A piece of the automaton in one world, by value: its size, whether it matches nothing, and the sets that join it to what comes before and after.
+// A piece of the automaton in one world, by value: its size, whether it matches nothing, and the
+// sets that join it to what comes before and after.
 ghost use mathlib.Core.Path.{_≡_};
 ghost use Prim.Native.Nat.{_+_, _≤_, _<_};
 ghost use Rattle.automaton.specs.Invariants.{bareOf, oneOf, also, inTurn, choiceOf, optionalOf};
 
-// `null` says whether it matches nothing; `first` and `last` are the positions that can come first and last.
+// `null` says whether it matches nothing; `first` and `last` are the positions that can come first
+// and last.
 pub(super) struct Fragment {
     pub size: usize,
     pub null: bool,

@@ -1,4 +1,5 @@
-// Parts joined to what comes after them: what the next one starts with follows what this one ends with.
+// Parts joined to what comes after them: what the next one starts with follows what this one ends
+// with.
 use crate::fragments;
 use crate::fragments::Fragment;
 use crate::rows;

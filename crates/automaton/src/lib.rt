@@ -1,6 +1,7 @@
 // The builder: from the reader's numbered nodes to the position automaton of the written-out form:
-// first, last and follow sets, and the byte set of each position, by recursion over the nodes, the node
-// number falling. Each node is walked once: the copies of a repeat are made from its first one.
+// first, last and follow sets, and the byte set of each position, by recursion over the nodes, the
+// node number falling. Each node is walked once: the copies of a repeat are made from its first
+// one.
 mod copies;
 mod forms;
 mod fragments;
@@ -15,8 +16,9 @@ ghost use Rattle.regex.specs.Form.{write, positions};
 ghost use Rattle.nodes.specs.Nodes.{treeAt};
 ghost use Rattle.automaton.specs.Parts.{formParts, noParts, partsOf};
 
-// The parts of a rule's automaton in one world, its positions numbered from a base on. `fits` says that all of them are below 256; else the rest is zero. Row i
-// of `follow` and of `takes`, four words each, is that of the rule's position number i.
+// The parts of a rule's automaton in one world, its positions numbered from a base on. `fits` says
+// that all of them are below 256; else the rest is zero. Row i of `follow` and of `takes`, four
+// words each, is that of the rule's position number i.
 pub struct Parts {
     pub fits: bool,
     pub positions: usize,
@@ -61,7 +63,8 @@ fn whole(nodes: &[u64], root: usize, base: usize, world: u64) -> Parts
     }
 }
 
-// The parts of the tree of node `root`, its positions numbered from `base` on, where the assertions that hold are digits of `world`.
+// The parts of the tree of node `root`, its positions numbered from `base` on, where the assertions
+// that hold are digits of `world`.
 pub fn build(nodes: &[u64], root: usize, base: usize, world: u64) -> Parts
     ensures { λ r. ⌜ r ≡ partsOf (treeAt (now (nodes .entry)) root) base world ⌝ }
 {

@@ -1,5 +1,5 @@
-// A repeat, once its inside is built: the other copies are made from the one before. Child x of node k
-// and the world only say in the contracts what the part is: no node is walked here.
+// A repeat, once its inside is built: the other copies are made from the one before. Child x of
+// node k and the world only say in the contracts what the part is: no node is walked here.
 use crate::copies::again;
 use crate::fragments;
 use crate::fragments::Fragment;

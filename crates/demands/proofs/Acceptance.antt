@@ -1,5 +1,6 @@
--- An addition is accepted exactly when none of the reasons to refuse it holds: what rules proves of the answer (`accepts`) and what the pattern crate proves of
--- the reader (`accepted`), put together, reason by reason. Assumes nothing.
+-- An addition is accepted exactly when none of the reasons to refuse it holds: what rules proves of
+-- the answer (`accepts`) and what the pattern crate proves of the reading (`reads-if`), put
+-- together, reason by reason. Assumes nothing.
 use mathlib.Core.Path.{_≡_, refl, sym, ap, _∙_}
 use mathlib.Core.Logic.{_↔_}
 use mathlib.Core.Bool.{Bool, true, false, true≢false, _||_}
@@ -16,11 +17,10 @@ use Rattle.table.specs.Table.{knownFlags}
 use Rattle.regex.specs.Form.{write, positions}
 use Rattle.nodes.specs.Nodes.{Syntax}
 use Rattle.pattern.specs.Walk.{Read, tree, refused}
-use Rattle.pattern.specs.Read.{longest, optionsOf, answerOf}
-use Rattle.pattern.proofs.Answers.{accepted-tree}
-use Rattle.pattern.proofs.Accepted.{accepted}
-use Rattle.rules.specs.Additions.{Addition, Accepted, used, taken, readingOf, nextAnswer}
-use Rattle.rules.proofs.Readings.{reads}
+use Rattle.pattern.specs.Read.{longest, optionsOf}
+use Rattle.pattern.proofs.Accepted.{reads-if}
+use Rattle.rules.specs.Add.{Addition, readingOf}
+use Rattle.rules.specs.Additions.{Accepted, used, taken, nextAnswer}
 use Rattle.rules.proofs.Additions.{Accepts, accepts}
 use Rattle.demands.specs.Demands.{Refusal, unknown-flag, id-there, all-there, too-long, in-pattern, no-room}
 
@@ -51,25 +51,23 @@ module _ (rs : List Accepted) (a : Addition) where
   one-tree x y e = ap (λ (r : Read). elim r [ tree z ↦ z | refused i j ↦ x ]) e
 
   none-left : Accepts rs a → ¬ Refusal rs a
-  unfolding answerOf
   none-left c (unknown-flag h) = h (c .known)
   none-left c (id-there r m e) = true≢false (sym (taken-at rs (a .id) r m e) ∙ c .free)
   none-left c (all-there h) = omega (arith, c .few)
-  none-left c (too-long h) = omega (arith, reads (a .pattern) (optionsOf (a .flags)) (c .read) .0 (c .reading) .short)
-  none-left c (in-pattern n p r) =
-      accepted (a .pattern) (optionsOf (a .flags)) (reads (a .pattern) (optionsOf (a .flags)) (c .read) .0 (c .reading) .short) .0
-      (ap (λ (r : Read). answerOf r .number) (c .reading)) n p r
+  none-left c (too-long h) = omega (arith, c .short)
+  none-left c (in-pattern n p r) = reads-if (a .pattern) (optionsOf (a .flags)) .0 (c .read, c .reading) n p r
   none-left c (no-room x e h) =
       let same : positions (write (c .read)) ≡ positions (write x) = ap (λ (t : Syntax). positions (write t)) (one-tree (c .read) x (sym (c .reading) ∙ e)) in
       omega (arith, c .room)
 
   let-in : ¬ Refusal rs a → Accepts rs a
   let-in none =
-      let x = accepted-tree (a .pattern) (optionsOf (a .flags)) (answerOf (readingOf a)) refl (accepted (a .pattern) (optionsOf (a .flags)) short .1 (λ n p r. none (in-pattern n p r))) in
+      let x = reads-if (a .pattern) (optionsOf (a .flags)) .1 (λ n p r. none (in-pattern n p r)) in
       record {
         known = known (ℕ-discrete (bitAnd (a .flags) knownFlags) (a .flags));
         free = free (taken rs (a .id)) refl;
         few = few (decLt (length rs) maxRules);
+        short = short (decLe (length (a .pattern)) longest);
         read = x .0;
         reading = x .1;
         room = room (x .0) (x .1) (decLe (used rs + positions (write (x .0))) maxPositions);
@@ -87,12 +85,9 @@ module _ (rs : List Accepted) (a : Addition) where
       few (yes l) = l
       few (no n) = absurd (none (all-there (omega arith)))
 
-      by-length : Dec (length (a .pattern) ≤ longest) → length (a .pattern) ≤ longest
-      by-length (yes l) = l
-      by-length (no n) = absurd (none (too-long (omega arith)))
-
-      short : length (a .pattern) ≤ longest
-      short = by-length (decLe (length (a .pattern)) longest)
+      short : Dec (length (a .pattern) ≤ longest) → length (a .pattern) ≤ longest
+      short (yes l) = l
+      short (no n) = absurd (none (too-long (omega arith)))
 
       room : (x : Syntax) → readingOf a ≡ tree x → Dec (used rs + positions (write x) ≤ maxPositions) → used rs + positions (write x) ≤ maxPositions
       room x e (yes l) = l

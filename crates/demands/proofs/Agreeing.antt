@@ -24,7 +24,8 @@ use Rattle.table.proofs.GapBounds.{between-inner, beforeLast-follow, atEnd-last
 use Rattle.steps.specs.Step.{stepped, ends, endsNewly}
 use Rattle.steps.proofs.Late.{late-newly}
 use Rattle.stream.specs.declared.Stream.{Stream}
-use Rattle.stream.specs.Byte.{nextLive, nextHeld, nextPending, runIds, runMarks, twoIds, twoEnds, twoMarks, lateTest, ownTest, heldTest, endTest, byteIds, byteEnds, byteState, stateAfter, idsOf, endsOf, costOf, fits, closeIds, closeEnds}
+use Rattle.stream.specs.Byte.{after, given, nextLive, nextHeld, nextPending, runReports, runMarks, twoReports, twoMarks, lateTest, ownTest, heldTest, endTest, byteReports, byteState, plain, stateAfter, reportsOf, fits, closeReports}
+use Rattle.stream.proofs.Machines.{Agree as Machine-agree, same-after, same-reports, same-fits}
 
 -- what the two say of the rules and positions that they have
 pub record Agree (w v : Automaton) : Type 0 where
@@ -121,12 +122,12 @@ module _ (w v : Automaton) (same : Agree w v) where
   newly-agrees g there set in-set less known live in-live a lt =
       ap₂ (λ (b c : Bool). b && not c) (ends-agrees g there set in-set a lt) (ends-agrees less known live in-live a lt)
 
-  runs-agree : (f g : ℕ → Bool) (marks n : ℕ) → n ≤ w .rules → ((a : ℕ) → a < n → f a ≡ g a) → runIds w f marks n ≡ runIds v g marks n
-  unfolding runIds
-  runs-agree f g marks zero le e = refl
-  runs-agree f g marks (suc n) le e =
-      ap₂ _++_ (runs-agree f g marks n (omega arith) (λ a h. e a (omega arith)))
-      (ap₂ (λ (b : Bool) (i : ℕ). cond (b && not (on marks n)) (i ∷ []) []) (e n (omega arith)) (same .id n (omega arith)))
+  runs-agree : (f g : ℕ → Bool) (marks end n : ℕ) → n ≤ w .rules → ((a : ℕ) → a < n → f a ≡ g a) → runReports f marks (given w end) n ≡ runReports g marks (given v end) n
+  unfolding runReports
+  runs-agree f g marks end zero le e = refl
+  runs-agree f g marks end (suc n) le e =
+      ap₂ _++_ (runs-agree f g marks end n (omega arith) (λ a h. e a (omega arith)))
+      (ap₂ (λ (b : Bool) (i : ℕ). cond (b && not (on marks n)) (record { id = i; end = end } ∷ []) []) (e n (omega arith)) (same .id n (omega arith)))
 
   marks-agree : (f g : ℕ → Bool) (marks : ℕ) → ((a : ℕ) → a < w .rules → f a ≡ g a) → runMarks w f marks ≡ runMarks v g marks
   unfolding runMarks
@@ -134,21 +135,16 @@ module _ (w v : Automaton) (same : Agree w v) where
       wordOf-ext 64 _ _ (λ a h. ap (λ (b : Bool). on marks a || b) (below (w .rules) (v .rules) a _ _ (same .rules)
       (λ l. ap₂ (λ (i b : Bool). i && b) (same .once a l) (e a l))))
 
-  run-agrees : (f g : ℕ → Bool) (marks : ℕ) → ((a : ℕ) → a < w .rules → f a ≡ g a) → runIds w f marks (w .rules) ≡ runIds v g marks (v .rules)
-  run-agrees f g marks e = runs-agree f g marks (w .rules) (omega arith) e ∙ ap (runIds v g marks) (same .rules)
+  run-agrees : (f g : ℕ → Bool) (marks end : ℕ) → ((a : ℕ) → a < w .rules → f a ≡ g a) → runReports f marks (given w end) (w .rules) ≡ runReports g marks (given v end) (v .rules)
+  run-agrees f g marks end e = runs-agree f g marks end (w .rules) (omega arith) e ∙ ap (runReports g marks (given v end)) (same .rules)
 
   -- the two runs of a byte and of the closing
   module _ (f f′ g g′ : ℕ → Bool) (marks : ℕ) (one : (a : ℕ) → a < w .rules → f a ≡ f′ a) (two : (a : ℕ) → a < w .rules → g a ≡ g′ a) where
-    second-agrees : runIds w g (runMarks w f marks) (w .rules) ≡ runIds v g′ (runMarks v f′ marks) (v .rules)
-    second-agrees = run-agrees g g′ (runMarks w f marks) two ∙ ap (λ (m : ℕ). runIds v g′ m (v .rules)) (marks-agree f f′ marks one)
-
-    two-ids-agree : twoIds w f g marks ≡ twoIds v f′ g′ marks
-    unfolding twoIds
-    two-ids-agree = ap₂ _++_ (run-agrees f f′ marks one) second-agrees
-
-    two-ends-agree : (d e : ℕ) → twoEnds w f g marks d e ≡ twoEnds v f′ g′ marks d e
-    unfolding twoEnds
-    two-ends-agree d e = ap₂ (λ (l m : List ℕ). replicate (length l) d ++ replicate (length m) e) (run-agrees f f′ marks one) second-agrees
+    two-agree : (d e : ℕ) → twoReports w f g marks (given w d) (given w e) ≡ twoReports v f′ g′ marks (given v d) (given v e)
+    unfolding twoReports
+    two-agree d e =
+        ap₂ _++_ (run-agrees f f′ marks d one)
+        (run-agrees g g′ (runMarks w f marks) e two ∙ ap (λ (m : ℕ). runReports g′ m (given v e) (v .rules)) (marks-agree f f′ marks one))
 
     two-marks-agree : twoMarks w f g marks ≡ twoMarks v f′ g′ marks
     unfolding twoMarks
@@ -174,13 +170,9 @@ module _ (w v : Automaton) (same : Agree w v) where
     own-agrees a lt =
         ends-agrees unsettled (lit< tt) (nextLive w s x) (next-inside s x) a lt ∙ ap (λ (l : List ℕ). ends v unsettled l a) (next-agrees s x small)
 
-    ids-agree : byteIds w s x ≡ byteIds v s x
-    unfolding byteIds
-    ids-agree = two-ids-agree (lateTest w s x) (lateTest v s x) (ownTest w s x) (ownTest v s x) (s .reported) late-agrees own-agrees
-
-    ends-agree : byteEnds w s x ≡ byteEnds v s x
-    unfolding byteEnds
-    ends-agree = two-ends-agree (lateTest w s x) (lateTest v s x) (ownTest w s x) (ownTest v s x) (s .reported) late-agrees own-agrees (s .taken) (suc (s .taken))
+    reports-agree : byteReports w s x ≡ byteReports v s x
+    unfolding byteReports
+    reports-agree = two-agree (lateTest w s x) (lateTest v s x) (ownTest w s x) (ownTest v s x) (s .reported) late-agrees own-agrees (s .taken) (suc (s .taken))
 
     state-agrees : byteState w s x ≡ byteState v s x
     unfolding byteState
@@ -200,44 +192,28 @@ module _ (w v : Automaton) (same : Agree w v) where
   -- ---- the bytes of a block
 
   pub inside-after : (s : Stream) (block : List ℕ) → Inside s → (k : ℕ) → Inside (stateAfter w s block k)
-  unfolding stateAfter byteState
+  unfolding after byteState
   inside-after s block inside zero = inside
   inside-after s block inside (suc k) = (next-inside (stateAfter w s block k) (getD block k 0), held-inside (stateAfter w s block k) (getD block k 0))
 
   module _ (s : Stream) (inside : Inside s) (block : List ℕ) (small : (i : ℕ) → i < length block → getD block i 0 < 256) where
+    agree : Machine-agree (plain w) (plain v) (λ z. z) Inside (λ x. x < 256)
+    unfolding byteState
+    agree = record {
+      keeps = λ z x lt h. (next-inside z x, held-inside z x);
+      next-is = λ z x lt h. state-agrees z (h .0) x lt;
+      reports-are = λ z x lt h. reports-agree z (h .0) x lt;
+      cost-is = λ z h. refl;
+    }
+
     pub states-agree : (k : ℕ) → k ≤ length block → stateAfter w s block k ≡ stateAfter v s block k
-    unfolding stateAfter
-    states-agree zero le = refl
-    states-agree (suc k) le =
-        state-agrees (stateAfter w s block k) (inside-after s block inside k .0) (getD block k 0) (small k le) ∙ ap (λ (x : Stream). byteState v x (getD block k 0)) (states-agree k (omega arith))
+    states-agree = same-after agree s inside block small
 
-    pub all-ids-agree : (k : ℕ) → k ≤ length block → idsOf w s block k ≡ idsOf v s block k
-    unfolding idsOf
-    all-ids-agree zero le = refl
-    all-ids-agree (suc k) le =
-        ap₂ _++_ (all-ids-agree k (omega arith))
-        (ids-agree (stateAfter w s block k) (inside-after s block inside k .0) (getD block k 0) (small k le)
-        ∙ ap (λ (x : Stream). byteIds v x (getD block k 0)) (states-agree k (omega arith)))
-
-    pub all-ends-agree : (k : ℕ) → k ≤ length block → endsOf w s block k ≡ endsOf v s block k
-    unfolding endsOf
-    all-ends-agree zero le = refl
-    all-ends-agree (suc k) le =
-        ap₂ _++_ (all-ends-agree k (omega arith))
-        (ends-agree (stateAfter w s block k) (inside-after s block inside k .0) (getD block k 0) (small k le)
-        ∙ ap (λ (x : Stream). byteEnds v x (getD block k 0)) (states-agree k (omega arith)))
-
-    costs-agree : (k : ℕ) → k ≤ length block → costOf w s block k ≡ costOf v s block k
-    unfolding costOf
-    costs-agree zero le = refl
-    costs-agree (suc k) le = ap₂ (λ (n : ℕ) (x : Stream). n + suc (sizeOf (x .live))) (costs-agree k (omega arith)) (states-agree k (omega arith))
+    pub all-agree : (k : ℕ) → k ≤ length block → reportsOf w s block k ≡ reportsOf v s block k
+    all-agree = same-reports agree s inside block small
 
     pub fits-agree : (allowance room k : ℕ) → k ≤ length block → fits w s allowance block room k ≡ fits v s allowance block room k
-    unfolding fits
-    fits-agree allowance room zero le = refl
-    fits-agree allowance room (suc k) le =
-        ap₂ (λ (b : Bool) (n : ℕ). cond b (suc k) n)
-        (ap₂ (λ (l : List ℕ) (n : ℕ). leb (length l) room && leb n allowance) (all-ids-agree (suc k) le) (costs-agree (suc k) le)) (fits-agree allowance room k (omega arith))
+    fits-agree = same-fits agree s inside block small
 
   module _ (s : Stream) (inside : Inside s) where
     end-agrees : (a : ℕ) → a < w .rules → endTest w s a ≡ endTest v s a
@@ -245,10 +221,6 @@ module _ (w v : Automaton) (same : Agree w v) where
         newly-agrees (atEnd (s .last)) (atEnd-last (s .last)) (unionOf (s .live) (s .held)) (union-inside (s .live) (s .held) (inside .0) (inside .1))
         unsettled (lit< tt) (s .live) (inside .0) a lt
 
-    pub closing-agrees : closeIds w s ≡ closeIds v s
-    unfolding closeIds
-    closing-agrees = two-ids-agree (heldTest w s) (heldTest v s) (endTest w s) (endTest v s) (s .reported) (λ a lt. refl) end-agrees
-
-    pub closing-ends-agree : closeEnds w s ≡ closeEnds v s
-    unfolding closeEnds
-    closing-ends-agree = two-ends-agree (heldTest w s) (heldTest v s) (endTest w s) (endTest v s) (s .reported) (λ a lt. refl) end-agrees (s .taken - 1) (s .taken)
+    pub closing-agrees : closeReports w s ≡ closeReports v s
+    unfolding closeReports
+    closing-agrees = two-agree (heldTest w s) (heldTest v s) (endTest w s) (endTest v s) (s .reported) (λ a lt. refl) end-agrees (s .taken - 1) (s .taken)

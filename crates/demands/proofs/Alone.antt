@@ -1,5 +1,6 @@
--- One rule does not disturb another. Both joined lists are the ordered lists of their rules (demand 3), the ordered list kept to one id is that of the rule
--- alone, and there is only one. The rule alone is accepted, since what an addition needs is less in an emptied table.
+-- One rule does not disturb another. Both joined lists are the ordered lists of their rules (demand
+-- 3), the ordered list kept to one id is that of the rule alone, and there is only one. The rule
+-- alone is accepted, since what an addition needs is less in an emptied table.
 use mathlib.Core.Path.{_≡_, refl, sym, subst, ap, _∙_}
 use mathlib.Core.Logic.{_⊎_, inl, inr}
 use mathlib.Core.Bool.{Bool, true, false, cond}
@@ -13,12 +14,14 @@ use Rattle.regex.specs.Ordered.{Ordered, ofId}
 use Rattle.regex.proofs.Alone.{alone}
 use Rattle.regex.proofs.OneList.{one-answer}
 use Rattle.pattern.specs.Walk.{Read, tree, refused}
-use Rattle.rules.specs.Additions.{Addition, Accepted, ruleOf, used, readingOf, nextAnswer, withNew, afterNext, acceptedAfter}
-use Rattle.rules.proofs.Additions.{Accepts, accepts}
+use Rattle.rules.specs.Add.{Addition, readingOf}
+use Rattle.rules.specs.Additions.{Accepted, ruleOf, used, nextAnswer, withNew, afterNext, acceptedAfter}
+use Rattle.rules.proofs.Additions.{narrow-at, Accepts, accepts}
 use Rattle.rules.proofs.Encodes.{distinct}
 use Rattle.demands.specs.Chain.{additionsOf}
 use Rattle.demands.specs.Demands.{tableIn, acceptedIn, rulesIn, taken, joined}
 use Rattle.demands.specs.Alone.{Undisturbed, AcceptedAlone}
+use Rattle.demands.proofs.Chained.{narrow-ids}
 use Rattle.demands.proofs.Theorems.{demand3, built}
 
 pub undisturbed : Undisturbed
@@ -65,11 +68,11 @@ came r (a ∷ l) rs m = later (came r l (afterNext rs a) m)
 -- what one table accepts, an emptied one does
 accepts-first : (rs : List Accepted) (a : Addition) → Accepts rs a → nextAnswer [] a .number ≡ 0
 unfolding used Rattle.rules.specs.Additions.taken
-accepts-first rs a h = accepts [] a .1 (record { known = h .known; free = refl; few = omega arith; read = h .read; reading = h .reading; room = omega (arith, h .room) })
+accepts-first rs a h = accepts [] a .1 (record { known = h .known; free = refl; few = omega arith; short = h .short; read = h .read; reading = h .reading; room = omega (arith, h .room) })
 
 pub accepted-alone : AcceptedAlone
 unfolding acceptedAfter afterNext Gives
 accepted-alone c r there = elim (came r (additionsOf (c .steps)) [] there) [
   | inl n ↦ absurd (List·Memᴰ·not-nil n)
-  | inr g ↦ (g .0, g .1, ap (λ (b : Bool). cond b (withNew [] (g .0) (readingOf (g .0))) []) (eq-eqb (nextAnswer [] (g .0) .number) 0 (accepts-first (g .2 .0) (g .0) (g .2 .1))) ∙ g .2 .2)
+  | inr g ↦ (g .0, g .1, narrow-at (additionsOf (c .steps)) (narrow-ids (c .steps)) (g .0) (g .1), ap (λ (b : Bool). cond b (withNew [] (g .0) (readingOf (g .0))) []) (eq-eqb (nextAnswer [] (g .0) .number) 0 (accepts-first (g .2 .0) (g .0) (g .2 .1))) ∙ g .2 .2)
 ]

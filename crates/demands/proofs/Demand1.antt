@@ -22,7 +22,7 @@ use Rattle.stream.specs.declared.Stream.{Stream}
 use Rattle.stream.specs.declared.Opened.{Opened}
 use Rattle.stream.specs.declared.Scanned.{Scanned}
 use Rattle.stream.specs.declared.Closed.{Closed}
-use Rattle.stream.specs.Calls.{fresh, opened, space, scanNumber, closeNumber, scanned, scannedIds, scannedOffsets, closed, closedIds, closedOffsets}
+use Rattle.stream.specs.Calls.{Lists, Call, fresh, opened, space, closeNumber, callNumber, scanned, scannedLists, closed, closedLists}
 use Rattle.stream.proofs.Results.{accepted-scan, refused-scan, accepted-close, refused-close}
 use Rattle.stream.proofs.Stream.«open».Met.{met as open-met}
 use Rattle.stream.proofs.Stream.scan.Met.{met as scan-met}
@@ -57,38 +57,36 @@ open-refused t = go (isTable t)
     go true h = absurd (h refl)
     go false h = refl
 
-module _ (t : List ℕ) (s : Stream) (allowance : ℕ) (block ids offsets : List ℕ) (bad : ¬ (scanned t s allowance block ids offsets .number ≡ 0)) where
-  not-zero : ¬ (scanNumber t s (length block) (space ids offsets) ≡ 0)
-  not-zero ok = bad (ap (λ (a : Scanned). a .number) (accepted-scan t s allowance block ids offsets ok))
+module _ (t : List ℕ) (s : Stream) (c : Call) (bad : ¬ (scanned t s c .number ≡ 0)) where
+  not-zero : ¬ (callNumber t s c ≡ 0)
+  not-zero ok = bad (ap (λ (a : Scanned). a .number) (accepted-scan t s c ok))
 
-  scan-refused : ScanRefused t s allowance block ids offsets
-  unfolding scannedIds scannedOffsets
+  scan-refused : ScanRefused t s c
+  unfolding scannedLists
   scan-refused =
-      let r = refused-scan t s allowance block ids offsets not-zero in
-      let no = ne-eqb (scanNumber t s (length block) (space ids offsets)) 0 not-zero in
+      let r = refused-scan t s c not-zero in
+      let no = ne-eqb (callNumber t s c) 0 not-zero in
       record {
         taken = ap (λ (a : Scanned). a .taken) r;
         reports = ap (λ (a : Scanned). a .reports) r;
         used = ap (λ (a : Scanned). a .used) r;
         state = ap (λ (a : Scanned). a .stream) r;
-        ids-kept = rw no;
-        offsets-kept = rw no;
+        lists-kept = rw no;
       }
 
-module _ (t : List ℕ) (s : Stream) (ids offsets : List ℕ) (bad : ¬ (closed t s ids offsets .number ≡ 0)) where
-  not-zero′ : ¬ (closeNumber t s (space ids offsets) ≡ 0)
-  not-zero′ ok = bad (ap (λ (a : Closed). a .number) (accepted-close t s ids offsets ok))
+module _ (t : List ℕ) (s : Stream) (slots : Lists) (bad : ¬ (closed t s slots .number ≡ 0)) where
+  not-zero′ : ¬ (closeNumber t s (space slots) ≡ 0)
+  not-zero′ ok = bad (ap (λ (a : Closed). a .number) (accepted-close t s slots ok))
 
-  close-refused : CloseRefused t s ids offsets
-  unfolding closedIds closedOffsets
+  close-refused : CloseRefused t s slots
+  unfolding closedLists
   close-refused =
-      let r = refused-close t s ids offsets not-zero′ in
-      let no = ne-eqb (closeNumber t s (space ids offsets)) 0 not-zero′ in
+      let r = refused-close t s slots not-zero′ in
+      let no = ne-eqb (closeNumber t s (space slots)) 0 not-zero′ in
       record {
         reports = ap (λ (a : Closed). a .reports) r;
         state = ap (λ (a : Closed). a .stream) r;
-        ids-kept = rw no;
-        offsets-kept = rw no;
+        lists-kept = rw no;
       }
 
 none-shown : (tail block : List ℕ) (offset start end : ℕ) → ¬ (matchedNumber tail block offset start end ≡ 0) → matchedBytes tail block offset start end ≡ []
@@ -105,7 +103,7 @@ refusals : Refusals
 unfolding numberOf tableAfter
 refusals = record {
   emptying = λ t bad. kept t (emptying this) bad;
-  adding = λ t id flags pattern bad. kept t (adding this id flags pattern) bad;
+  adding = λ t a bad. kept t (adding this a) bad;
   added = accepted-place;
   opening = open-refused;
   scanning = scan-refused;

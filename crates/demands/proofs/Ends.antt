@@ -3,7 +3,7 @@
 use mathlib.Core.Path.{_≡_, sym, ap, _∙_}
 use mathlib.Core.Bool.{Bool, true, false, cond, _&&_}
 use mathlib.Core.List.{List}
-use Prim.Native.Nat.{ℕ}
+use Prim.Native.Nat.{ℕ, _^_, _<_}
 use native.Mathlib.Omega.{arith}
 use lib.Dec.{eqb}
 use lib.ListN.{length}
@@ -11,8 +11,7 @@ use borrow.Author.Tests.{ne-eqb}
 use Rattle.table.specs.Layout.{rulesOf}
 use Rattle.table.specs.Table.{isTable}
 use Rattle.table.specs.Automaton.{automaton}
-use Rattle.rules.specs.Add.{addAnswer, addWords}
-use Rattle.rules.specs.Additions.{Addition}
+use Rattle.rules.specs.Add.{Addition, addAnswer, addWords}
 use Rattle.rules.proofs.Checks.{accepted-rules, accepted-passes}
 use Rattle.stream.specs.declared.Stream.{Stream}
 use Rattle.stream.specs.declared.Closed.{Closed}
@@ -33,12 +32,12 @@ module _ (y z : Bool) (n : ℕ) (table : y ≡ true) where
 
 -- ---- an accepted addition
 
-module _ (t : List ℕ) (a : Addition) (ok : addAnswer t (a .id) (a .flags) (a .pattern) .number ≡ 0) where
+module _ (t : List ℕ) (a : Addition) (narrow : a .id < 2 ^ 32) (ok : addAnswer t a .number ≡ 0) where
   abbrev u : List ℕ
-  u = addWords t (a .id) (a .flags) (a .pattern)
+  u = addWords t a
 
   table : isTable u ≡ true
-  table = accepted-passes t (a .id) (a .flags) (a .pattern) ok (a .narrow)
+  table = accepted-passes t a ok narrow
 
   module _ (s : Stream) (fits : valid (automaton t) s ≡ true) where
     -- the state has the old count
@@ -49,37 +48,37 @@ module _ (t : List ℕ) (a : Addition) (ok : addAnswer t (a .id) (a .flags) (a .
     unfolding valid sameCounts
     bad =
         ap (λ (z : Bool). (z && eqb (s .positions) (automaton u .positions)) && (liveInside (automaton u) s && (marksSingle (automaton u) s && (underLimit s && (heldInside (automaton u) s && (pendingInside (automaton u) s && pendingLate s))))))
-        (ne-eqb (s .rules) (automaton u .rules) (λ e. omega (arith, accepted-rules t (a .id) (a .flags) (a .pattern) ok, count, e, rules-at u)))
+        (ne-eqb (s .rules) (automaton u .rules) (λ e. omega (arith, accepted-rules t a ok, count, e, rules-at u)))
 
 pub addition-ends-streams : AdditionEndsStreams
 unfolding scanNumber closeNumber
-addition-ends-streams t a ok s fits allowance block ids offsets = (
-  scan-number (u t a ok) s allowance block ids offsets ∙ unfit (isTable (u t a ok)) (valid (automaton (u t a ok)) s) _ (table t a ok) (bad t a ok s fits),
-  close-number-is (u t a ok) s ids offsets ∙ unfit (isTable (u t a ok)) (valid (automaton (u t a ok)) s) _ (table t a ok) (bad t a ok s fits),
+addition-ends-streams t a narrow ok s fits c = (
+  scan-number (u t a narrow ok) s c ∙ unfit (isTable (u t a narrow ok)) (valid (automaton (u t a narrow ok)) s) _ (table t a narrow ok) (bad t a narrow ok s fits),
+  close-number-is (u t a narrow ok) s (c .slots) ∙ unfit (isTable (u t a narrow ok)) (valid (automaton (u t a narrow ok)) s) _ (table t a narrow ok) (bad t a narrow ok s fits),
 )
 
 -- ---- an accepted closing
 
 pub closing-ends-stream : ClosingEndsStream
 unfolding scanNumber closeNumber
-closing-ends-stream t s ids offsets ok allowance block laterIds laterOffsets = (
-  scan-number t after allowance block laterIds laterOffsets ∙ fit (isTable t) (valid (automaton t) after) _ is-table fits
-      ∙ ap (λ (b : Bool). cond b 19 (cond (overLimit after (length block)) 21 (spaceNumber t (space laterIds laterOffsets)))) shut,
-  close-number-is t after laterIds laterOffsets ∙ fit (isTable t) (valid (automaton t) after) _ is-table fits
-      ∙ ap (λ (b : Bool). cond b 19 (spaceNumber t (space laterIds laterOffsets))) shut,
+closing-ends-stream t s slots ok c = (
+  scan-number t after c ∙ fit (isTable t) (valid (automaton t) after) _ is-table fits
+      ∙ ap (λ (b : Bool). cond b 19 (cond (overLimit after (length (c .block))) 21 (spaceNumber t (space (c .slots))))) shut,
+  close-number-is t after (c .slots) ∙ fit (isTable t) (valid (automaton t) after) _ is-table fits
+      ∙ ap (λ (b : Bool). cond b 19 (spaceNumber t (space (c .slots)))) shut,
 )
   where
     after : Stream
-    after = closed t s ids offsets .stream
+    after = closed t s slots .stream
 
-    number : closeNumber t s (space ids offsets) ≡ 0
-    number = sym (close-number-is t s ids offsets) ∙ ok
+    number : closeNumber t s (space slots) ≡ 0
+    number = sym (close-number-is t s slots) ∙ ok
 
     is-table : isTable t ≡ true
-    is-table = accepted t s 0 (space ids offsets) (close-number t s (space ids offsets) ∙ number) .table
+    is-table = accepted t s 0 (space slots) (close-number t s (space slots) ∙ number) .table
 
     fits : valid (automaton t) after ≡ true
-    fits = closed-valid t s ids offsets ok
+    fits = closed-valid t s slots ok
 
     shut : after .closed ≡ true
-    shut = ap (λ (c : Closed). c .stream .closed) (accepted-close t s ids offsets number)
+    shut = ap (λ (c : Closed). c .stream .closed) (accepted-close t s slots number)

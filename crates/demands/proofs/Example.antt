@@ -31,7 +31,7 @@ use Rattle.pattern.specs.Walk.{chained, chosen, one, repeating, closing, openin
 use Rattle.pattern.specs.Read.{judged, readOf, optionsOf}
 use Rattle.steps.specs.Step.{stepped, ends, endsNewly, latesOf}
 use Rattle.stream.specs.declared.Stream.{Stream}
-use Rattle.stream.specs.Byte.{nextHeld, nextPending, runIds, runMarks, twoIds, twoEnds, twoMarks, byteIds, byteEnds, byteState, stateAfter, idsOf, endsOf, costOf, fits, closeIds, closeEnds}
+use Rattle.stream.specs.Byte.{after, nextHeld, nextPending, runReports, runMarks, twoReports, twoMarks, byteReports, byteState, reportsBy, costBy, fitsBy, closeReports}
 use Rattle.stream.specs.Calls.{opened, scanNumber}
 use Rattle.stream.proofs.Results.{opened-valid}
 use Rattle.rules.specs.declared.Added.{Added}
@@ -58,7 +58,7 @@ module _ (words : List ℕ) (long : tableWords ≤ length words) where
 
   -- by the accepted rule alone: its id is taken, and this is what the calls give
   computes : (nextAnswer (acceptedIn c) (rule 5 0 "a") .number ≡ 3) × (run (computedOf (acceptedIn c)) (startOf (acceptedIn c)) (callsIn items) ≡ outcomes)
-  unfolding callsIn scanLeft closeLeft gives moves run items outcomes on has setOf wordOf any emptySet insertedRange unionOf complementOf inserted fullSet isDigit isLower isUpper isBlank otherCase caseClosed digitOf digits valueFrom blanks numeralOf bracedOf shortOf flipped64 raised controlOf typeOf namedOf placedOf hexOf octalOf isAlpha isAlnum escapeOf lower isMark gapOf names begins named nameAmong nameOf bracketOf memberOf rangeFault jointOf memberAt membersOf classOf joined settled lettersOf beforeClose commentOf openingOf bounded open-ended bracesOf formOf marked quantifierOf escaped unquotedOf lexemeOf itemSet copied capped saturating nullable write positions repeated copies optionals null first last follow byteSets chained chosen one repeating closing opening act next finish walk judged readOf optionsOf unknownFlag placed used taken nextAnswer withNew afterNext acceptedAfter laid insert into owner ownerPlace computed gapBetween beforeLast atEnd atStart gapBefore firstGap sideOf isWord stepped ends endsNewly latesOf intersectionOf nextHeld nextPending runIds runMarks twoIds twoEnds twoMarks byteIds byteEnds byteState closeIds closeEnds all bytes stateAfter idsOf endsOf costOf fits sizeOf count zip mathlib.Core.List.zipWith additionsOf steps isCntrl anyRaw withRaw spelledAt spelledOf
+  unfolding callsIn scanLeft closeLeft gives moves run items outcomes on has setOf wordOf any emptySet insertedRange unionOf complementOf inserted fullSet isDigit isLower isUpper isBlank otherCase caseClosed digitOf digits valueFrom blanks numeralOf bracedOf shortOf flipped64 raised controlOf typeOf namedOf placedOf hexOf octalOf isAlpha isAlnum escapeOf lower isMark gapOf names begins named nameAmong nameOf bracketOf memberOf rangeFault jointOf memberAt membersOf classOf joined settled lettersOf beforeClose commentOf openingOf bounded open-ended bracesOf formOf marked quantifierOf escaped unquotedOf lexemeOf itemSet copied capped saturating nullable write positions repeated copies optionals null first last follow byteSets chained chosen one repeating closing opening act next finish walk judged readOf optionsOf unknownFlag placed used taken nextAnswer withNew afterNext acceptedAfter laid insert into owner ownerPlace computed gapBetween beforeLast atEnd atStart gapBefore firstGap sideOf isWord stepped ends endsNewly latesOf intersectionOf nextHeld nextPending runReports runMarks twoReports twoMarks byteReports byteState closeReports all bytes after reportsBy costBy fitsBy sizeOf count zip mathlib.Core.List.zipWith additionsOf steps isCntrl anyRaw withRaw spelledAt spelledOf
   computes = (refl, refl)
 
   -- before the opening: the state is closed

@@ -2,12 +2,12 @@
 -- gives, which computes. Assumes nothing.
 use mathlib.Core.Path.{_≡_, refl, sym, subst, ap, ap₂, _∙_}
 use mathlib.Core.Bool.{Bool, true, false, cond, true≢false, _&&_}
-use mathlib.Core.List.{List, [], _∷_, _++_, zip}
+use mathlib.Core.List.{List, [], _∷_, _++_, map}
 use Prim.Native.Nat.{ℕ, suc, _+_, _-_, _*_, _≤_}
 use Prim.Native.String.{String}
 use native.Mathlib.Omega.{arith}
 use lib.Dec.{T, eqb, leb, ltb, eqb→eq, leb→le, ltb→lt}
-use lib.ListN.{length, getD}
+use lib.ListN.{length, getD, length-map}
 use borrow.Author.Tests.{le-ltb}
 use Rattle.sets.proofs.Laws.{has-empty}
 use Rattle.table.specs.Layout.{maxRules}
@@ -15,11 +15,12 @@ use Rattle.table.specs.Table.{all, isTable}
 use Rattle.table.specs.Automaton.{Automaton, automaton}
 use Rattle.table.proofs.Test.{all-at, accepted as passing}
 use Rattle.stream.specs.declared.Stream.{Stream}
-use Rattle.stream.specs.Byte.{byteIds, byteEnds, byteState, stateAfter, idsOf, endsOf, fits, closeIds, closeEnds}
+use Rattle.stream.specs.Byte.{after, reportsBy, byteReports, byteState, plain, stateAfter, fits}
 use Rattle.stream.specs.Valid.{streamLimit}
-use Rattle.stream.specs.Calls.{fresh, opened, space}
+use Rattle.stream.specs.Calls.{Lists, fresh, opened, space}
 use Rattle.stream.proofs.Results.{opened-stream, opened-valid}
-use Rattle.stream.proofs.Blocks.{cost-few, fits-is, ends-count, closed-after, two-parts}
+use Rattle.stream.proofs.Machines.{fits-is, two-parts}
+use Rattle.stream.proofs.Blocks.{cost-few, closed-after}
 use Rattle.regex.specs.Ordered.{Pair}
 use Rattle.regex.proofs.Logic.{and-T, true-T}
 use Rattle.rules.specs.Additions.{Accepted, used}
@@ -27,16 +28,10 @@ use Rattle.rules.proofs.Additions.{Built}
 use Rattle.demands.specs.Chain.{Outcome, by-scan, by-close, outcomesOf, begun, OthersRefused, Bytes}
 use Rattle.demands.specs.Cases.{bytes, Log, callsOn, expected, Gives}
 use Rattle.demands.proofs.Carried.{rules-at}
-use Rattle.demands.proofs.Bytewise.{pairsOf, pairs-append}
+use Rattle.demands.proofs.Bytewise.{pairOf, pairsTo, pairsAtEnd, pairsOf, pairs-append}
 use Rattle.demands.proofs.Agreeing.{Agree, Inside}
 use Rattle.demands.proofs.Computing.{computedOf, built-agrees}
 use Rattle.demands.proofs.Outcomes.{scans, closes, callsIn, scanLeft, closeLeft, gives, moves, run, followed, BytesIn, runs-same}
-
-pub zip-length : (a b : List ℕ) → length b ≡ length a → length (zip a b) ≡ length a
-unfolding zip mathlib.Core.List.zipWith
-zip-length [] b e = refl
-zip-length (x ∷ a) [] e = absurd (omega (arith, e))
-zip-length (x ∷ a) (y ∷ b) e = ap suc (zip-length a b (omega (arith, e)))
 
 -- whether two lists of pairs are the same
 unfoldable pub same : List Pair → List Pair → Bool
@@ -71,22 +66,22 @@ module _ (w : Automaton) where
 
   unfoldable pub passed : Stream → List ℕ → List Pair
   passed s [] = []
-  passed s (x ∷ l) = zip (byteIds w s x) (byteEnds w s x) ++ passed (byteState w s x) l
+  passed s (x ∷ l) = map pairOf (byteReports w s x) ++ passed (byteState w s x) l
 
   -- the pairs that the closing reports
   unfoldable pub final : Stream → List Pair
-  final s = zip (closeIds w s) (closeEnds w s)
+  final s = pairsAtEnd w s
 
   pass-is : (block : List ℕ) (s : Stream) → stateAfter w s block (length block) ≡ pass s block
-  unfolding pass stateAfter
+  unfolding pass after
   pass-is [] s = refl
-  pass-is (x ∷ l) s = two-parts w s (x ∷ []) l .state ∙ pass-is l (byteState w s x)
+  pass-is (x ∷ l) s = two-parts (plain w) s (x ∷ []) l .state ∙ pass-is l (byteState w s x)
 
   passed-is : (block : List ℕ) (s : Stream) → pairsOf w s block ≡ passed s block
-  unfolding passed stateAfter idsOf endsOf zip mathlib.Core.List.zipWith
+  unfolding passed after reportsBy
   passed-is [] s = refl
   passed-is (x ∷ l) s =
-      pairs-append w s (x ∷ []) l ∙ ap (λ (r : List Pair). zip (byteIds w s x) (byteEnds w s x) ++ r) (passed-is l (byteState w s x))
+      pairs-append w s (x ∷ []) l ∙ ap (λ (r : List Pair). map pairOf (byteReports w s x) ++ r) (passed-is l (byteState w s x))
 
   -- ---- every block taken whole
 
@@ -124,14 +119,14 @@ module _ (w : Automaton) where
     below-limit : s .taken + length block ≤ streamLimit
     below-limit = leb→le (s .taken + length block) streamLimit (rest .0)
 
-    few : passed s block ≡ b .1 → length (idsOf w s block (length block)) ≤ maxRules
+    few : passed s block ≡ b .1 → length (reportsBy (plain w) s block (length block)) ≤ maxRules
     few is =
         omega (
           arith,
           leb→le (length (b .1)) maxRules (rest .1),
           sym (ap length is),
           ap length (passed-is block s),
-          zip-length (idsOf w s block (length block)) (endsOf w s block (length block)) (ends-count w s block (length block)),
+          length-map (reportsBy (plain w) s block (length block)) pairOf,
         )
 
   module _ (few-rules : w .rules ≤ maxRules) (s : Stream) (running : s .closed ≡ false) where
@@ -153,8 +148,8 @@ module _ (w : Automaton) where
         let block : List ℕ = bytes (b .0) in
         let number : scanLeft (w .rules) s (length block) room ≡ 0 = scan-open (length block) room (below-limit s b ok) wide in
         let taken : fits w s (257 * length block) block room (length block) ≡ length block =
-        fits-is w s block (257 * length block) room (length block) (length block) (omega arith) (omega (arith, few s b ok same)) (cost-few w s block (length block)) (λ lt. absurd (omega arith)) in (
-          ap₂ (λ (n k : ℕ). cond (eqb n 0) (by-scan 0 k (zip (idsOf w s block k) (endsOf w s block k))) (by-scan n 0 [])) number taken
+        fits-is (plain w) s block (257 * length block) room (length block) (length block) (omega arith) (omega (arith, few s b ok same)) (cost-few w s block (length block)) (λ lt. absurd (omega arith)) in (
+          ap₂ (λ (n k : ℕ). cond (eqb n 0) (by-scan 0 k (pairsTo w s block k)) (by-scan n 0 [])) number taken
               ∙ ap (by-scan 0 (length block)) (passed-is block s ∙ same),
           ap₂ (λ (n k : ℕ). cond (eqb n 0) (stateAfter w s block k) s) number taken ∙ pass-is block s,
         )
@@ -162,25 +157,25 @@ module _ (w : Automaton) where
     close-whole : (room : ℕ) → 2 * maxRules ≤ room → gives w s (closes room) ≡ by-close 0 (final s)
     unfolding gives final
     close-whole room wide =
-        ap (λ (n : ℕ). cond (eqb n 0) (by-close 0 (zip (closeIds w s) (closeEnds w s))) (by-close n [])) (close-open room wide)
+        ap (λ (n : ℕ). cond (eqb n 0) (by-close 0 (pairsAtEnd w s)) (by-close n [])) (close-open room wide)
 
   still-running : (block : List ℕ) (s : Stream) → s .closed ≡ false → pass s block .closed ≡ false
   still-running block s running = ap (λ (x : Stream). x .closed) (sym (pass-is block s)) ∙ closed-after w s block (length block) ∙ running
 
-  roomy : w .rules ≤ maxRules → (bs : List (String × List Pair)) (closing : List Pair) (lent : ℕ → List ℕ × List ℕ)
-      → ((i : ℕ) → 2 * maxRules ≤ space (lent i .0) (lent i .1)) → (s : Stream) → s .closed ≡ false → T (follows s bs closing)
+  roomy : w .rules ≤ maxRules → (bs : List (String × List Pair)) (closing : List Pair) (lent : ℕ → Lists)
+      → ((i : ℕ) → 2 * maxRules ≤ space (lent i)) → (s : Stream) → s .closed ≡ false → T (follows s bs closing)
       → run w s (callsIn (callsOn bs lent)) ≡ expected bs closing
   unfolding callsOn callsIn run expected follows
   roomy few [] closing lent wide s running h =
-      ap (λ (o : Outcome). o ∷ []) (close-whole few s running (space (lent 0 .0) (lent 0 .1)) (wide 0) ∙ ap (by-close 0) (same-eq (final s) closing h))
+      ap (λ (o : Outcome). o ∷ []) (close-whole few s running (space (lent 0)) (wide 0) ∙ ap (by-close 0) (same-eq (final s) closing h))
   roomy few (b ∷ bs) closing lent wide s running h =
       let n = next-block s b bs closing h in
-      let g = scan-whole few s running b (n .0) (n .1) (space (lent 0 .0) (lent 0 .1)) (wide 0) in
+      let g = scan-whole few s running b (n .0) (n .1) (space (lent 0)) (wide 0) in
       ap₂ (λ (o : Outcome) (r : List Outcome). o ∷ r) (g .0)
       (ap (λ (x : Stream). run w x (callsIn (callsOn bs (λ i. lent (suc i))))) (g .1)
       ∙ roomy few bs closing (λ i. lent (suc i)) (λ i. wide (suc i)) (pass s (bytes (b .0))) (still-running (bytes (b .0)) s running) (n .2))
 
-  bytes-in : (bs : List (String × List Pair)) (closing : List Pair) (lent : ℕ → List ℕ × List ℕ) (s : Stream) → T (follows s bs closing)
+  bytes-in : (bs : List (String × List Pair)) (closing : List Pair) (lent : ℕ → Lists) (s : Stream) → T (follows s bs closing)
       → BytesIn (callsIn (callsOn bs lent))
   unfolding callsOn callsIn BytesIn
   bytes-in [] closing lent s h = tt
@@ -189,7 +184,7 @@ module _ (w : Automaton) where
       (of-bytes s b (n .0), bytes-in bs closing (λ i. lent (suc i)) (pass s (bytes (b .0))) (n .2))
 
 -- there are no other calls
-none-other : (t : List ℕ) (bs : List (String × List Pair)) (lent : ℕ → List ℕ × List ℕ) (s : Stream) → OthersRefused t s (callsOn bs lent)
+none-other : (t : List ℕ) (bs : List (String × List Pair)) (lent : ℕ → Lists) (s : Stream) → OthersRefused t s (callsOn bs lent)
 unfolding callsOn OthersRefused
 none-other t [] lent s = tt
 none-other t (b ∷ bs) lent s = none-other t bs (λ i. lent (suc i)) _
@@ -220,7 +215,7 @@ module _ (t : List ℕ) (rs : List Accepted) (built : Built t rs) where
   pub log-gives : (log : Log) → T (follows (computedOf rs) (startOf rs) (log .blocks) (log .closing)) → Gives t log
   log-gives log h = (opens, λ lent wide. calls-give lent wide)
     where
-      calls-give : (lent : ℕ → List ℕ × List ℕ) → ((i : ℕ) → 2 * maxRules ≤ space (lent i .0) (lent i .1))
+      calls-give : (lent : ℕ → Lists) → ((i : ℕ) → 2 * maxRules ≤ space (lent i))
           → outcomesOf t (begun t) (callsOn (log .blocks) lent) ≡ expected (log .blocks) (log .closing)
       calls-give lent wide =
           let v : Automaton = computedOf rs in

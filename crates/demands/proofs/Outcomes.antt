@@ -3,7 +3,7 @@
 use mathlib.Core.Path.{_≡_, refl, sym, subst, ap, ap₂, _∙_}
 use mathlib.Core.Logic.{inl, inr}
 use mathlib.Core.Bool.{Bool, true, false, cond}
-use mathlib.Core.List.{List, [], _∷_, _++_, zip}
+use mathlib.Core.List.{List, [], _∷_, _++_, map, zip}
 use Prim.Native.Nat.{ℕ, zero, suc, _-_, _*_, _≤_}
 use native.Mathlib.Omega.{arith}
 use native.Mathlib.Decide.{ℕ-discrete}
@@ -15,26 +15,27 @@ use Rattle.table.specs.Automaton.{Automaton, automaton}
 use Rattle.stream.specs.declared.Stream.{Stream}
 use Rattle.stream.specs.declared.Scanned.{Scanned}
 use Rattle.stream.specs.declared.Closed.{Closed}
-use Rattle.stream.specs.Byte.{stateAfter, idsOf, endsOf, fits, closeIds, closeEnds}
+use Rattle.stream.specs.Byte.{plain, stateAfter, fits}
 use Rattle.stream.specs.Valid.{valid}
-use Rattle.stream.specs.Calls.{space, spaceNumber, scanNumber, closeNumber, takenBy, scanned, scannedIds, scannedOffsets, shut, closed, closedIds, closedOffsets, overLimit}
-use Rattle.stream.proofs.Blocks.{fits-le}
+use Rattle.stream.specs.Calls.{Lists, Call, space, spaceNumber, scanNumber, closeNumber, callNumber, takenBy, scanned, scannedLists, shut, closed, closedLists, overLimit}
+use Rattle.stream.proofs.Machines.{fits-le}
 use Rattle.stream.proofs.Results.{accepted-scan, refused-scan, accepted-close, refused-close}
 use Rattle.regex.specs.Ordered.{Pair}
 use Rattle.demands.specs.Chain.{Item, scan, close, other, tableAfter, reportsIn, bytesOf, reportsOf, Outcome, by-scan, by-close, outcomesOf, OthersRefused, Closes, Bytes}
+use Rattle.demands.proofs.Bytewise.{pairOf, pairsTo, pairsAtEnd}
 use Rattle.demands.proofs.Chained.{kept, scan-reports, close-reports}
 use Rattle.demands.proofs.Validity.{scan-valid, close-valid}
-use Rattle.demands.proofs.Agreeing.{Agree, Inside, states-agree, all-ids-agree, all-ends-agree, fits-agree, inside-after, closing-agrees, closing-ends-agree}
+use Rattle.demands.proofs.Agreeing.{Agree, Inside, states-agree, all-agree, fits-agree, inside-after, closing-agrees}
 
 -- a call of the stream, of whose lent lists only the space counts
-pub data Call : Type 0 where
-  scans : (allowance : ℕ) (block : List ℕ) (room : ℕ) → Call
-  closes : (room : ℕ) → Call
+pub data Asked : Type 0 where
+  scans : (allowance : ℕ) (block : List ℕ) (room : ℕ) → Asked
+  closes : (room : ℕ) → Asked
 
-unfoldable pub callsIn : List Item → List Call
+unfoldable pub callsIn : List Item → List Asked
 callsIn [] = []
-callsIn (scan allowance block ids offsets ∷ l) = scans allowance block (space ids offsets) ∷ callsIn l
-callsIn (close ids offsets ∷ l) = closes (space ids offsets) ∷ callsIn l
+callsIn (scan c ∷ l) = scans (c .allowance) (c .block) (space (c .slots)) ∷ callsIn l
+callsIn (close slots ∷ l) = closes (space slots) ∷ callsIn l
 callsIn (other o ∷ l) = callsIn l
 
 -- the numbers that are left once table and state fit
@@ -48,25 +49,18 @@ module _ (w : Automaton) where
   abbrev bytesTaken : Stream → ℕ → List ℕ → ℕ → ℕ
   bytesTaken s allowance block room = fits w s allowance block room (length block)
 
-  -- the pairs of the first k bytes of a block, and of the closing
-  abbrev pairsTo : Stream → List ℕ → ℕ → List Pair
-  pairsTo s block k = zip (idsOf w s block k) (endsOf w s block k)
-
-  abbrev pairsAtEnd : Stream → List Pair
-  pairsAtEnd s = zip (closeIds w s) (closeEnds w s)
-
   -- what a call gives, and the state after it
-  unfoldable pub gives : Stream → Call → Outcome
+  unfoldable pub gives : Stream → Asked → Outcome
   gives s (scans allowance block room) =
       let number : ℕ = scanLeft (w .rules) s (length block) room in
-      cond (eqb number 0) (by-scan 0 (bytesTaken s allowance block room) (pairsTo s block (bytesTaken s allowance block room))) (by-scan number 0 [])
-  gives s (closes room) = let number : ℕ = closeLeft (w .rules) s room in cond (eqb number 0) (by-close 0 (pairsAtEnd s)) (by-close number [])
+      cond (eqb number 0) (by-scan 0 (bytesTaken s allowance block room) (pairsTo w s block (bytesTaken s allowance block room))) (by-scan number 0 [])
+  gives s (closes room) = let number : ℕ = closeLeft (w .rules) s room in cond (eqb number 0) (by-close 0 (pairsAtEnd w s)) (by-close number [])
 
-  unfoldable pub moves : Stream → Call → Stream
+  unfoldable pub moves : Stream → Asked → Stream
   moves s (scans allowance block room) = cond (eqb (scanLeft (w .rules) s (length block) room) 0) (stateAfter w s block (bytesTaken s allowance block room)) s
   moves s (closes room) = cond (eqb (closeLeft (w .rules) s room) 0) (shut s) s
 
-  unfoldable pub run : Stream → List Call → List Outcome
+  unfoldable pub run : Stream → List Asked → List Outcome
   run s [] = []
   run s (c ∷ l) = gives s c ∷ run (moves s c) l
 
@@ -81,75 +75,73 @@ module _ (t : List ℕ) (table : isTable t ≡ true) (s : Stream) (fit : valid (
   unfolding closeNumber closeLeft spaceNumber automaton
   close-left room = rw (table, fit)
 
-  module _ (allowance : ℕ) (block ids offsets : List ℕ) where
+  module _ (c : Call) where
     abbrev left : ℕ
-    left = scanLeft (automaton t .rules) s (length block) (space ids offsets)
+    left = scanLeft (automaton t .rules) s (length (c .block)) (space (c .slots))
 
     abbrev k : ℕ
-    k = fits (automaton t) s allowance block (space ids offsets) (length block)
+    k = fits (automaton t) s (c .allowance) (c .block) (space (c .slots)) (length (c .block))
 
     abbrev given : Outcome
-    given =
-        by-scan (scanned t s allowance block ids offsets .number) (scanned t s allowance block ids offsets .taken)
-        (reportsIn (scanned t s allowance block ids offsets .reports) (scannedIds t s allowance block ids offsets) (scannedOffsets t s allowance block ids offsets))
+    given = by-scan (scanned t s c .number) (scanned t s c .taken) (reportsIn (scanned t s c .reports) (scannedLists t s c))
 
-    scan-gives : (given ≡ gives (automaton t) s (scans allowance block (space ids offsets)))
-        × (scanned t s allowance block ids offsets .stream ≡ moves (automaton t) s (scans allowance block (space ids offsets)))
+    scan-gives : (given ≡ gives (automaton t) s (scans (c .allowance) (c .block) (space (c .slots))))
+        × (scanned t s c .stream ≡ moves (automaton t) s (scans (c .allowance) (c .block) (space (c .slots))))
     unfolding gives moves takenBy zip mathlib.Core.List.zipWith
-    scan-gives = go (ℕ-discrete (scanNumber t s (length block) (space ids offsets)) 0)
+    scan-gives = go (ℕ-discrete (callNumber t s c) 0)
       where
-        e : scanNumber t s (length block) (space ids offsets) ≡ left
-        e = scan-left (length block) (space ids offsets)
+        e : callNumber t s c ≡ left
+        e = scan-left (length (c .block)) (space (c .slots))
 
-        go : Dec (scanNumber t s (length block) (space ids offsets) ≡ 0)
-            → (given ≡ cond (eqb left 0) (by-scan 0 k (zip (idsOf (automaton t) s block k) (endsOf (automaton t) s block k))) (by-scan left 0 []))
-            × (scanned t s allowance block ids offsets .stream ≡ cond (eqb left 0) (stateAfter (automaton t) s block k) s)
+        go : Dec (callNumber t s c ≡ 0)
+            → (given ≡ cond (eqb left 0) (by-scan 0 k (pairsTo (automaton t) s (c .block) k)) (by-scan left 0 []))
+            × (scanned t s c .stream ≡ cond (eqb left 0) (stateAfter (automaton t) s (c .block) k) s)
         go (yes ok) =
-            let r = accepted-scan t s allowance block ids offsets ok in
+            let r = accepted-scan t s c ok in
             let z : eqb left 0 ≡ true = eq-eqb left 0 (sym e ∙ ok) in (
-              ap₂ (λ (a : Scanned) (l : List Pair). by-scan (a .number) (a .taken) l) r (scan-reports t s allowance block ids offsets ok)
-                  ∙ sym (ap (λ (b : Bool). cond b (by-scan 0 k (zip (idsOf (automaton t) s block k) (endsOf (automaton t) s block k))) (by-scan left 0 [])) z),
-              ap (λ (a : Scanned). a .stream) r ∙ sym (ap (λ (b : Bool). cond b (stateAfter (automaton t) s block k) s) z),
+              ap₂ (λ (a : Scanned) (l : List Pair). by-scan (a .number) (a .taken) l) r (scan-reports t s c ok)
+                  ∙ sym (ap (λ (b : Bool). cond b (by-scan 0 k (pairsTo (automaton t) s (c .block) k)) (by-scan left 0 [])) z),
+              ap (λ (a : Scanned). a .stream) r ∙ sym (ap (λ (b : Bool). cond b (stateAfter (automaton t) s (c .block) k) s) z),
             )
         go (no bad) =
-            let r = refused-scan t s allowance block ids offsets bad in
+            let r = refused-scan t s c bad in
             let z : eqb left 0 ≡ false = ne-eqb left 0 (λ h. bad (e ∙ h)) in (
-              ap (λ (a : Scanned). by-scan (a .number) (a .taken) (reportsIn (a .reports) (scannedIds t s allowance block ids offsets) (scannedOffsets t s allowance block ids offsets))) r
+              ap (λ (a : Scanned). by-scan (a .number) (a .taken) (reportsIn (a .reports) (scannedLists t s c))) r
                   ∙ ap (λ (n : ℕ). by-scan n 0 []) e
-                  ∙ sym (ap (λ (b : Bool). cond b (by-scan 0 k (zip (idsOf (automaton t) s block k) (endsOf (automaton t) s block k))) (by-scan left 0 [])) z),
-              ap (λ (a : Scanned). a .stream) r ∙ sym (ap (λ (b : Bool). cond b (stateAfter (automaton t) s block k) s) z),
+                  ∙ sym (ap (λ (b : Bool). cond b (by-scan 0 k (pairsTo (automaton t) s (c .block) k)) (by-scan left 0 [])) z),
+              ap (λ (a : Scanned). a .stream) r ∙ sym (ap (λ (b : Bool). cond b (stateAfter (automaton t) s (c .block) k) s) z),
             )
 
-  module _ (ids offsets : List ℕ) where
+  module _ (slots : Lists) where
     abbrev left′ : ℕ
-    left′ = closeLeft (automaton t .rules) s (space ids offsets)
+    left′ = closeLeft (automaton t .rules) s (space slots)
 
     abbrev last : List Pair
-    last = zip (closeIds (automaton t) s) (closeEnds (automaton t) s)
+    last = pairsAtEnd (automaton t) s
 
     abbrev given′ : Outcome
-    given′ = by-close (closed t s ids offsets .number) (reportsIn (closed t s ids offsets .reports) (closedIds t s ids offsets) (closedOffsets t s ids offsets))
+    given′ = by-close (closed t s slots .number) (reportsIn (closed t s slots .reports) (closedLists t s slots))
 
-    close-gives : (given′ ≡ gives (automaton t) s (closes (space ids offsets))) × (closed t s ids offsets .stream ≡ moves (automaton t) s (closes (space ids offsets)))
+    close-gives : (given′ ≡ gives (automaton t) s (closes (space slots))) × (closed t s slots .stream ≡ moves (automaton t) s (closes (space slots)))
     unfolding gives moves zip mathlib.Core.List.zipWith
-    close-gives = go (ℕ-discrete (closeNumber t s (space ids offsets)) 0)
+    close-gives = go (ℕ-discrete (closeNumber t s (space slots)) 0)
       where
-        e : closeNumber t s (space ids offsets) ≡ left′
-        e = close-left (space ids offsets)
+        e : closeNumber t s (space slots) ≡ left′
+        e = close-left (space slots)
 
-        go : Dec (closeNumber t s (space ids offsets) ≡ 0)
-            → (given′ ≡ cond (eqb left′ 0) (by-close 0 last) (by-close left′ [])) × (closed t s ids offsets .stream ≡ cond (eqb left′ 0) (shut s) s)
+        go : Dec (closeNumber t s (space slots) ≡ 0)
+            → (given′ ≡ cond (eqb left′ 0) (by-close 0 last) (by-close left′ [])) × (closed t s slots .stream ≡ cond (eqb left′ 0) (shut s) s)
         go (yes ok) =
-            let r = accepted-close t s ids offsets ok in
+            let r = accepted-close t s slots ok in
             let z : eqb left′ 0 ≡ true = eq-eqb left′ 0 (sym e ∙ ok) in (
-              ap₂ (λ (a : Closed) (l : List Pair). by-close (a .number) l) r (close-reports t s ids offsets ok)
+              ap₂ (λ (a : Closed) (l : List Pair). by-close (a .number) l) r (close-reports t s slots ok)
                   ∙ sym (ap (λ (b : Bool). cond b (by-close 0 last) (by-close left′ [])) z),
               ap (λ (a : Closed). a .stream) r ∙ sym (ap (λ (b : Bool). cond b (shut s) s) z),
             )
         go (no bad) =
-            let r = refused-close t s ids offsets bad in
+            let r = refused-close t s slots bad in
             let z : eqb left′ 0 ≡ false = ne-eqb left′ 0 (λ h. bad (e ∙ h)) in (
-              ap (λ (a : Closed). by-close (a .number) (reportsIn (a .reports) (closedIds t s ids offsets) (closedOffsets t s ids offsets))) r
+              ap (λ (a : Closed). by-close (a .number) (reportsIn (a .reports) (closedLists t s slots))) r
                   ∙ ap (λ (n : ℕ). by-close n []) e ∙ sym (ap (λ (b : Bool). cond b (by-close 0 last) (by-close left′ [])) z),
               ap (λ (a : Closed). a .stream) r ∙ sym (ap (λ (b : Bool). cond b (shut s) s) z),
             )
@@ -158,15 +150,15 @@ module _ (t : List ℕ) (table : isTable t ≡ true) where
   pub followed : (l : List Item) (s : Stream) → valid (automaton t) s ≡ true → OthersRefused t s l → outcomesOf t s l ≡ run (automaton t) s (callsIn l)
   unfolding outcomesOf OthersRefused callsIn run
   followed [] s fit h = refl
-  followed (scan allowance block ids offsets ∷ l) s fit h =
-      let g = scan-gives t table s fit allowance block ids offsets in
+  followed (scan c ∷ l) s fit h =
+      let g = scan-gives t table s fit c in
       ap₂ (λ (o : Outcome) (r : List Outcome). o ∷ r) (g .0)
-      (followed l (scanned t s allowance block ids offsets .stream) (scan-valid t table s fit allowance block ids offsets) h
+      (followed l (scanned t s c .stream) (scan-valid t table s fit c) h
       ∙ ap (λ (x : Stream). run (automaton t) x (callsIn l)) (g .1))
-  followed (close ids offsets ∷ l) s fit h =
-      let g = close-gives t table s fit ids offsets in
+  followed (close slots ∷ l) s fit h =
+      let g = close-gives t table s fit slots in
       ap₂ (λ (o : Outcome) (r : List Outcome). o ∷ r) (g .0)
-      (followed l (closed t s ids offsets .stream) (close-valid t table s fit ids offsets) h
+      (followed l (closed t s slots .stream) (close-valid t table s fit slots) h
       ∙ ap (λ (x : Stream). run (automaton t) x (callsIn l)) (g .1))
   followed (other o ∷ l) s fit h =
       let same : tableAfter t o ≡ t = kept t o (h .0) in
@@ -174,7 +166,7 @@ module _ (t : List ℕ) (table : isTable t ≡ true) where
 
 -- ---- two automata that agree
 
-unfoldable pub BytesIn : List Call → Type 0
+unfoldable pub BytesIn : List Asked → Type 0
 BytesIn [] = Unit {0}
 BytesIn (scans allowance block room ∷ l) = Bytes block × BytesIn l
 BytesIn (closes room ∷ l) = BytesIn l
@@ -186,13 +178,12 @@ module _ (w v : Automaton) (same : Agree w v) where
   scan-same s inside allowance block room small =
       let n : ℕ = length block in
       let k : ℕ = fits w s allowance block room n in
-      let le : k ≤ n = fits-le w s block allowance room n in
+      let le : k ≤ n = fits-le (plain w) s block allowance room n in
       let taken : k ≡ fits v s allowance block room n = fits-agree w v same s inside block small allowance room n (omega arith) in
       let left : scanLeft (w .rules) s n room ≡ scanLeft (v .rules) s n room = ap (λ (r : ℕ). scanLeft r s n room) (same .rules) in
-      let pairs : zip (idsOf w s block k) (endsOf w s block k) ≡ zip (idsOf v s block k) (endsOf v s block k) =
-      ap₂ zip (all-ids-agree w v same s inside block small k le) (all-ends-agree w v same s inside block small k le) in (
+      let pairs : pairsTo w s block k ≡ pairsTo v s block k = ap (map pairOf) (all-agree w v same s inside block small k le) in (
         ap₂ (λ (m : ℕ) (l : List Pair). cond (eqb m 0) (by-scan 0 k l) (by-scan m 0 [])) left pairs
-            ∙ ap (λ (j : ℕ). cond (eqb (scanLeft (v .rules) s n room) 0) (by-scan 0 j (zip (idsOf v s block j) (endsOf v s block j))) (by-scan (scanLeft (v .rules) s n room) 0 [])) taken,
+            ∙ ap (λ (j : ℕ). cond (eqb (scanLeft (v .rules) s n room) 0) (by-scan 0 j (pairsTo v s block j)) (by-scan (scanLeft (v .rules) s n room) 0 [])) taken,
         ap₂ (λ (m : ℕ) (x : Stream). cond (eqb m 0) x s) left (states-agree w v same s inside block small k le ∙ ap (λ (j : ℕ). stateAfter v s block j) taken),
       )
 
@@ -201,11 +192,11 @@ module _ (w v : Automaton) (same : Agree w v) where
   unfolding gives moves
   close-same s room inside = (
     ap₂ (λ (m : ℕ) (l : List Pair). cond (eqb m 0) (by-close 0 l) (by-close m []))
-        (ap (λ (r : ℕ). closeLeft r s room) (same .rules)) (ap₂ zip (closing-agrees w v same s inside) (closing-ends-agree w v same s inside)),
+        (ap (λ (r : ℕ). closeLeft r s room) (same .rules)) (ap (map pairOf) (closing-agrees w v same s inside)),
     ap (λ (r : ℕ). cond (eqb (closeLeft r s room) 0) (shut s) s) (same .rules),
   )
 
-  moves-inside : (s : Stream) (c : Call) → Inside w v same s → Inside w v same (moves w s c)
+  moves-inside : (s : Stream) (c : Asked) → Inside w v same s → Inside w v same (moves w s c)
   unfolding moves
   moves-inside s (scans allowance block room) inside = go (eqb (scanLeft (w .rules) s (length block) room) 0)
     where
@@ -218,7 +209,7 @@ module _ (w v : Automaton) (same : Agree w v) where
       go true = inside
       go false = inside
 
-  pub runs-same : (l : List Call) (s : Stream) → Inside w v same s → BytesIn l → run w s l ≡ run v s l
+  pub runs-same : (l : List Asked) (s : Stream) → Inside w v same s → BytesIn l → run w s l ≡ run v s l
   unfolding run BytesIn
   runs-same [] s inside small = refl
   runs-same (scans allowance block room ∷ l) s inside small =
@@ -240,15 +231,15 @@ reportsIn-all (by-close number l ∷ r) = l ++ reportsIn-all r
 pub reports-joined : (t : List ℕ) (s : Stream) (l : List Item) → reportsOf t s l ≡ reportsIn-all (outcomesOf t s l)
 unfolding reportsOf outcomesOf reportsIn-all
 reports-joined t s [] = refl
-reports-joined t s (scan allowance block ids offsets ∷ l) =
-    ap (λ (r : List Pair). reportsIn (scanned t s allowance block ids offsets .reports) (scannedIds t s allowance block ids offsets) (scannedOffsets t s allowance block ids offsets) ++ r)
-    (reports-joined t (scanned t s allowance block ids offsets .stream) l)
-reports-joined t s (close ids offsets ∷ l) =
-    ap (λ (r : List Pair). reportsIn (closed t s ids offsets .reports) (closedIds t s ids offsets) (closedOffsets t s ids offsets) ++ r)
-    (reports-joined t (closed t s ids offsets .stream) l)
+reports-joined t s (scan c ∷ l) =
+    ap (λ (r : List Pair). reportsIn (scanned t s c .reports) (scannedLists t s c) ++ r)
+    (reports-joined t (scanned t s c .stream) l)
+reports-joined t s (close slots ∷ l) =
+    ap (λ (r : List Pair). reportsIn (closed t s slots .reports) (closedLists t s slots) ++ r)
+    (reports-joined t (closed t s slots .stream) l)
 reports-joined t s (other o ∷ l) = reports-joined (tableAfter t o) s l
 
-unfoldable pub bytesIn-all : List Call → List Outcome → List ℕ
+unfoldable pub bytesIn-all : List Asked → List Outcome → List ℕ
 bytesIn-all [] r = []
 bytesIn-all (scans allowance block room ∷ l) (by-scan number taken p ∷ r) = take taken block ++ bytesIn-all l r
 bytesIn-all (scans allowance block room ∷ l) (by-close number p ∷ r) = []
@@ -260,9 +251,9 @@ bytesIn-all (closes room ∷ l) [] = []
 pub bytes-joined : (t : List ℕ) (s : Stream) (l : List Item) → bytesOf t s l ≡ bytesIn-all (callsIn l) (outcomesOf t s l)
 unfolding bytesOf outcomesOf callsIn bytesIn-all
 bytes-joined t s [] = refl
-bytes-joined t s (scan allowance block ids offsets ∷ l) =
-    ap (λ (r : List ℕ). take (scanned t s allowance block ids offsets .taken) block ++ r) (bytes-joined t (scanned t s allowance block ids offsets .stream) l)
-bytes-joined t s (close ids offsets ∷ l) = bytes-joined t (closed t s ids offsets .stream) l
+bytes-joined t s (scan c ∷ l) =
+    ap (λ (r : List ℕ). take (scanned t s c .taken) (c .block) ++ r) (bytes-joined t (scanned t s c .stream) l)
+bytes-joined t s (close slots ∷ l) = bytes-joined t (closed t s slots .stream) l
 bytes-joined t s (other o ∷ l) = bytes-joined (tableAfter t o) s l
 
 -- a closing with number 0 was seen
@@ -275,17 +266,17 @@ Shuts (by-close (suc n) l ∷ r) = Shuts r
 pub closes-seen : (t : List ℕ) (s : Stream) (l : List Item) → Shuts (outcomesOf t s l) → Closes t s l
 unfolding outcomesOf Shuts Closes
 closes-seen t s [] h = h
-closes-seen t s (scan allowance block ids offsets ∷ l) h = closes-seen t (scanned t s allowance block ids offsets .stream) l h
-closes-seen t s (close ids offsets ∷ l) h = go (closed t s ids offsets .number) refl h (λ m. closes-seen t (closed t s ids offsets .stream) l m)
+closes-seen t s (scan c ∷ l) h = closes-seen t (scanned t s c .stream) l h
+closes-seen t s (close slots ∷ l) h = go (closed t s slots .number) refl h (λ m. closes-seen t (closed t s slots .stream) l m)
   where
     rest : List Outcome
-    rest = outcomesOf t (closed t s ids offsets .stream) l
+    rest = outcomesOf t (closed t s slots .stream) l
 
     reports : List Pair
-    reports = reportsIn (closed t s ids offsets .reports) (closedIds t s ids offsets) (closedOffsets t s ids offsets)
+    reports = reportsIn (closed t s slots .reports) (closedLists t s slots)
 
-    go : (n : ℕ) → closed t s ids offsets .number ≡ n → Shuts (by-close n reports ∷ rest) → (Shuts rest → Closes t (closed t s ids offsets .stream) l)
-        → Closes t s (close ids offsets ∷ l)
+    go : (n : ℕ) → closed t s slots .number ≡ n → Shuts (by-close n reports ∷ rest) → (Shuts rest → Closes t (closed t s slots .stream) l)
+        → Closes t s (close slots ∷ l)
     go zero e h later = inl e
     go (suc n) e h later = inr (later h)
 closes-seen t s (other o ∷ l) h = closes-seen (tableAfter t o) s l h

@@ -18,8 +18,8 @@ use Rattle.demands.specs.Chain.{Item, bytesOf, reportsOf, OthersRefused,
 use Rattle.demands.proofs.Tracked.{opens}
 use Rattle.demands.proofs.Whole.{entriesOf, closingOf, wholeOf, whole}
 use Rattle.stream.proofs.Blocks.{taken-after}
-use Rattle.demands.proofs.Bytewise.{pairsOf, entries-pairs, closing-pairs, map-append}
-use Rattle.demands.proofs.Chained.{chained, joined-bytes, closePairs}
+use Rattle.demands.proofs.Bytewise.{pairsAtEnd, pairsOf, entries-pairs, closing-pairs, map-append}
+use Rattle.demands.proofs.Chained.{chained, joined-bytes}
 
 module _ (t : List ℕ) (rule : ℕ → Rule) (from : ℕ → ℕ) (tab : ℕ → ByteSet) (enc : Carries (automaton t) rule from tab) (rules : List Rule)
     (listed : (r : Rule) → List·Memᴰ r rules ↔ ((a : ℕ) × (a < automaton t .rules) × (r ≡ rule a))) (n p : ℕ) where
@@ -30,7 +30,7 @@ module _ (t : List ℕ) (rule : ℕ → Rule) (from : ℕ → ℕ) (tab : ℕ �
   s = fresh n p false
 
   -- the pairs of the whole, with and without moments
-  whole-pairs : (bytes : List ℕ) → map pair (wholeOf w s bytes) ≡ pairsOf w s bytes ++ closePairs t (stateAfter w s bytes (length bytes))
+  whole-pairs : (bytes : List ℕ) → map pair (wholeOf w s bytes) ≡ pairsOf w s bytes ++ pairsAtEnd (automaton t) (stateAfter w s bytes (length bytes))
   unfolding wholeOf
   whole-pairs bytes =
       let last : Stream = stateAfter w s bytes (length bytes) in

@@ -29,20 +29,20 @@ use Rattle.demands.specs.Demands.{Setting, Between, tableIn, acceptedIn,
 use Rattle.demands.proofs.Acceptance.{accepted-if}
 use Rattle.demands.proofs.Carried.{Carried, carried}
 use Rattle.demands.proofs.Tracked.{opens as tracks, tracked}
-use Rattle.demands.proofs.Chained.{additions-alone, joined-bytes}
+use Rattle.demands.proofs.Chained.{narrow-ids, additions-alone, joined-bytes}
 use Rattle.demands.proofs.States.{state-is, bytes-counted}
 use Rattle.demands.proofs.Busy.{busy-is}
 use Rattle.demands.proofs.Streams.{ordered}
 use Rattle.demands.proofs.Validity.{all-fit, Offered, offered}
 
 pub progress : Progress
-progress t s allowance block ids offsets ok paid some = byte-taken t s allowance block ids offsets ok paid some
+progress = byte-taken
 
 module _ (c : Setting) (between : Between c) where
   pub built : Built (tableIn c) (acceptedIn c)
   built =
       subst (λ (t : List ℕ). Built t (acceptedIn c)) (sym (additions-alone (c .steps) (emptied (c .words)) between))
-      (words-built (c .words) (additionsOf (c .steps)) (c .long))
+      (words-built (c .words) (additionsOf (c .steps)) (c .long) (narrow-ids (c .steps)))
 
   pub table : isTable (tableIn c) ≡ true
   table = passing (tableIn c) (built .passed)
@@ -128,12 +128,12 @@ same-for-cuttings c items others a b ca cb same =
     (subst (λ (l : List ℕ). Ordered (rulesIn c) l (reportsOf (tableIn c) (streamIn c) items)) same (demand3 c items a ca)) (demand3 c others b cb)
 
 pub offered-again : OfferedAgain
-offered-again c between log small short turns ids offsets enough roomy wide =
+offered-again c between log small short turns slots enough roomy wide =
     let t : List ℕ = tableIn c in
     let passes : isTable t ≡ true = table c between in
     let count : rulesOf t ≡ length (acceptedIn c) = built c between .rules in
-    let calls : Offered t passes (streamIn c) log (offering t (streamIn c) log turns ids offsets) =
-    offered t passes turns ids offsets (omega (arith, count, wide)) (subst (λ (n : ℕ). Roomy (2 * n) turns) (sym count) roomy) log small enough (streamIn c)
+    let calls : Offered t passes (streamIn c) log (offering t (streamIn c) log turns slots) =
+    offered t passes turns slots (omega (arith, count, wide)) (subst (λ (n : ℕ). Roomy (2 * n) turns) (sym count) roomy) log small enough (streamIn c)
     (opened-valid t passes) (ap (λ (s : Stream). s .closed) (begins c between)) (omega (arith, short, ap (λ (s : Stream). s .taken) (begins c between))) in
-    subst (λ (l : List ℕ). Ordered (rulesIn c) l (reportsOf t (streamIn c) (offering t (streamIn c) log turns ids offsets))) (calls .bytes)
-    (demand3 c (offering t (streamIn c) log turns ids offsets) (between, calls .others, calls .blocks) (calls .closes))
+    subst (λ (l : List ℕ). Ordered (rulesIn c) l (reportsOf t (streamIn c) (offering t (streamIn c) log turns slots))) (calls .bytes)
+    (demand3 c (offering t (streamIn c) log turns slots) (between, calls .others, calls .blocks) (calls .closes))

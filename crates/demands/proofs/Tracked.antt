@@ -26,7 +26,7 @@ use Rattle.table.proofs.GapBounds.{between-inner, beforeLast-follow, atEnd-last
 use Rattle.steps.specs.Step.{stepped, ends, endsNewly, rulesWhere}
 use Rattle.steps.proofs.Late.{late-newly}
 use Rattle.stream.specs.declared.Stream.{Stream}
-use Rattle.stream.specs.Byte.{nextLive, nextHeld, nextPending, lateTest, ownTest, heldTest, endTest, byteState, stateAfter}
+use Rattle.stream.specs.Byte.{after, nextLive, nextHeld, nextPending, lateTest, ownTest, heldTest, endTest, byteState, stateAfter}
 use Rattle.regex.specs.Tree.{Text}
 use Rattle.regex.specs.Form.{Form, Reach, positions}
 use Rattle.regex.specs.Live.{Reached}
@@ -455,6 +455,6 @@ module _ (w : Automaton) (rule : ℕ → Rule) (from : ℕ → ℕ) (tab : ℕ �
 
   -- the state after any number of the bytes
   pub tracked : ((i : ℕ) → i < length bytes → getD bytes i 0 < 256) → (s : Stream) → Tracked 0 s → (k : ℕ) → k ≤ length bytes → Tracked k (stateAfter w s bytes k)
-  unfolding stateAfter
+  unfolding after
   tracked small s start zero le = start
   tracked small s start (suc k) le = tracks k le (small k le) (stateAfter w s bytes k) (tracked small s start k (omega arith))

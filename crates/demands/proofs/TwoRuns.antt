@@ -12,7 +12,7 @@ use lib.Dec.{T, T-not, not-T, ltb, lt→ltb}
 use Rattle.sets.specs.Set.{on}
 use Rattle.sets.proofs.Digits.{on-wordOf}
 use Rattle.table.specs.Automaton.{Automaton, single}
-use Rattle.stream.specs.Byte.{due, runIds, runMarks, twoMarks}
+use Rattle.stream.specs.Byte.{Report, due, given, runReports, runMarks, twoMarks}
 use Rattle.regex.specs.Rule.{Rule, ByteSet}
 use Rattle.regex.specs.Ordered.{Falls, Hides, Stays, Entry, entry, Before, Rising}
 use Rattle.regex.proofs.Logic.{and-T, or-T}
@@ -84,73 +84,77 @@ module _ (bytes : List ℕ) (r : Rule) where
 
 -- ---- a run of reports
 
-module _ (w : Automaton) (test : ℕ → Bool) (marks : ℕ) where
-  run-out : (n i : ℕ) → List·Memᴰ i (runIds w test marks n) → (a : ℕ) × (a < n) × T (due w test marks a) × (w .id a ≡ i)
-  unfolding runIds
-  run-out zero i m = absurd (List·Memᴰ·not-nil m)
-  run-out (suc n) i m = elim (List·Memᴰ·append-cases (runIds w test marks n) m) [
-    | inl k ↦ (let r = run-out n i k in (r .0, omega (arith, r .1), r .2, r .3))
-    | inr k ↦ here (due w test marks n) refl k
+module _ (test : ℕ → Bool) (marks : ℕ) (give : ℕ → Report) where
+  run-out : (n : ℕ) (r : Report) → List·Memᴰ r (runReports test marks give n) → (a : ℕ) × (a < n) × T (due test marks a) × (give a ≡ r)
+  unfolding runReports
+  run-out zero r m = absurd (List·Memᴰ·not-nil m)
+  run-out (suc n) r m = elim (List·Memᴰ·append-cases (runReports test marks give n) m) [
+    | inl k ↦ (let q = run-out n r k in (q .0, omega (arith, q .1), q .2, q .3))
+    | inr k ↦ here (due test marks n) refl k
   ]
     where
-      here : (b : Bool) → due w test marks n ≡ b → List·Memᴰ i (cond b (w .id n ∷ []) []) → (a : ℕ) × (a < suc n) × T (due w test marks a) × (w .id a ≡ i)
+      here : (b : Bool) → due test marks n ≡ b → List·Memᴰ r (cond b (give n ∷ []) []) → (a : ℕ) × (a < suc n) × T (due test marks a) × (give a ≡ r)
       here true e k = (n, omega arith, subst T (sym e) tt, sym (List·Memᴰ·eq-of-singleton k))
       here false e k = absurd (List·Memᴰ·not-nil k)
 
-  run-in : (n a : ℕ) → a < n → T (due w test marks a) → List·Memᴰ (w .id a) (runIds w test marks n)
-  unfolding runIds
+  run-in : (n a : ℕ) → a < n → T (due test marks a) → List·Memᴰ (give a) (runReports test marks give n)
+  unfolding runReports
   run-in zero a lt t = absurd (omega arith)
   run-in (suc n) a lt t = elim (ℕ-discrete a n) [
-    | yes e ↦ Memᴰ·append-right (runIds w test marks n) (here (due w test marks n) (subst (λ (k : ℕ). T (due w test marks k)) e t) (ap (w .id) e))
-    | no e ↦ Memᴰ·append-left (cond (due w test marks n) (w .id n ∷ []) []) (run-in n a (omega arith) t)
+    | yes e ↦ Memᴰ·append-right (runReports test marks give n) (here (due test marks n) (subst (λ (k : ℕ). T (due test marks k)) e t) (ap give e))
+    | no e ↦ Memᴰ·append-left (cond (due test marks n) (give n ∷ []) []) (run-in n a (omega arith) t)
   ]
     where
-      here : (b : Bool) → T b → w .id a ≡ w .id n → List·Memᴰ (w .id a) (cond b (w .id n ∷ []) [])
+      here : (b : Bool) → T b → give a ≡ give n → List·Memᴰ (give a) (cond b (give n ∷ []) [])
       here true t e = List·Memᴰ·head e
       here false t e = absurd t
 
--- entries of one moment and one offset
-abbrev pub run : (m e : ℕ) → List ℕ → List Entry
-run m e ids = map (λ i. entry m e i) ids
+-- reports as entries of one moment
+abbrev pub entryOf : (m : ℕ) → Report → Entry
+entryOf m r = entry m (r .end) (r .id)
 
-in-run : (m e : ℕ) (ids : List ℕ) (i : ℕ) → List·Memᴰ i ids → List·Memᴰ (entry m e i) (run m e ids)
-in-run m e (j ∷ ids) i (List·Memᴰ·head q) = List·Memᴰ·head (ap (λ (k : ℕ). entry m e k) q)
-in-run m e (j ∷ ids) i (List·Memᴰ·tail k) = List·Memᴰ·tail (in-run m e ids i k)
+abbrev pub run : (m : ℕ) → List Report → List Entry
+run m l = map (entryOf m) l
 
-out-run : (m e : ℕ) (ids : List ℕ) (x : Entry) → List·Memᴰ x (run m e ids) → (i : ℕ) × List·Memᴰ i ids × (x ≡ entry m e i)
-out-run m e [] x k = absurd (List·Memᴰ·not-nil k)
-out-run m e (j ∷ ids) x (List·Memᴰ·head q) = (j, List·Memᴰ·head refl, q)
-out-run m e (j ∷ ids) x (List·Memᴰ·tail k) = let r = out-run m e ids x k in (r .0, List·Memᴰ·tail (r .1), r .2)
+in-run : (m : ℕ) (l : List Report) (r : Report) → List·Memᴰ r l → List·Memᴰ (entryOf m r) (run m l)
+in-run m (q ∷ l) r (List·Memᴰ·head e) = List·Memᴰ·head (ap (entryOf m) e)
+in-run m (q ∷ l) r (List·Memᴰ·tail k) = List·Memᴰ·tail (in-run m l r k)
 
-run-append : (m e : ℕ) (a b : List ℕ) → run m e (a ++ b) ≡ run m e a ++ run m e b
-run-append m e [] b = refl
-run-append m e (x ∷ a) b = ap (λ (l : List Entry). entry m e x ∷ l) (run-append m e a b)
+out-run : (m : ℕ) (l : List Report) (x : Entry) → List·Memᴰ x (run m l) → (r : Report) × List·Memᴰ r l × (x ≡ entryOf m r)
+out-run m [] x k = absurd (List·Memᴰ·not-nil k)
+out-run m (q ∷ l) x (List·Memᴰ·head e) = (q, List·Memᴰ·head refl, e)
+out-run m (q ∷ l) x (List·Memᴰ·tail k) = let r = out-run m l x k in (r .0, List·Memᴰ·tail (r .1), r .2)
+
+pub run-append : (m : ℕ) (a b : List Report) → run m (a ++ b) ≡ run m a ++ run m b
+run-append m [] b = refl
+run-append m (x ∷ a) b = ap (λ (l : List Entry). entryOf m x ∷ l) (run-append m a b)
 
 module _ (w : Automaton) (rising : (a b : ℕ) → a < b → b < w .rules → w .id a < w .id b) (test : ℕ → Bool) (marks m e : ℕ) where
-  run-rising : (n : ℕ) → n ≤ w .rules → Rising (run m e (runIds w test marks n))
-  unfolding runIds Rising
+  run-rising : (n : ℕ) → n ≤ w .rules → Rising (run m (runReports test marks (given w e) n))
+  unfolding runReports Rising
   run-rising zero le = tt
   run-rising (suc n) le =
-      subst Rising (sym (run-append m e (runIds w test marks n) (cond (due w test marks n) (w .id n ∷ []) [])))
-      (append-rising (run m e (runIds w test marks n)) (run m e (cond (due w test marks n) (w .id n ∷ []) [])) (run-rising n (omega arith))
-      (one (due w test marks n)) (λ x y k l. order x y k (due w test marks n) l))
+      subst Rising (sym (run-append m (runReports test marks (given w e) n) (cond (due test marks n) (given w e n ∷ []) [])))
+      (append-rising (run m (runReports test marks (given w e) n)) (run m (cond (due test marks n) (given w e n ∷ []) [])) (run-rising n (omega arith))
+      (one (due test marks n)) (λ x y k l. order x y k (due test marks n) l))
     where
-      one : (b : Bool) → Rising (run m e (cond b (w .id n ∷ []) []))
+      one : (b : Bool) → Rising (run m (cond b (given w e n ∷ []) []))
       one true = (λ y k. absurd (List·Memᴰ·not-nil k), tt)
       one false = tt
 
-      order : (x y : Entry) → List·Memᴰ x (run m e (runIds w test marks n)) → (b : Bool) → List·Memᴰ y (run m e (cond b (w .id n ∷ []) [])) → Before x y
+      order : (x y : Entry) → List·Memᴰ x (run m (runReports test marks (given w e) n)) → (b : Bool) → List·Memᴰ y (run m (cond b (given w e n ∷ []) [])) → Before x y
       order x y k true l =
-          let p = out-run m e (runIds w test marks n) x k in
-          let q = run-out w test marks n (p .0) (p .1) in
+          let p = out-run m (runReports test marks (given w e) n) x k in
+          let q = run-out test marks (given w e) n (p .0) (p .1) in
+          let x-is : x ≡ entry m e (w .id (q .0)) = p .2 ∙ ap (entryOf m) (sym (q .3)) in
           let y-is : y ≡ entry m e (w .id n) = List·Memᴰ·eq-of-singleton l in
-          subst₂ Before (sym (p .2)) (sym y-is) (inr (refl, inr (refl, subst (λ (i : ℕ). i < w .id n) (q .3) (rising (q .0) n (q .1) le))))
+          subst₂ Before (sym x-is) (sym y-is) (inr (refl, inr (refl, rising (q .0) n (q .1) le)))
       order x y k false l = absurd (List·Memᴰ·not-nil l)
 
 -- ---- the two runs of a moment
 
 unfoldable pub twoRuns : Automaton → (m d e : ℕ) (one two : ℕ → Bool) (marks : ℕ) → List Entry
-twoRuns w m d e one two marks = run m d (runIds w one marks (w .rules)) ++ run m e (runIds w two (runMarks w one marks) (w .rules))
+twoRuns w m d e one two marks = run m (runReports one marks (given w d) (w .rules)) ++ run m (runReports two (runMarks w one marks) (given w e) (w .rules))
 
 module _ (w : Automaton) (rule : ℕ → Rule) (from : ℕ → ℕ) (tab : ℕ → ByteSet) (enc : Carries w rule from tab) (bytes : List ℕ) where
   -- moment m, with its two offsets: what the tests and the marks before it say
@@ -185,7 +189,7 @@ module _ (w : Automaton) (rule : ℕ → Rule) (from : ℕ → ℕ) (tab : ℕ �
     abbrev later : ℕ
     later = runMarks w one marks
 
-    due-one : (a : ℕ) → a < w .rules → T (due w one marks a) ↔ ((d < e) × Stays bytes (rule a) m d)
+    due-one : (a : ℕ) → a < w .rules → T (due one marks a) ↔ ((d < e) × Stays bytes (rule a) m d)
     due-one a lt =
         let stays = stays-first bytes (rule a) m d e (λ c f. turn .only a c lt f) in
         let test = turn .one-is a lt in
@@ -194,7 +198,7 @@ module _ (w : Automaton) (rule : ℕ → Rule) (from : ℕ → ℕ) (tab : ℕ �
           λ h. let c = stays .1 h in and-T (one a) (not (on marks a)) .1 (test .1 (c .0), not-T (on marks a) (λ t. c .1 (mark .0 t))),
         )
 
-    due-two : (a : ℕ) → a < w .rules → T (due w two later a) ↔ Stays bytes (rule a) m e
+    due-two : (a : ℕ) → a < w .rules → T (due two later a) ↔ Stays bytes (rule a) m e
     due-two a lt =
         let stays = stays-second bytes (rule a) m d e (λ c f. turn .only a c lt f) in
         let first = turn .one-is a lt in
@@ -237,23 +241,23 @@ module _ (w : Automaton) (rule : ℕ → Rule) (from : ℕ → ℕ) (tab : ℕ �
     abbrev pub Reports : Entry → Type 0
     Reports x = (a : ℕ) × (a < w .rules) × ((c : ℕ) × Stays bytes (rule a) m c × (x ≡ entry m c (w .id a)))
 
-    first-out : (x : Entry) → List·Memᴰ x (run m d (runIds w one marks (w .rules))) → Reports x × (d < e)
+    first-out : (x : Entry) → List·Memᴰ x (run m (runReports one marks (given w d) (w .rules))) → Reports x × (d < e)
     first-out x k =
-        let p = out-run m d (runIds w one marks (w .rules)) x k in
-        let q = run-out w one marks (w .rules) (p .0) (p .1) in
+        let p = out-run m (runReports one marks (given w d) (w .rules)) x k in
+        let q = run-out one marks (given w d) (w .rules) (p .0) (p .1) in
         let st = due-one (q .0) (q .1) .0 (q .2) in
-        ((q .0, q .1, (d, st .1, p .2 ∙ ap (λ (i : ℕ). entry m d i) (sym (q .3)))), st .0)
+        ((q .0, q .1, (d, st .1, p .2 ∙ ap (entryOf m) (sym (q .3)))), st .0)
 
-    second-out : (x : Entry) → List·Memᴰ x (run m e (runIds w two later (w .rules))) → Reports x
+    second-out : (x : Entry) → List·Memᴰ x (run m (runReports two later (given w e) (w .rules))) → Reports x
     second-out x k =
-        let p = out-run m e (runIds w two later (w .rules)) x k in
-        let q = run-out w two later (w .rules) (p .0) (p .1) in
-        (q .0, q .1, (e, due-two (q .0) (q .1) .0 (q .2), p .2 ∙ ap (λ (i : ℕ). entry m e i) (sym (q .3))))
+        let p = out-run m (runReports two later (given w e) (w .rules)) x k in
+        let q = run-out two later (given w e) (w .rules) (p .0) (p .1) in
+        (q .0, q .1, (e, due-two (q .0) (q .1) .0 (q .2), p .2 ∙ ap (entryOf m) (sym (q .3))))
 
     -- The two runs have the pairs that stay, and no others ..
     pub turn-out : (x : Entry) → List·Memᴰ x (twoRuns w m d e one two marks) → Reports x
     unfolding twoRuns
-    turn-out x k = elim (List·Memᴰ·append-cases (run m d (runIds w one marks (w .rules))) k) [ inl l ↦ first-out x l .0 | inr l ↦ second-out x l ]
+    turn-out x k = elim (List·Memᴰ·append-cases (run m (runReports one marks (given w d) (w .rules))) k) [ inl l ↦ first-out x l .0 | inr l ↦ second-out x l ]
 
     pub turn-in : (a c : ℕ) → a < w .rules → Stays bytes (rule a) m c → List·Memᴰ (entry m c (w .id a)) (twoRuns w m d e one two marks)
     unfolding twoRuns
@@ -261,22 +265,24 @@ module _ (w : Automaton) (rule : ℕ → Rule) (from : ℕ → ℕ) (tab : ℕ �
       | inl q ↦
           let here : Stays bytes (rule a) m d = subst (λ (o : ℕ). Stays bytes (rule a) m o) (q .0) st in
           subst (λ (o : ℕ). List·Memᴰ (entry m o (w .id a)) (twoRuns w m d e one two marks)) (sym (q .0))
-          (Memᴰ·append-left (run m e (runIds w two later (w .rules)))
-          (in-run m d (runIds w one marks (w .rules)) (w .id a) (run-in w one marks (w .rules) a lt (due-one a lt .1 (q .1, here)))))
+          (Memᴰ·append-left (run m (runReports two later (given w e) (w .rules)))
+          (in-run m (runReports one marks (given w d) (w .rules)) (given w d a) (run-in one marks (given w d) (w .rules) a lt (due-one a lt .1 (q .1, here)))))
       | inr q ↦
           let here : Stays bytes (rule a) m e = subst (λ (o : ℕ). Stays bytes (rule a) m o) q st in
           subst (λ (o : ℕ). List·Memᴰ (entry m o (w .id a)) (twoRuns w m d e one two marks)) (sym q)
-          (Memᴰ·append-right (run m d (runIds w one marks (w .rules)))
-          (in-run m e (runIds w two later (w .rules)) (w .id a) (run-in w two later (w .rules) a lt (due-two a lt .1 here))))
+          (Memᴰ·append-right (run m (runReports one marks (given w d) (w .rules)))
+          (in-run m (runReports two later (given w e) (w .rules)) (given w e a) (run-in two later (given w e) (w .rules) a lt (due-two a lt .1 here))))
     ]
 
     -- .. in their order.
     pub turn-rising : Rising (twoRuns w m d e one two marks)
     unfolding twoRuns
     turn-rising =
-        append-rising (run m d (runIds w one marks (w .rules))) (run m e (runIds w two later (w .rules)))
+        append-rising (run m (runReports one marks (given w d) (w .rules))) (run m (runReports two later (given w e) (w .rules)))
         (run-rising w id-rising one marks m d (w .rules) (omega arith)) (run-rising w id-rising two later m e (w .rules) (omega arith))
         (λ x y a b.
-        let p = out-run m d (runIds w one marks (w .rules)) x a in
-        let q = out-run m e (runIds w two later (w .rules)) y b in
-        subst₂ Before (sym (p .2)) (sym (q .2)) (inr (refl, inl (first-out x a .1))))
+        let p = out-run m (runReports one marks (given w d) (w .rules)) x a in
+        let q = out-run m (runReports two later (given w e) (w .rules)) y b in
+        let f = run-out one marks (given w d) (w .rules) (p .0) (p .1) in
+        let g = run-out two later (given w e) (w .rules) (q .0) (q .1) in
+        subst₂ Before (sym (p .2 ∙ ap (entryOf m) (sym (f .3)))) (sym (q .2 ∙ ap (entryOf m) (sym (g .3)))) (inr (refl, inl (first-out x a .1))))

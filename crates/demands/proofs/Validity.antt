@@ -19,10 +19,10 @@ use Rattle.stream.specs.declared.Scanned.{Scanned}
 use Rattle.stream.specs.declared.Closed.{Closed}
 use Rattle.stream.specs.Byte.{stateAfter}
 use Rattle.stream.specs.Valid.{streamLimit, valid}
-use Rattle.stream.specs.Calls.{space, spaceNumber, scanNumber, closeNumber, scanned, closed, overLimit}
+use Rattle.stream.specs.Calls.{Lists, Call, space, spaceNumber, scanNumber, closeNumber, callNumber, scanned, closed, overLimit}
 use Rattle.stream.proofs.Results.{scan-number, taken-within, accepted-scan, refused-scan, progress, scanned-valid, close-number-is, refused-close, closed-valid}
 use Rattle.stream.proofs.Blocks.{taken-after, closed-after}
-use Rattle.demands.specs.Chain.{Item, scan, close, other, tableAfter, bytesOf, OthersRefused, Closes, Fit, AllFit, Turn, offering, Roomy, Bytes, Blocks}
+use Rattle.demands.specs.Chain.{Item, scan, close, other, tableAfter, bytesOf, OthersRefused, Closes, Fit, AllFit, offer, offering, Roomy, Bytes, Blocks}
 use Rattle.demands.proofs.Chained.{kept}
 
 -- the numbers that are left when table and state pass
@@ -58,30 +58,30 @@ module _ (t : List ℕ) (table : isTable t ≡ true) (s : Stream) (fits : valid 
       (by (s .closed) 19 _ (λ h. absurd (omega (arith, h)), λ h. absurd (omega (arith, h))) (space-fit t room))
 
   -- the state that a scan or a closing hands on fits
-  pub scan-valid : (allowance : ℕ) (block ids offsets : List ℕ) → valid (automaton t) (scanned t s allowance block ids offsets .stream) ≡ true
-  scan-valid allowance block ids offsets = go (ℕ-discrete (scanNumber t s (length block) (space ids offsets)) 0)
+  pub scan-valid : (c : Call) → valid (automaton t) (scanned t s c .stream) ≡ true
+  scan-valid c = go (ℕ-discrete (callNumber t s c) 0)
     where
-      go : Dec (scanNumber t s (length block) (space ids offsets) ≡ 0) → valid (automaton t) (scanned t s allowance block ids offsets .stream) ≡ true
-      go (yes ok) = scanned-valid t s allowance block ids offsets (scan-number t s allowance block ids offsets ∙ ok)
-      go (no bad) = ap (λ (r : Scanned). valid (automaton t) (r .stream)) (refused-scan t s allowance block ids offsets bad) ∙ fits
+      go : Dec (callNumber t s c ≡ 0) → valid (automaton t) (scanned t s c .stream) ≡ true
+      go (yes ok) = scanned-valid t s c (scan-number t s c ∙ ok)
+      go (no bad) = ap (λ (r : Scanned). valid (automaton t) (r .stream)) (refused-scan t s c bad) ∙ fits
 
-  pub close-valid : (ids offsets : List ℕ) → valid (automaton t) (closed t s ids offsets .stream) ≡ true
-  close-valid ids offsets = go (ℕ-discrete (closeNumber t s (space ids offsets)) 0)
+  pub close-valid : (slots : Lists) → valid (automaton t) (closed t s slots .stream) ≡ true
+  close-valid slots = go (ℕ-discrete (closeNumber t s (space slots)) 0)
     where
-      go : Dec (closeNumber t s (space ids offsets) ≡ 0) → valid (automaton t) (closed t s ids offsets .stream) ≡ true
-      go (yes ok) = closed-valid t s ids offsets (close-number-is t s ids offsets ∙ ok)
-      go (no bad) = ap (λ (r : Closed). valid (automaton t) (r .stream)) (refused-close t s ids offsets bad) ∙ fits
+      go : Dec (closeNumber t s (space slots) ≡ 0) → valid (automaton t) (closed t s slots .stream) ≡ true
+      go (yes ok) = closed-valid t s slots (close-number-is t s slots ∙ ok)
+      go (no bad) = ap (λ (r : Closed). valid (automaton t) (r .stream)) (refused-close t s slots bad) ∙ fits
 
 pub all-fit : (t : List ℕ) → isTable t ≡ true → (l : List Item) (s : Stream) → valid (automaton t) s ≡ true → OthersRefused t s l → AllFit t s l
 unfolding OthersRefused AllFit
 all-fit t table [] s fits h = tt
-all-fit t table (scan allowance block ids offsets ∷ l) s fits h = (
-  subst Fit (sym (scan-number t s allowance block ids offsets)) (scan-fit t table s fits (length block) (space ids offsets)),
-  all-fit t table l (scanned t s allowance block ids offsets .stream) (scan-valid t table s fits allowance block ids offsets) h,
+all-fit t table (scan c ∷ l) s fits h = (
+  subst Fit (sym (scan-number t s c)) (scan-fit t table s fits (length (c .block)) (space (c .slots))),
+  all-fit t table l (scanned t s c .stream) (scan-valid t table s fits c) h,
 )
-all-fit t table (close ids offsets ∷ l) s fits h = (
-  subst Fit (sym (close-number-is t s ids offsets)) (close-fit t table s fits (space ids offsets)),
-  all-fit t table l (closed t s ids offsets .stream) (close-valid t table s fits ids offsets) h,
+all-fit t table (close slots ∷ l) s fits h = (
+  subst Fit (sym (close-number-is t s slots)) (close-fit t table s fits (space slots)),
+  all-fit t table l (closed t s slots .stream) (close-valid t table s fits slots) h,
 )
 all-fit t table (other o ∷ l) s fits h =
     let same : tableAfter t o ≡ t = kept t o (h .0) in
@@ -110,33 +110,33 @@ module _ (t : List ℕ) (table : isTable t ≡ true) where
 
   -- one scan that offers a log
   module _ (s : Stream) (fits : valid (automaton t) s ≡ true) (running : s .closed ≡ false) (log : List ℕ) (limit : s .taken + length log ≤ streamLimit)
-      (allowance : ℕ) (paid : 257 ≤ allowance) (ids offsets : List ℕ) (wide : 2 * rulesOf t ≤ space ids offsets) where
+      (turn : Call) (paid : 257 ≤ turn .allowance) (wide : 2 * rulesOf t ≤ space (turn .slots)) where
     abbrev r : Scanned
-    r = scanned t s allowance log ids offsets
+    r = scanned t s (offer log turn)
 
-    number : scanNumber t s (length log) (space ids offsets) ≡ 0
-    number = scan-accepted s fits running (length log) (space ids offsets) limit wide
+    number : callNumber t s (offer log turn) ≡ 0
+    number = scan-accepted s fits running (length log) (space (turn .slots)) limit wide
 
     ok : r .number ≡ 0
-    ok = scan-number t s allowance log ids offsets ∙ number
+    ok = scan-number t s (offer log turn) ∙ number
 
     stream : r .stream ≡ stateAfter (automaton t) s log (r .taken)
     stream =
-        let e = accepted-scan t s allowance log ids offsets number in
+        let e = accepted-scan t s (offer log turn) number in
         ap (λ (c : Scanned). c .stream) e ∙ ap (λ (n : ℕ). stateAfter (automaton t) s log n) (sym (ap (λ (c : Scanned). c .taken) e))
 
     left : length (drop (r .taken) log) ≡ length log - r .taken
     left = length-drop (r .taken) log
 
     next-valid : valid (automaton t) (r .stream) ≡ true
-    next-valid = scanned-valid t s allowance log ids offsets ok
+    next-valid = scanned-valid t s (offer log turn) ok
 
     next-running : r .stream .closed ≡ false
     next-running = ap (λ (x : Stream). x .closed) stream ∙ closed-after (automaton t) s log (r .taken) ∙ running
 
     next-limit : r .stream .taken + length (drop (r .taken) log) ≤ streamLimit
     next-limit =
-        omega (arith, left, taken-within t s allowance log ids offsets, limit, ap (λ (x : Stream). x .taken) stream, taken-after (automaton t) s log (r .taken))
+        omega (arith, left, taken-within t s (offer log turn), limit, ap (λ (x : Stream). x .taken) stream, taken-after (automaton t) s log (r .taken))
 
     next-bytes : Bytes log → Bytes (drop (r .taken) log)
     next-bytes small i lt = subst (λ (x : ℕ). x < 256) (sym (getD-drop (r .taken) log i 0)) (small (r .taken + i) (omega (arith, left)))
@@ -147,7 +147,7 @@ module _ (t : List ℕ) (table : isTable t ≡ true) where
       where
         go : Dec (length log ≡ 0) → length (drop (r .taken) log) ≤ n
         go (yes none) = omega (arith, left, none)
-        go (no some) = omega (arith, left, short, progress t s allowance log ids offsets ok paid (omega arith))
+        go (no some) = omega (arith, left, short, progress t s (offer log turn) ok paid (omega arith))
 
   -- what holds of the calls that offer a log: all of it is taken, and the stream is closed
   pub record Offered (s : Stream) (log : List ℕ) (items : List Item) : Type 0 where
@@ -156,27 +156,24 @@ module _ (t : List ℕ) (table : isTable t ≡ true) where
     pub others : OthersRefused t s items
     pub blocks : Blocks items
 
-  pub offered : (turns : List Turn) (ids offsets : List ℕ) → 2 * rulesOf t ≤ space ids offsets → Roomy (2 * rulesOf t) turns
+  pub offered : (turns : List Call) (slots : Lists) → 2 * rulesOf t ≤ space slots → Roomy (2 * rulesOf t) turns
       → (log : List ℕ) → Bytes log → length log ≤ length turns → (s : Stream) → valid (automaton t) s ≡ true → s .closed ≡ false → s .taken + length log ≤ streamLimit
-      → Offered s log (offering t s log turns ids offsets)
+      → Offered s log (offering t s log turns slots)
   unfolding offering Roomy bytesOf Closes OthersRefused Blocks
-  offered [] ids offsets wide roomy [] small short s fits running limit = record {
+  offered [] slots wide roomy [] small short s fits running limit = record {
     bytes = refl;
-    closes = inl (close-number-is t s ids offsets ∙ close-accepted s fits running (space ids offsets) wide);
+    closes = inl (close-number-is t s slots ∙ close-accepted s fits running (space slots) wide);
     others = tt;
     blocks = tt;
   }
-  offered [] ids offsets wide roomy (x ∷ log) small short s fits running limit = absurd (omega (arith, short))
-  offered (turn ∷ more) ids offsets wide roomy log small short s fits running limit =
-      let n : ℕ = turn .0 in
-      let a : List ℕ = turn .1 in
-      let b : List ℕ = turn .2 in
-      let k : ℕ = scanned t s n log a b .taken in
-      let x : Stream = scanned t s n log a b .stream in
-      let rest : Offered x (drop k log) (offering t x (drop k log) more ids offsets) =
-      offered more ids offsets wide (roomy .2) (drop k log) (next-bytes s fits running log limit n (roomy .0) a b (roomy .1) small)
-      (fewer s fits running log limit n (roomy .0) a b (roomy .1) (length more) short) x (next-valid s fits running log limit n (roomy .0) a b (roomy .1))
-      (next-running s fits running log limit n (roomy .0) a b (roomy .1)) (next-limit s fits running log limit n (roomy .0) a b (roomy .1)) in
+  offered [] slots wide roomy (x ∷ log) small short s fits running limit = absurd (omega (arith, short))
+  offered (turn ∷ more) slots wide roomy log small short s fits running limit =
+      let k : ℕ = scanned t s (offer log turn) .taken in
+      let x : Stream = scanned t s (offer log turn) .stream in
+      let rest : Offered x (drop k log) (offering t x (drop k log) more slots) =
+      offered more slots wide (roomy .2) (drop k log) (next-bytes s fits running log limit turn (roomy .0) (roomy .1) small)
+      (fewer s fits running log limit turn (roomy .0) (roomy .1) (length more) short) x (next-valid s fits running log limit turn (roomy .0) (roomy .1))
+      (next-running s fits running log limit turn (roomy .0) (roomy .1)) (next-limit s fits running log limit turn (roomy .0) (roomy .1)) in
       record {
         bytes = ap (λ (l : List ℕ). take k log ++ l) (rest .bytes) ∙ take-append-drop k log;
         closes = rest .closes;

@@ -1,20 +1,20 @@
--- The worked cases that the product's rules mark P, "proved together, in one table", and those of line mode and word edges: each rule alone in an emptied table, and
--- all of them in one. The rules are pattern bytes and flags, the logs are cut as the rules cut them, and all else is worked out by the definitions of the calls. The
--- theorem is `worked-cases` of proofs/Cases.antt. Assumes nothing: these are definitions.
+-- The worked cases that the product's rules mark P, "proved together, in one table", and those of
+-- line mode and word edges: each rule alone in an emptied table, and all of them in one. The rules
+-- are pattern bytes and flags, the logs are cut as the rules cut them, and all else is worked out
+-- by the definitions of the calls. The theorem is `worked-cases` of proofs/Cases.antt. Assumes
+-- nothing: these are definitions.
 use mathlib.Core.Path.{_≡_}
 use mathlib.Core.List.{List, [], _∷_, map, List·Memᴰ}
-use Prim.Native.Nat.{ℕ, suc, _*_, _≤_, _%_, _^_}
+use Prim.Native.Nat.{ℕ, suc, _*_, _≤_}
 use Prim.Native.String.{String}
-use native.Mathlib.Omega.{arith}
 use lib.ListN.{length}
 use Rattle.table.specs.Layout.{tableWords, maxRules}
 use Rattle.table.specs.Table.{emptied}
-use Rattle.stream.specs.Calls.{opened, space}
+use Rattle.stream.specs.Calls.{Lists, call, opened, space}
 use Rattle.regex.specs.Ordered.{Pair}
 unfoldable pub use Rattle.classes.specs.Name.{bytes}
 use Rattle.rules.specs.declared.Added.{Added}
-use Rattle.rules.specs.Add.{answer, addAnswer, addWords}
-use Rattle.rules.specs.Additions.{Addition}
+use Rattle.rules.specs.Add.{Addition, addition, answer, addAnswer, addWords}
 use Rattle.rules.specs.Encoded.{addAll}
 use Rattle.demands.specs.Chain.{Item, scan, close, Outcome, by-scan, by-close, outcomesOf, begun}
 
@@ -36,21 +36,22 @@ pub record Case : Type 0 where
 
 -- ---- what it means that a case holds
 
--- the calls of a log: a scan of each block as it is cut, with units for any bytes of its length, then a closing; call i is lent the two lists `lent i`
-unfoldable pub callsOn : List (String × List Pair) → (lent : ℕ → List ℕ × List ℕ) → List Item
-callsOn [] lent = close (lent 0 .0) (lent 0 .1) ∷ []
-callsOn (b ∷ bs) lent = scan (257 * length (bytes (b .0))) (bytes (b .0)) (lent 0 .0) (lent 0 .1) ∷ callsOn bs (λ i. lent (suc i))
+-- the calls of a log: a scan of each block as it is cut, with units for any bytes of its length,
+-- then a closing; call i is lent the two lists `lent i`
+unfoldable pub callsOn : List (String × List Pair) → (lent : ℕ → Lists) → List Item
+callsOn [] lent = close (lent 0) ∷ []
+callsOn (b ∷ bs) lent = scan (call (257 * length (bytes (b .0))) (bytes (b .0)) (lent 0)) ∷ callsOn bs (λ i. lent (suc i))
 
 -- every call is accepted, every scan takes its whole block, and the reports are those of the log
 unfoldable pub expected : List (String × List Pair) → List Pair → List Outcome
 expected [] closing = by-close 0 closing ∷ []
 expected (b ∷ bs) closing = by-scan 0 (length (bytes (b .0))) (b .1) ∷ expected bs closing
 
--- the opening on a table is accepted, and the calls after it give this, whatever the lists hold before, if both have two slots for each rule that a table may
--- have
+-- the opening on a table is accepted, and the calls after it give this, whatever the lists hold
+-- before, if both have two slots for each rule that a table may have
 abbrev pub Gives : List ℕ → Log → Type 0
 Gives t log = (opened t .number ≡ 0)
-    × ((lent : ℕ → List ℕ × List ℕ) → ((i : ℕ) → 2 * maxRules ≤ space (lent i .0) (lent i .1))
+    × ((lent : ℕ → Lists) → ((i : ℕ) → 2 * maxRules ≤ space (lent i))
     → outcomesOf t (begun t) (callsOn (log .blocks) lent) ≡ expected (log .blocks) (log .closing))
 
 abbrev pub AllGive : List ℕ → List Log → Type 0
@@ -67,18 +68,19 @@ logsIn (accepted logs) = logs
 -- the rule alone, added to any words that were emptied
 abbrev pub Alone : Case → Type 0
 Alone k = (words : List ℕ) → tableWords ≤ length words
-    → (addAnswer (emptied words) (k .rule .id) (k .rule .flags) (k .rule .pattern) ≡ answerIn (k .verdict))
+    → (addAnswer (emptied words) (k .rule) ≡ answerIn (k .verdict))
     × AllGive (addAll (emptied words) (k .rule ∷ [])) (logsIn (k .verdict))
 
 -- the answers of a list of additions, one after the other
 unfoldable pub answersOf : List ℕ → List Addition → List Added
 answersOf t [] = []
-answersOf t (a ∷ l) = addAnswer t (a .id) (a .flags) (a .pattern) ∷ answersOf (addWords t (a .id) (a .flags) (a .pattern)) l
+answersOf t (a ∷ l) = addAnswer t a ∷ answersOf (addWords t a) l
 
 abbrev pub additionsIn : List Case → List Addition
 additionsIn cases = map (λ (k : Case). k .rule) cases
 
--- the rules of all cases, one after the other in one table: each answer is as for the rule alone, and each log gives the pairs of all the accepted rules
+-- the rules of all cases, one after the other in one table: each answer is as for the rule alone,
+-- and each log gives the pairs of all the accepted rules
 abbrev pub Together : List Case → List Log → Type 0
 Together cases logs = (words : List ℕ) → tableWords ≤ length words
     → (answersOf (emptied words) (additionsIn cases) ≡ map (λ (k : Case). answerIn (k .verdict)) cases)
@@ -86,9 +88,8 @@ Together cases logs = (words : List ℕ) → tableWords ≤ length words
 
 -- ---- the table
 
--- "Ids: any 32-bit number": an id is taken as its low 32 bits
 abbrev pub rule : (id flags : ℕ) → String → Addition
-rule id flags pattern = record { id = id % 2 ^ 32; narrow = omega arith; flags = flags; pattern = bytes pattern }
+rule id flags pattern = addition id flags (bytes pattern)
 
 -- the end offsets of the one rule that there is
 abbrev ends : ℕ → List ℕ → List Pair
@@ -126,11 +127,13 @@ cases =
     -- "a pair with none settled waits, as `a(?:\b|\B)` and `ba\b|a\B` do"
     ∷ hits 15 0 "a(?:\\b|\\B)" (log 15 (("a", []) ∷ ("b", 1 ∷ []) ∷ []) [] ∷ [])
     ∷ hits 16 0 "ba\\b|a\\B" (log 16 (("ba", []) ∷ ("-", 2 ∷ []) ∷ []) [] ∷ [])
-    -- "delivered when that byte is taken, or at closing, before the pairs of the newer offset": so of a single-match rule it is the one that stays
+    -- "delivered when that byte is taken, or at closing, before the pairs of the newer offset": so
+    -- of a single-match rule it is the one that stays
     ∷ hits 13 8 "a\\b|a-" (log 13 (("a-", 1 ∷ []) ∷ []) [] ∷ log 13 (("a", []) ∷ []) (1 ∷ []) ∷ [])
     -- "Add flag 4": "`^` also holds after a byte 10 that isn't the stream's last byte"
     ∷ hits 14 4 "\\n^" (log 14 (("\n\n", 1 ∷ []) ∷ []) [] ∷ [])
-    -- "`[z-a]` 9 at 1; `a*+` 14 at 1; `a)` 12 at 1; `(a` 12 at 2; `\x{100}` 7 at 0; `X{,4}` 15 at 5; empty pattern 15 at 0."
+    -- "`[z-a]` 9 at 1; `a*+` 14 at 1; `a)` 12 at 1; `(a` 12 at 2; `\x{100}` 7 at 0; `X{,4}` 15 at
+    -- 5; empty pattern 15 at 0."
     ∷ refuses 21 0 "[z-a]" 9 1
     ∷ refuses 22 0 "a*+" 14 1
     ∷ refuses 23 0 "a)" 12 1
@@ -143,7 +146,8 @@ cases =
 abbrev cut : List (String × List Pair) → (closing : List Pair) → Log
 cut blocks closing = record { blocks = blocks; closing = closing }
 
--- the same logs with all the rules in one table: by rising id within a byte, whatever the order of their addition
+-- the same logs with all the rules in one table: by rising id within a byte, whatever the order of
+-- their addition
 unfoldable pub logs : List Log
 logs =
     cut (("fooxyzbar", (3, 8) ∷ (8, 8) ∷ (12, 8) ∷ (15, 8) ∷ (16, 8) ∷ (7, 9) ∷ []) ∷ ("baz", (3, 11) ∷ (8, 11) ∷ (12, 11) ∷ (15, 11) ∷ (16, 11) ∷ []) ∷ ("qbar", (3, 15) ∷ (8, 15) ∷ (12, 15) ∷ (15, 15) ∷ (16, 15) ∷ (7, 16) ∷ []) ∷ []) []

@@ -1,8 +1,10 @@
--- Demand 1, over all the public calls: "Whatever rule bytes, rule table, stream state, block or report space it is handed, every call ends and gives one
--- fixed answer. Bad input is refused by number, and a refusal changes no word of anything lent. Nobody has to check beforehand."
--- `statement` of a function is the type of its theorem: its code, run on whatever it is handed, is safe, ends, and leaves what the `ensures` lines at its
--- head say. It is stated for every resource algebra of the program logic, which M stands for. None of these functions has a `requires` line. The theorem is
--- `demand1` of proofs/Demand1.antt.
+-- Demand 1, over all the public calls: "Whatever rule bytes, rule table, stream state, block or
+-- report space it is handed, every call ends and gives one fixed answer. Bad input is refused by
+-- number, and a refusal changes no word of anything lent. Nobody has to check beforehand."
+-- `statement` of a function is the type of its theorem: its code, run on whatever it is handed, is
+-- safe, ends, and leaves what the `ensures` lines at its head say. It is stated for every resource
+-- algebra of the program logic, which M stands for. None of these functions has a `requires` line.
+-- The theorem is `demand1` of proofs/Demand1.antt.
 use mathlib.Core.Path.{_≡_}
 use mathlib.Core.Bool.{true}
 use mathlib.Core.List.{List, []}
@@ -10,7 +12,7 @@ use Prim.Native.Nat.{ℕ}
 use Rattle.table.specs.Table.{emptyNumber, emptied}
 use Rattle.table.proofs.empty.Statement.{statement as empty}
 use Rattle.table.proofs.is_table.Statement.{statement as is_table}
-use Rattle.rules.specs.Add.{addAnswer, addWords}
+use Rattle.rules.specs.Add.{Addition, addAnswer, addWords}
 use Rattle.rules.proofs.add.Statement.{statement as add}
 use Rattle.card.specs.Calls.{writeAnswer, writtenBlock, readAnswer, readWords}
 use Rattle.card.proofs.write_block.Statement.{statement as card-write}
@@ -19,62 +21,68 @@ use Rattle.matched.specs.Matched.{matchedBytes, matchedNumber}
 use Rattle.matched.proofs.matched_bytes.Statement.{statement as matched-bytes}
 use Rattle.matched.proofs.matched_number.Statement.{statement as matched-number}
 use Rattle.stream.specs.declared.Stream.{Stream}
-use Rattle.stream.specs.Calls.{fresh, opened, scanned, scannedIds, scannedOffsets, closed, closedIds, closedOffsets}
+use Rattle.stream.specs.Calls.{Lists, Call, fresh, opened, scanned, scannedLists, closed, closedLists}
 use Rattle.stream.proofs.Stream.«open».Statement.{statement as stream-open}
 use Rattle.stream.proofs.Stream.scan.Statement.{statement as stream-scan}
 use Rattle.stream.proofs.Stream.close.Statement.{statement as stream-close}
 use Rattle.stream.proofs.Stream.busy.Statement.{statement as stream-busy}
 
--- "every call ends and gives one fixed answer": each call's answer and all that it was lent are, afterwards, what these definitions give for what it was
--- handed
+-- "every call ends and gives one fixed answer": each call's answer and all that it was lent are,
+-- afterwards, what these definitions give for what it was handed
 pub record Answers : Type 2 where
-  -- emptying a table (crates/table/src/lib.rt): the number is `emptyNumber`, the words are `emptied`
+  -- emptying a table (crates/table/src/lib.rt): the number is `emptyNumber`, the words are
+  -- `emptied`
   pub emptying : {M : Type 1} → empty M
   -- the yes-or-no test: `isTable`
   pub testing : {M : Type 1} → is_table M
-  -- adding a rule (crates/rules/src/lib.rt): number and place are `addAnswer`, the words are `addWords`
+  -- adding a rule (crates/rules/src/lib.rt): number and place are `addAnswer`, the words are
+  -- `addWords`
   pub adding : {M : Type 1} → add M
   -- opening a stream (crates/stream/src/lib.rt): number and state are `opened`
   pub opening : {M : Type 1} → stream-open M
-  -- scanning a block: number, bytes taken, count of reports, units used and next state are `scanned`, the two lists are `scannedIds` and `scannedOffsets`
+  -- scanning a block: number, bytes taken, count of reports, units used and next state are
+  -- `scanned`, the lists are `scannedLists`
   pub scanning : {M : Type 1} → stream-scan M
-  -- closing: number, count of reports and next state are `closed`, the two lists are `closedIds` and `closedOffsets`
+  -- closing: number, count of reports and next state are `closed`, the lists are `closedLists`
   pub closing : {M : Type 1} → stream-close M
   -- the busy figure: `busyOf`
   pub busy : {M : Type 1} → stream-busy M
-  -- writing a block of the table (crates/card/src/lib.rt): number and place are `writeAnswer`, the block is `writtenBlock`
+  -- writing a block of the table (crates/card/src/lib.rt): number and place are `writeAnswer`, the
+  -- block is `writtenBlock`
   pub writing-block : {M : Type 1} → card-write M
   -- reading one: number and place are `readAnswer`, the words are `readWords`
   pub reading-block : {M : Type 1} → card-read M
-  -- showing the matched bytes (crates/matched/src/lib.rt): `matchedBytes`; and the number of the same question: `matchedNumber`
+  -- showing the matched bytes (crates/matched/src/lib.rt): `matchedBytes`; and the number of the
+  -- same question: `matchedNumber`
   pub showing : {M : Type 1} → matched-bytes M
   pub showing-number : {M : Type 1} → matched-number M
 
--- "Other refusals return the number, no bytes taken, no reports, the state unchanged"; what was used is "0 when refused", and both lists keep every word
-pub record ScanRefused (t : List ℕ) (s : Stream) (allowance : ℕ) (block ids offsets : List ℕ) : Type 0 where
-  pub taken : scanned t s allowance block ids offsets .taken ≡ 0
-  pub reports : scanned t s allowance block ids offsets .reports ≡ 0
-  pub used : scanned t s allowance block ids offsets .used ≡ 0
-  pub state : scanned t s allowance block ids offsets .stream ≡ s
-  pub ids-kept : scannedIds t s allowance block ids offsets ≡ ids
-  pub offsets-kept : scannedOffsets t s allowance block ids offsets ≡ offsets
+-- "Other refusals return the number, no bytes taken, no reports, the state unchanged"; what was
+-- used is "0 when refused", and both lists keep every word
+pub record ScanRefused (t : List ℕ) (s : Stream) (c : Call) : Type 0 where
+  pub taken : scanned t s c .taken ≡ 0
+  pub reports : scanned t s c .reports ≡ 0
+  pub used : scanned t s c .used ≡ 0
+  pub state : scanned t s c .stream ≡ s
+  pub lists-kept : scannedLists t s c ≡ c .slots
 
-pub record CloseRefused (t : List ℕ) (s : Stream) (ids offsets : List ℕ) : Type 0 where
-  pub reports : closed t s ids offsets .reports ≡ 0
-  pub state : closed t s ids offsets .stream ≡ s
-  pub ids-kept : closedIds t s ids offsets ≡ ids
-  pub offsets-kept : closedOffsets t s ids offsets ≡ offsets
+pub record CloseRefused (t : List ℕ) (s : Stream) (slots : Lists) : Type 0 where
+  pub reports : closed t s slots .reports ≡ 0
+  pub state : closed t s slots .stream ≡ s
+  pub lists-kept : closedLists t s slots ≡ slots
 
--- "a refusal changes no word of anything lent": whenever the number is not 0. (The test, the opening and the busy figure are lent nothing to write to.)
+-- "a refusal changes no word of anything lent": whenever the number is not 0. (The test, the
+-- opening and the busy figure are lent nothing to write to.)
 pub record Refusals : Type 0 where
   pub emptying : (t : List ℕ) → ¬ (emptyNumber t ≡ 0) → emptied t ≡ t
-  -- "A refused addition returns its number and a place, and leaves the table as it was. An accepted one has place 0."
-  pub adding : (t : List ℕ) (id flags : ℕ) (pattern : List ℕ) → ¬ (addAnswer t id flags pattern .number ≡ 0) → addWords t id flags pattern ≡ t
-  pub added : (t : List ℕ) (id flags : ℕ) (pattern : List ℕ) → addAnswer t id flags pattern .number ≡ 0 → addAnswer t id flags pattern .place ≡ 0
+  -- "A refused addition returns its number and a place, and leaves the table as it was. An accepted
+  -- one has place 0."
+  pub adding : (t : List ℕ) (a : Addition) → ¬ (addAnswer t a .number ≡ 0) → addWords t a ≡ t
+  pub added : (t : List ℕ) (a : Addition) → addAnswer t a .number ≡ 0 → addAnswer t a .place ≡ 0
   -- "A refused opening hands back a closed state, all else in it zero."
   pub opening : (t : List ℕ) → ¬ (opened t .number ≡ 0) → opened t .stream ≡ fresh 0 0 true
-  pub scanning : (t : List ℕ) (s : Stream) (allowance : ℕ) (block ids offsets : List ℕ) → ¬ (scanned t s allowance block ids offsets .number ≡ 0) → ScanRefused t s allowance block ids offsets
-  pub closing : (t : List ℕ) (s : Stream) (ids offsets : List ℕ) → ¬ (closed t s ids offsets .number ≡ 0) → CloseRefused t s ids offsets
+  pub scanning : (t : List ℕ) (s : Stream) (c : Call) → ¬ (scanned t s c .number ≡ 0) → ScanRefused t s c
+  pub closing : (t : List ℕ) (s : Stream) (slots : Lists) → ¬ (closed t s slots .number ≡ 0) → CloseRefused t s slots
   -- "A refused call leaves the lent table as it found it", and the writer's the lent block
   pub writing-block : (t : List ℕ) (i : ℕ) (b : List ℕ) → ¬ (writeAnswer t i b .number ≡ 0) → writtenBlock t i b ≡ b
   pub reading-block : (t : List ℕ) (i : ℕ) (b : List ℕ) → ¬ (readAnswer t i b .number ≡ 0) → readWords t i b ≡ t

@@ -1,11 +1,15 @@
--- One list of calls that meets what demand 3 asks for, so that the theorem is seen to speak of something: refused additions, other refused calls before the
--- opening and after it, report space for two reports only, an allowance too small for a byte, refused scans and closings, an empty block, and calls after the closing. The theorem is `instance` of
--- proofs/Example.antt. Assumes nothing: these are definitions.
+-- One list of calls that meets what demand 3 asks for, so that the theorem is seen to speak of
+-- something: refused additions, other refused calls before the opening and after it, report space
+-- for two reports only, an allowance too small for a byte, refused scans and closings, an empty
+-- block, and calls after the closing. The theorem is `instance` of proofs/Example.antt. Assumes
+-- nothing: these are definitions.
 use mathlib.Core.Path.{_≡_}
 use mathlib.Core.List.{List, [], _∷_}
 use Prim.Native.Nat.{ℕ, _≤_}
+use native.Mathlib.Omega.{arith}
 use lib.ListN.{length}
 use Rattle.table.specs.Layout.{tableWords}
+use Rattle.stream.specs.Calls.{lists, call}
 use Rattle.regex.specs.Ordered.{Pair, Ordered}
 use Rattle.demands.specs.Chain.{this, those, adding, scanning, Step, addition, another, Item, scan, close, other, Outcome, by-scan, by-close, outcomesOf, begun}
 use Rattle.demands.specs.Demands.{Setting, tableIn, streamIn, rulesIn, Calls, closes, taken, joined}
@@ -20,33 +24,33 @@ slots = 0 ∷ 0 ∷ []
 
 unfoldable pub steps : List Step
 steps =
-    addition (rule 5 0 "ab+")
+    addition (rule 5 0 "ab+") (omega arith)
     -- refused with 18: the state that a refused opening hands back has other counts
-    ∷ another (scanning this (begun []) 257 (bytes "ab") slot slot)
+    ∷ another (scanning this (begun []) (call 257 (bytes "ab") (lists slot slot)))
     -- refused, 10 at 2
-    ∷ addition (rule 8 0 "a**")
+    ∷ addition (rule 8 0 "a**") (omega arith)
     ∷ []
 
 unfoldable pub items : List Item
 items =
     -- takes 3 bytes, for 5 units: the fourth has a third report
-    scan 10 (bytes "abbb") slots slots
+    scan (call 10 (bytes "abbb") (lists slots slots))
     -- refused with 3: the id is in the table
-    ∷ other (adding this 5 0 (bytes "a"))
+    ∷ other (adding this (rule 5 0 "a"))
     -- refused with 20: report space for one report
-    ∷ scan 257 (bytes "b") slots slot
+    ∷ scan (call 257 (bytes "b") (lists slots slot))
     -- refused with 1: no table
-    ∷ other (scanning (those []) (begun []) 257 (bytes "ab") slot slot)
+    ∷ other (scanning (those []) (begun []) (call 257 (bytes "ab") (lists slot slot)))
     -- an empty block
-    ∷ scan 257 [] slots slots
-    ∷ close slot slots
+    ∷ scan (call 257 [] (lists slots slots))
+    ∷ close (lists slot slots)
     -- takes nothing: the byte costs two units
-    ∷ scan 1 (bytes "b") slots slots
-    ∷ scan 2 (bytes "b") slots slots
-    ∷ close slots slots
+    ∷ scan (call 1 (bytes "b") (lists slots slots))
+    ∷ scan (call 2 (bytes "b") (lists slots slots))
+    ∷ close (lists slots slots)
     -- refused with 19: the stream is closed
-    ∷ scan 257 (bytes "b") slots slots
-    ∷ close slots slots
+    ∷ scan (call 257 (bytes "b") (lists slots slots))
+    ∷ close (lists slots slots)
     ∷ []
 
 -- what the scans and closings among them give

@@ -1,5 +1,6 @@
--- What is promised: lists of calls (Chain), demand 1, demands 2 and 3 and what follows for whole lists (Demands), the worked cases of the rules (Cases), one
--- instance of demand 3 (Example), one rule undisturbed by the others (Alone).
+-- What is promised: lists of calls (Chain), demand 1, demands 2 and 3 and what follows for whole
+-- lists (Demands), the worked cases of the rules (Cases), one instance of demand 3 (Example), one
+-- rule undisturbed by the others (Alone).
 pub mod Chain
 pub mod Demand1
 pub mod Demands

@@ -1,4 +1,5 @@
--- The two cases of a letter, and sets closed under case. What stands in quotes is quoted from the product's rules.
+-- The two cases of a letter, and sets closed under case. What stands in quotes is quoted from the
+-- product's rules.
 use mathlib.Core.Bool.{cond, _||_}
 use mathlib.Core.List.{List}
 use Prim.Native.Nat.{ℕ, _+_, _-_}

@@ -1,4 +1,5 @@
--- What a byte is. Each kind is a predicate on the byte's number, by ranges. What stands in quotes is quoted from the product's rules.
+-- What a byte is. Each kind is a predicate on the byte's number, by ranges. What stands in quotes
+-- is quoted from the product's rules.
 use mathlib.Core.Bool.{Bool, not, _&&_, _||_}
 use mathlib.Core.List.{List, [], _∷_}
 use Prim.Native.Nat.{ℕ, _+_, _*_}

@@ -1,7 +1,9 @@
-// What each byte is: a digit, a word byte, white space of a sort, a letter of either case. One table has it, a bit for each kind; the sets of the types
-// `\d \w \s \h \v` and of the classes by name such as `[:alpha:]`, their complements, and the other case of a letter are read from the table and written
-// nowhere else.
-// Nothing is required of a caller. specs/Kind.antt, specs/Case.antt and specs/Side.antt say what each function gives.
+// What each byte is: a digit, a word byte, white space of a sort, a letter of either case. One
+// table has it, a bit for each kind; the sets of the types `\d \w \s \h \v` and of the classes by
+// name such as `[:alpha:]`, their complements, and the other case of a letter are read from the
+// table. What a byte is beside a gap is asked for each byte of a stream, so `side_of` has it by
+// ranges. Nothing is required of a caller. specs/Kind.antt, specs/Case.antt and specs/Side.antt say
+// what each function gives.
 mod table;
 
 ghost use mathlib.Core.Path.{_≡_};
@@ -206,8 +208,8 @@ pub fn side_of(b: u8) -> Side
     ensures { λ r. ⌜ r ≡ sideOf b ⌝ }
 {
     match b {
-        10 => Side::Newline,
-        48..=57 | 65..=90 | 95 | 97..=122 => Side::Word,
+        b'\n' => Side::Newline,
+        b'0'..=b'9' | b'A'..=b'Z' | b'_' | b'a'..=b'z' => Side::Word,
         _ => Side::Other,
     }
 }

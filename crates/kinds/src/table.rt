@@ -1,4 +1,5 @@
-// The table: the kinds of each byte, one entry a byte, byte 0 first. Whoever reads it calls `kind_table`.
+// The table: the kinds of each byte, one entry a byte, byte 0 first. Whoever reads it calls
+// `kind_table`.
 use crate::ALNUM;
 use crate::ALPHA;
 use crate::ASCII;

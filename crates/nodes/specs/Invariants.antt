@@ -1,4 +1,5 @@
--- What the private functions promise one another, and which trees words can hold. No public contract cites it.
+-- What the private functions promise one another, and which trees words can hold. No public
+-- contract cites it.
 use mathlib.Core.Path.{_≡_}
 use mathlib.Core.Bool.{cond}
 use mathlib.Core.List.{List}
@@ -13,7 +14,8 @@ use Rattle.nodes.specs.Nodes.{Syntax, treeAt, extraOf, numberOf}
 unfoldable pub childAt : List ℕ → ℕ → ℕ → Syntax
 childAt a k x = cond (ltb x k) (treeAt a x) empty
 
--- a tree that words can hold: its sets are four 64-bit words, its repeats have numbers that a node has room for
+-- a tree that words can hold: its sets are four 64-bit words, its repeats have numbers that a node
+-- has room for
 unfoldable pub Tidy : Syntax → Type 0
 Tidy empty = Unit {0}
 Tidy (item c) = Words c

@@ -1,5 +1,6 @@
--- How words hold a syntax tree: a node is one word, its number is the word's index, and its children have smaller numbers. An item's set stands in
--- the four words before it. Assumes nothing: these are definitions.
+-- How words hold a syntax tree: a node is one word, its number is the word's index, and its
+-- children have smaller numbers. An item's set stands in the four words before it. Assumes nothing:
+-- these are definitions.
 use mathlib.Core.Bool.{Bool, true, false, cond, _||_}
 use mathlib.Core.List.{List, [], _∷_, _++_}
 use Prim.Native.Nat.{ℕ, zero, suc, _+_, _-_, _*_, _/_, _%_, _^_}
@@ -64,7 +65,8 @@ nodeOf w set t =
     (cond (eqb (opOf w) 4) (or (t (xOf w)) (t (yOf w)))
     (cond (eqb (opOf w) 5) (repeat (t (xOf w)) (yOf w) (extraOf (zOf w))) empty))))
 
--- the tree of node k, looking at most `deep` levels down; a child that is not smaller reads as empty
+-- the tree of node k, looking at most `deep` levels down; a child that is not smaller reads as
+-- empty
 unfoldable pub treeWithin : (deep : ℕ) → List ℕ → ℕ → Syntax
 treeWithin zero a k = empty
 treeWithin (suc d) a k = nodeOf (getD a k 0) (take 4 (drop (k - 4) a)) (λ j. cond (ltb j k) (treeWithin d a j) empty)
@@ -82,7 +84,8 @@ asserts (then x y) = asserts x || asserts y
 asserts (or x y) = asserts x || asserts y
 asserts (repeat x n j) = asserts x
 
--- how many words a tree takes, and those words, the first of them number n: children first, the left before the right
+-- how many words a tree takes, and those words, the first of them number n: children first, the
+-- left before the right
 unfoldable pub width : Syntax → ℕ
 width empty = 1
 width (item c) = 5

@@ -1,6 +1,6 @@
 // Three figures of a tree, worked out over its nodes by recursion with the node number falling: how
-// many positions it has, whether it could match no bytes, and whether it has an assertion. Any words
-// stand for some tree, so nothing is asked of them.
+// many positions it has, whether it could match no bytes, and whether it has an assertion. Any
+// words stand for some tree, so nothing is asked of them.
 use crate::layout::ASSERTION;
 use crate::layout::ENDLESS;
 use crate::layout::ITEM;

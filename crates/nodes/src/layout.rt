@@ -1,4 +1,5 @@
-// A node's word by name, as specs/Nodes.antt has it. Every crate that reads or writes nodes takes the numbers from here.
+// A node's word by name, as specs/Nodes.antt has it. Every crate that reads or writes nodes takes
+// the numbers from here.
 ghost use mathlib.Core.Path.{_≡_};
 ghost use lib.ListN.{getD};
 
@@ -15,7 +16,8 @@ pub const OR: u64 = 4;
 
 pub const REPEAT: u64 = 5;
 
-// The assertions by number, in an assertion's x: `^` and `\A`, `\z`, `$` and `\Z`, `^` and `$` in line mode, `\b`, `\B`.
+// The assertions by number, in an assertion's x: `^` and `\A`, `\z`, `$` and `\Z`, `^` and `$` in
+// line mode, `\b`, `\B`.
 pub const AT_START: u64 = 0;
 
 pub const AT_END: u64 = 1;

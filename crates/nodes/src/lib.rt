@@ -1,5 +1,6 @@
-// The syntax tree as numbered nodes in words, each node's children with smaller numbers: the words by
-// name, and three figures of a tree. What writes nodes is the reader, what reads them the builder.
+// The syntax tree as numbered nodes in words, each node's children with smaller numbers: the words
+// by name, and three figures of a tree. What writes nodes is the reader, what reads them the
+// builder.
 mod figures;
 pub mod layout;
 

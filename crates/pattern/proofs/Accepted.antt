@@ -1,6 +1,8 @@
--- A pattern of at most 1,024 bytes is refused with a number and place exactly if they are those of the reasons 6 to 16 and 23 that decide, and accepted exactly
--- if no reason holds. Where a token stands, the walk from the pattern's start is the walk from there. There it goes on or stops with the lowest row that
--- holds of the token; so a refusal has its reason, and a reason refuses there, by its own number or a lower one. Assumes nothing.
+-- A pattern of at most 1,024 bytes is refused with a number and place exactly if they are those of
+-- the reasons 6 to 16 and 23 that decide, and accepted exactly if no reason holds. Where a token
+-- stands, the walk from the pattern's start is the walk from there. There it goes on or stops with
+-- the lowest row that holds of the token; so a refusal has its reason, and a reason refuses there,
+-- by its own number or a lower one. Assumes nothing.
 use mathlib.Core.Path.{_≡_, refl, sym, ap, ap₂, subst, _∙_}
 use mathlib.Core.Bool.{Bool, true, false, cond, or-false}
 use mathlib.Core.List.{List, [], _∷_}
@@ -28,7 +30,7 @@ use Rattle.regex.proofs.Logic.{true-T}
 use Rattle.regex.proofs.Counted.{above-limit, matches-empty}
 use Rattle.nodes.specs.Nodes.{Syntax}
 use Rattle.pattern.specs.Walk.{Target, nothing, single, repeated, Frame, State, Read, tree, refused, Next, stop, go, groupOf, deepest, targetFault, closing, opening, act, context, next, walk, begin}
-use Rattle.pattern.specs.Read.{longest, judged, readOf, answerOf}
+use Rattle.pattern.specs.Read.{longest, judged, readOf, limitedRead, answerOf}
 use Rattle.pattern.specs.Reasons.{plainly, row6, row7, row9, row10, row11, row12, row14, row23, memberRow14, ofEnd, rawToken, Stands, InClass, membersAt, markAt, closes, tokenAt, ClassAt, MemberAt, Finished, Reason, Decides}
 use Rattle.pattern.specs.Invariants.{from, follow, ended}
 use Rattle.atoms.proofs.Suffixes.{first}
@@ -36,7 +38,7 @@ use Rattle.tokens.proofs.Lexemes.{lexeme-end}
 use Rattle.classes.proofs.Ranges.{member-advances, members-end, members-mark, members-close, members-fault, members-more}
 use Rattle.pattern.proofs.Base.{either, split, true-not-false, by-lt, by-eq}
 use Rattle.pattern.proofs.Steps.{walk-end, walk-on}
-use Rattle.pattern.proofs.Answers.{accepted-tree}
+use Rattle.pattern.proofs.Answers.{within, accepted-tree}
 use Rattle.pattern.proofs.Lowest.{lowest, both, last-row, by-row, AtMost, most6, most7, most9, most10, most11, most14, most23}
 use Rattle.pattern.proofs.Rows.{ownFault, spelled-fault, lexeme-fault, memberFault, member-at-fault}
 use Rattle.pattern.proofs.Standing.{step-walk, stands-walk, stands-fits, inside-token, begin-onward, class-onward, class-fits, close-quiet, class-quiet, open-quiet, unclosed-row, row-unclosed}
@@ -440,18 +442,14 @@ module _ (s : List ℕ) (o : Options) where
 
 -- ---- the theorems
 
-module _ (s : List ℕ) (o : Options) (short : length s ≤ longest) where
-  read-judged : readOf s o ≡ judged (length s) (walk s 0 0 (begin o))
-  unfolding readOf
-  read-judged = rw (le-ltb longest (length s) short)
-
+module _ (s : List ℕ) (o : Options) where
   read-decided : Decided s o (readOf s o)
-  read-decided =
-      subst (Decided s o) (sym read-judged)
-      (judged-decided s o (walk s 0 0 (begin o)) (walk-answered s o (length s) 0 (begin o) (omega arith) Stands.begins))
+  unfolding readOf
+  read-decided = judged-decided s o (walk s 0 0 (begin o)) (walk-answered s o (length s) 0 (begin o) (omega arith) Stands.begins)
 
   read-refuses : (n q : ℕ) → Reason s o n q → Refuses n q (readOf s o)
-  read-refuses n q r = subst (Refuses n q) (sym read-judged) (reason-refuses s o n q r)
+  unfolding readOf
+  read-refuses n q r = reason-refuses s o n q r
 
   -- every refusal has its reason
   pub refusal-reason : (n p : ℕ) → readOf s o ≡ refused n p → Reason s o n p
@@ -473,24 +471,35 @@ module _ (s : List ℕ) (o : Options) (short : length s ≤ longest) where
           e ∙ ap₂ refused same (h .1)
       by-read (tree t) e h = absurd h
 
-  -- A pattern of at most 1,024 bytes is refused with a number and place exactly if they decide.
+  -- A pattern is refused with a number and place exactly if they decide.
   pub decided : (n p : ℕ) → (readOf s o ≡ refused n p) ↔ Decides s o n p
   decided n p = (λ e. record { reason = refusal-reason n p e; lowest = refusal-lowest n p e }, decides-refused n p)
 
-  none-holds : answerOf (readOf s o) .number ≡ 0 → (n p : ℕ) → Reason s o n p → ⊥
-  unfolding Refuses
-  none-holds z n p r =
-      let a = accepted-tree s o (answerOf (readOf s o)) refl z in
-      rw (a .1) at (read-refuses n p r)
+  -- no reason holds
+  abbrev pub NoReason : Type 0
+  NoReason = (n p : ℕ) → Reason s o n p → ⊥
 
-  none-refuses : ((n p : ℕ) → Reason s o n p → ⊥) → answerOf (readOf s o) .number ≡ 0
-  unfolding answerOf
+  none-holds : ((t : Syntax) × (readOf s o ≡ tree t)) → NoReason
+  unfolding Refuses
+  none-holds a n p r = rw (a .1) at (read-refuses n p r)
+
+  none-refuses : NoReason → (t : Syntax) × (readOf s o ≡ tree t)
   none-refuses no-reason = by-read (readOf s o) refl
     where
-      by-read : (r : Read) → readOf s o ≡ r → answerOf r .number ≡ 0
+      by-read : (r : Read) → readOf s o ≡ r → (t : Syntax) × (readOf s o ≡ tree t)
       by-read (refused number place) e = absurd (no-reason number place (refusal-reason number place e))
-      by-read (tree t) e = refl
+      by-read (tree t) e = (t, e)
 
-  -- It is accepted exactly if no reason holds.
-  pub accepted : (answerOf (readOf s o) .number ≡ 0) ↔ ((n p : ℕ) → Reason s o n p → ⊥)
-  accepted = (none-holds, none-refuses)
+  -- It reads as a tree exactly if no reason holds.
+  pub reads-if : ((t : Syntax) × (readOf s o ≡ tree t)) ↔ NoReason
+  reads-if = (none-holds, none-refuses)
+
+  -- The reader accepts it exactly if besides it is not too long.
+  pub accepted : (answerOf (limitedRead s o) .number ≡ 0) ↔ ((length s ≤ longest) × NoReason)
+  unfolding limitedRead answerOf
+  accepted = (
+    λ z. let a = accepted-tree s o (answerOf (limitedRead s o)) refl z in
+        let w = within s o (a .0) (a .1) in
+        (w .0, none-holds (a .0, w .1)),
+    λ h. rw (le-ltb longest (length s) (h .0), none-refuses (h .1) .1),
+  )

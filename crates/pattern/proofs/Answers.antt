@@ -1,7 +1,8 @@
--- What every reading gives: a refusal with a number, or a tree that fits the words and is read back from them. Each token adds at most six words a byte
--- and only tidy trees, so the walk keeps both. Assumes nothing.
+-- What every reading gives: a refusal with a number, or a tree that fits the words and is read back
+-- from them. Each token adds at most six words a byte and only tidy trees, so the walk keeps both.
+-- Assumes nothing.
 use mathlib.Core.Path.{_≡_, refl, sym, ap, _∙_}
-use mathlib.Core.Bool.{false}
+use mathlib.Core.Bool.{Bool, true, false, cond}
 use mathlib.Core.List.{List, [], _∷_}
 use Prim.Native.Nat.{ℕ, zero, suc, pred, _+_, _-_, _*_, _≤_, _<_}
 use native.Mathlib.Omega.{arith}
@@ -21,7 +22,7 @@ use Rattle.regex.specs.Tree.{empty, item, then, or}
 use Rattle.regex.specs.Count.{limit, saturating, nullable}
 use Rattle.nodes.specs.Nodes.{Syntax, treeAt, width}
 use Rattle.pattern.specs.Walk.{Target, nothing, single, Frame, State, Read, tree, refused, Next, stop, go, chained, chosen, branchOf, groupOf, with-item, one, deepest, repeating, closing, opening, act, context, next, finish, walk, begin}
-use Rattle.pattern.specs.Read.{longest, judged, readOf, room, answerOf}
+use Rattle.pattern.specs.Read.{longest, tooLong, judged, readOf, limitedRead, room, answerOf}
 use Rattle.pattern.specs.declared.Reading.{Reading}
 use Rattle.nodes.specs.Invariants.{Tidy}
 use Rattle.pattern.proofs.Base.{either}
@@ -229,13 +230,14 @@ judged-good n (tree t) h f =
     (λ e. either Good (ltb limit (saturating t)) (λ g z. omega arith)
     (λ g. (f .0, omega (arith, f .1), record { some = e; few = ltb-false limit (saturating t) g })))
 
-read-good : (s : List ℕ) (o : Options) → Good (readOf s o)
-unfolding readOf Good
+read-good : (s : List ℕ) (o : Options) → Good (limitedRead s o)
+unfolding limitedRead readOf Good
 read-good s o =
     either Good (ltb longest (length s)) (λ e z. omega arith)
     (λ e. judged-good (length s) (walk s 0 0 (begin o)) (ltb-false longest (length s) e) (walk-fine s 0 0 (length s) (begin o) (begin-kept o) (omega arith)))
 
--- Of an accepted reading: its words hold its tree at its root, its items' sets are four 64-bit words (`Tidy`), and the rest of what it says.
+-- Of an accepted reading: its words hold its tree at its root, its items' sets are four 64-bit
+-- words (`Tidy`), and the rest of what it says.
 pub record Accepted (r : Reading) (t : Syntax) : Type 0 where
   pub tree : treeAt (r .nodes) (r .root) ≡ t
   pub tidy : Tidy t
@@ -263,10 +265,19 @@ refusal-number : (number place : ℕ) → Good (refused number place) → answer
 unfolding Good answerOf
 refusal-number number place g = g
 
--- a reading with number 0 has a tree
-pub accepted-tree : (s : List ℕ) (o : Options) (r : Reading) → r ≡ answerOf (readOf s o) → r .number ≡ 0 → (t : Syntax) × (readOf s o ≡ tree t) × Accepted r t
-accepted-tree s o r e z = go (readOf s o) refl (read-good s o)
+-- what the reader gives a tree of is not too long, and reads as that tree
+pub within : (s : List ℕ) (o : Options) (t : Syntax) → limitedRead s o ≡ tree t → (length s ≤ longest) × (readOf s o ≡ tree t)
+unfolding limitedRead
+within s o t = go (tooLong s) refl
   where
-    go : (x : Read) → readOf s o ≡ x → Good x → (t : Syntax) × (readOf s o ≡ tree t) × Accepted r t
+    go : (b : Bool) → tooLong s ≡ b → cond b (refused 5 0) (readOf s o) ≡ tree t → (length s ≤ longest) × (readOf s o ≡ tree t)
+    go true p e = let z : _≡_ {A = ℕ} 0 1 = cc in absurd (omega arith)
+    go false p e = (ltb-false longest (length s) p, e)
+
+-- a reading with number 0 has a tree
+pub accepted-tree : (s : List ℕ) (o : Options) (r : Reading) → r ≡ answerOf (limitedRead s o) → r .number ≡ 0 → (t : Syntax) × (limitedRead s o ≡ tree t) × Accepted r t
+accepted-tree s o r e z = go (limitedRead s o) refl (read-good s o)
+  where
+    go : (x : Read) → limitedRead s o ≡ x → Good x → (t : Syntax) × (limitedRead s o ≡ tree t) × Accepted r t
     go (tree t) q g = (t, q, rw (e, q) (answer-accepted t g))
     go (refused number place) q g = absurd (refusal-number number place g (sym (ap (λ (x : Reading). x .number) (e ∙ ap answerOf q)) ∙ z))

@@ -1,5 +1,5 @@
 -- The answer of a reading. Assumes nothing: these are definitions.
-use mathlib.Core.Bool.{false, cond}
+use mathlib.Core.Bool.{Bool, false, cond}
 use mathlib.Core.List.{List, _++_}
 use Prim.Native.Nat.{ℕ, _-_, _/_, _%_}
 use lib.Dec.{eqb, ltb}
@@ -10,21 +10,29 @@ use Rattle.nodes.specs.Nodes.{width, lay}
 use Rattle.pattern.specs.Walk.{Read, tree, refused, walk, begin}
 use Rattle.pattern.specs.declared.Reading.{Reading}
 
--- "Raise .. the pattern to 1,024 bytes"
+-- 5: "Raise .. the pattern to 1,024 bytes"
 abbrev pub longest : ℕ
 longest = 1024
 
--- faults known only at the end, at the pattern's length: 15, "the rule could match no bytes, were all its assertions true"; 16, "over 256 positions in
--- this rule"
+abbrev pub tooLong : List ℕ → Bool
+tooLong s = ltb longest (length s)
+
+-- faults known only at the end, at the pattern's length: 15, "the rule could match no bytes, were
+-- all its assertions true"; 16, "over 256 positions in this rule"
 unfoldable pub judged : ℕ → Read → Read
 judged n (refused number place) = refused number place
 judged n (tree t) = cond (nullable t) (refused 15 n) (cond (ltb limit (saturating t)) (refused 16 n) (tree t))
 
--- reading a pattern: 5 for a pattern over 1,024 bytes, else the walk
+-- reading a pattern: the walk, and what is known at its end
 unfoldable pub readOf : List ℕ → Options → Read
-readOf s o = cond (ltb longest (length s)) (refused 5 0) (judged (length s) (walk s 0 0 (begin o)))
+readOf s o = judged (length s) (walk s 0 0 (begin o))
 
--- "Flags, .. 1 caseless, 2 dot matches all"; "Add flag 4 and option `m`": other bits mean nothing here. No quote is open at the start.
+-- what the reader gives of it: 5 at 0 if it is too long, else what it reads as
+unfoldable pub limitedRead : List ℕ → Options → Read
+limitedRead s o = cond (tooLong s) (refused 5 0) (readOf s o)
+
+-- "Flags, .. 1 caseless, 2 dot matches all"; "Add flag 4 and option `m`": other bits mean nothing
+-- here. No quote is open at the start.
 unfoldable pub optionsOf : ℕ → Options
 optionsOf flags = record { caseless = eqb (flags % 2) 1; dotall = eqb (flags / 2 % 2) 1; lines = eqb (flags / 4 % 2) 1; quoted = false }
 

@@ -1,5 +1,6 @@
-// The reader: pattern bytes and options in, a refusal with its place or the syntax tree out. The tree comes back by value as numbered nodes in
-// an array of words, each node's children with smaller numbers, so nothing is lent and a refusal has nothing to leave alone.
+// The reader: pattern bytes and options in, a refusal with its place or the syntax tree out. The
+// tree comes back by value as numbered nodes in an array of words, each node's children with
+// smaller numbers, so nothing is lent and a refusal has nothing to leave alone.
 mod groups;
 mod items;
 mod reader;
@@ -12,14 +13,14 @@ pub use reader::Reader;
 use tokens::Options;
 ghost use mathlib.Core.Path.{_≡_};
 ghost use lib.ListN.{drop};
-ghost use Rattle.pattern.specs.Read.{readOf, optionsOf, answerOf};
+ghost use Rattle.pattern.specs.Read.{limitedRead, optionsOf, answerOf};
 ghost use Rattle.pattern.specs.Walk.{Read};
 
 // How many words the nodes of any pattern fit in.
 pub const NODE_WORDS: usize = 8192;
 
-// What reading a pattern gives: number 0 with place 0, the tree's root, how many words its nodes take, and its positions; or the refusal's number
-// and place, and zeros.
+// What reading a pattern gives: number 0 with place 0, the tree's root, how many words its nodes
+// take, and its positions; or the refusal's number and place, and zeros.
 pub struct Reading {
     pub number: u32,
     pub place: usize,
@@ -60,7 +61,7 @@ fn options_of(flags: u32) -> Options
 
 // Reads a pattern, all of it.
 fn read_all(pattern: &[u8], flags: u32) -> Reading
-    ensures { λ r. ⌜ r ≡ answerOf (readOf (now (pattern .entry)) (optionsOf flags)) ⌝ }
+    ensures { λ r. ⌜ r ≡ answerOf (limitedRead (now (pattern .entry)) (optionsOf flags)) ⌝ }
 {
     let length = pattern.len();
     if length > LONGEST {
@@ -91,9 +92,10 @@ fn read_all(pattern: &[u8], flags: u32) -> Reading
     }
 }
 
-// Reads the pattern that stands from a place on; past the end there is the empty one. The answer's place counts from there.
+// Reads the pattern that stands from a place on; past the end there is the empty one. The answer's
+// place counts from there.
 pub fn read_at(s: &[u8], at: usize, flags: u32) -> Reading
-    ensures { λ r. ⌜ r ≡ answerOf (readOf (drop at (now (s .entry))) (optionsOf flags)) ⌝ }
+    ensures { λ r. ⌜ r ≡ answerOf (limitedRead (drop at (now (s .entry))) (optionsOf flags)) ⌝ }
 {
     let length = s.len();
     let from = if at < length { at } else { length };
@@ -102,7 +104,7 @@ pub fn read_at(s: &[u8], at: usize, flags: u32) -> Reading
 
 // Reads a pattern.
 pub fn read(pattern: &[u8], flags: u32) -> Reading
-    ensures { λ r. ⌜ r ≡ answerOf (readOf (now (pattern .entry)) (optionsOf flags)) ⌝ }
+    ensures { λ r. ⌜ r ≡ answerOf (limitedRead (now (pattern .entry)) (optionsOf flags)) ⌝ }
 {
     Reader::new(pattern).read(flags)
 }

@@ -1,4 +1,5 @@
-// The reader that holds the lent bytes and its place. Its functions are thin: each takes it apart and hands slice and number on.
+// The reader that holds the lent bytes and its place. Its functions are thin: each takes it apart
+// and hands slice and number on.
 use crate::Reading;
 use crate::read_at;
 use tokens::Lexeme;
@@ -7,7 +8,7 @@ use tokens::token_at;
 ghost use mathlib.Core.Path.{_≡_};
 ghost use lib.ListN.{drop};
 ghost use Rattle.tokens.specs.Token.{lexemeOf};
-ghost use Rattle.pattern.specs.Read.{readOf, optionsOf, answerOf};
+ghost use Rattle.pattern.specs.Read.{limitedRead, optionsOf, answerOf};
 
 // The bytes of a pattern, and a place in them. A place past the end reads as the end.
 pub struct Reader<'a> {
@@ -32,7 +33,7 @@ impl<'a> Reader<'a> {
 
     // Reads what stands from its place on as a pattern.
     pub fn read(self, flags: u32) -> Reading
-        ensures { λ r. ⌜ r ≡ answerOf (readOf (drop (self .entry .at) (now (self .entry .bytes))) (optionsOf flags)) ⌝ }
+        ensures { λ r. ⌜ r ≡ answerOf (limitedRead (drop (self .entry .at) (now (self .entry .bytes))) (optionsOf flags)) ⌝ }
     {
         read_at(self.bytes, self.at, flags)
     }

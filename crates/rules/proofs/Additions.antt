@@ -3,8 +3,8 @@
 use mathlib.Core.Path.{_≡_, refl, sym, ap, ap₂, _∙_, subst}
 use mathlib.Core.Bool.{Bool, true, false, cond, _||_, or-false, or-assoc}
 use mathlib.Core.Logic.{_↔_}
-use mathlib.Core.List.{List, [], _∷_, _++_}
-use Prim.Native.Nat.{ℕ, _+_, _≤_, _<_}
+use mathlib.Core.List.{List, [], _∷_, _++_, List·Memᴰ, List·Memᴰ·head, List·Memᴰ·tail}
+use Prim.Native.Nat.{ℕ, _+_, _^_, _≤_, _<_}
 use native.Mathlib.Decide.{decLt, ℕ-discrete}
 use native.Mathlib.Omega.{arith}
 use lib.Dec.{eqb, ltb}
@@ -25,8 +25,8 @@ use Rattle.automaton.specs.declared.Parts.{Parts}
 use Rattle.automaton.proofs.Padded.{parts-whole}
 use Rattle.rules.specs.Gaps.{holdingAt, partsAt}
 use Rattle.rules.specs.Words.{placeOf, added}
-use Rattle.rules.specs.Add.{answer, hasId, addAnswer, withRule, addWords}
-use Rattle.rules.specs.Additions.{Addition, Accepted, size, used, taken, readingOf, nextAnswer, withNew, afterNext, acceptedAfter}
+use Rattle.rules.specs.Add.{Addition, readingOf, answer, hasId, addAnswer, withRule, addWords}
+use Rattle.rules.specs.Additions.{Narrow, Accepted, size, used, taken, nextAnswer, withNew, afterNext, acceptedAfter}
 use Rattle.rules.specs.Encoded.{addAll, encode}
 use Rattle.rules.specs.declared.Added.{Added}
 use Rattle.rules.proofs.Place.{count-to}
@@ -83,9 +83,9 @@ built-none t long =
 
 -- an addition that the rules let in
 abbrev pub Accepts : List Accepted → Addition → Type 0
-Accepts rs a = Admits (taken rs (a .id)) (length rs) (used rs) (a .flags) (a .pattern)
+Accepts rs a = Admits (taken rs (a .id)) (length rs) (used rs) a
 
-module _ (t : List ℕ) (rs : List Accepted) (b : Built t rs) (a : Addition) (ok : Accepts rs a) where
+module _ (t : List ℕ) (rs : List Accepted) (b : Built t rs) (a : Addition) (narrow : a .id < 2 ^ 32) (ok : Accepts rs a) where
   abbrev x : Syntax
   x = ok .read
 
@@ -117,7 +117,7 @@ module _ (t : List ℕ) (rs : List Accepted) (b : Built t rs) (a : Addition) (ok
   fresh : (c : ℕ) → c < rulesOf t → idWord t c ≡ a .id → ⊥
   fresh = no-record t (a .id) (b .ids (a .id) ∙ ok .free)
 
-  -- the ids of the records are those of the rules
+  -- the ids of the table are those of the rules
   word-id : (c : ℕ) → c < rulesOf t → idWord t c ≡ at ps c .rule .id
   unfolding automaton
   word-id c h =
@@ -151,7 +151,7 @@ module _ (t : List ℕ) (rs : List Accepted) (b : Built t rs) (a : Addition) (ok
   pub built-more : Built (added t (a .id) (a .flags) (partsAt x (positionsOf t))) (rs ++ (record { id = a .id; flags = a .flags; tree = x } ∷ []))
   built-more =
       record {
-        passed = passes-added t (a .id) (a .flags) parts (b .passed) (omega (arith, b .rules)) (omega (arith, b .positions, more)) (a .narrow) fresh;
+        passed = passes-added t (a .id) (a .flags) parts (b .passed) (omega (arith, b .rules)) (omega (arith, b .positions, more)) narrow fresh;
         rules = added-rules t (a .id) (a .flags) parts (b .passed .long) ∙ ap (λ (k : ℕ). k + 1) (b .rules) ∙ sym (length-append rs (r ∷ []));
         positions = added-positions t (a .id) (a .flags) parts (b .passed .long) ∙ ap₂ (λ (j k : ℕ). j + k) (b .positions) more ∙ sym (used-more rs r);
         ids = λ id.
@@ -163,75 +163,80 @@ module _ (t : List ℕ) (rs : List Accepted) (b : Built t rs) (a : Addition) (ok
 -- ---- the answer
 
 -- the next answer is the one that the rules give
-pub answer-built : (t : List ℕ) (rs : List Accepted) → Built t rs → (a : Addition) → addAnswer t (a .id) (a .flags) (a .pattern) ≡ nextAnswer rs a
+pub answer-built : (t : List ℕ) (rs : List Accepted) → Built t rs → (a : Addition) → addAnswer t a ≡ nextAnswer rs a
 unfolding addAnswer nextAnswer
 answer-built t rs b a = rw (accepted t (b .passed), b .ids (a .id), b .rules, b .positions)
 
 -- it is 0 exactly where each reason to refuse fails
 pub accepts : (rs : List Accepted) (a : Addition) → (nextAnswer rs a .number ≡ 0) ↔ Accepts rs a
 unfolding nextAnswer
-accepts rs a = zero-if (taken rs (a .id)) (length rs) (used rs) (a .flags) (a .pattern)
+accepts rs a = zero-if (taken rs (a .id)) (length rs) (used rs) a
 
 -- ---- each addition keeps the test, from any words that pass
 
-pub addition-passes : (t : List ℕ) → isTable t ≡ true → (a : Addition) → isTable (addWords t (a .id) (a .flags) (a .pattern)) ≡ true
+pub addition-passes : (t : List ℕ) → isTable t ≡ true → (a : Addition) → a .id < 2 ^ 32 → isTable (addWords t a) ≡ true
 unfolding addWords
-addition-passes t passed a = go (ℕ-discrete (addAnswer t (a .id) (a .flags) (a .pattern) .number) 0)
+addition-passes t passed a narrow = go (ℕ-discrete (addAnswer t a .number) 0)
   where
-    go : Dec (addAnswer t (a .id) (a .flags) (a .pattern) .number ≡ 0) → isTable (addWords t (a .id) (a .flags) (a .pattern)) ≡ true
-    go (yes ok) = accepted-passes t (a .id) (a .flags) (a .pattern) ok (a .narrow)
-    go (no n) = rw (ne-eqb (addAnswer t (a .id) (a .flags) (a .pattern) .number) 0 n) passed
+    go : Dec (addAnswer t a .number ≡ 0) → isTable (addWords t a) ≡ true
+    go (yes ok) = accepted-passes t a ok narrow
+    go (no n) = rw (ne-eqb (addAnswer t a .number) 0 n) passed
 
 -- ---- each addition keeps what is built
 
-pub built-next : (t : List ℕ) (rs : List Accepted) → Built t rs → (a : Addition) → Built (addWords t (a .id) (a .flags) (a .pattern)) (afterNext rs a)
+pub built-next : (t : List ℕ) (rs : List Accepted) → Built t rs → (a : Addition) → a .id < 2 ^ 32 → Built (addWords t a) (afterNext rs a)
 unfolding addWords afterNext withRule withNew
-built-next t rs b a =
-    subst (λ (d : Added). Built (cond (eqb (d .number) 0) (withRule t (a .id) (a .flags) (readingOf a)) t) (cond (eqb (nextAnswer rs a .number) 0) (withNew rs a (readingOf a)) rs))
+built-next t rs b a narrow =
+    subst (λ (d : Added). Built (cond (eqb (d .number) 0) (withRule t a (readingOf a)) t) (cond (eqb (nextAnswer rs a .number) 0) (withNew rs a (readingOf a)) rs))
     (sym (answer-built t rs b a)) (go (eqb (nextAnswer rs a .number) 0) refl)
   where
-    go : (c : Bool) → eqb (nextAnswer rs a .number) 0 ≡ c → Built (cond c (withRule t (a .id) (a .flags) (readingOf a)) t) (cond c (withNew rs a (readingOf a)) rs)
+    go : (c : Bool) → eqb (nextAnswer rs a .number) 0 ≡ c → Built (cond c (withRule t a (readingOf a)) t) (cond c (withNew rs a (readingOf a)) rs)
     go false e = b
     go true e =
         let c = accepts rs a .0 (eqb-true (nextAnswer rs a .number) 0 e) in
-        subst (λ (d : Read). Built (withRule t (a .id) (a .flags) d) (withNew rs a d)) (sym (c .reading)) (built-more t rs b a c)
+        subst (λ (d : Read). Built (withRule t a d) (withNew rs a d)) (sym (c .reading)) (built-more t rs b a narrow c)
 
-pub built-all : (t : List ℕ) (rs : List Accepted) → Built t rs → (l : List Addition) → Built (addAll t l) (acceptedAfter rs l)
-unfolding addAll acceptedAfter
-built-all t rs b [] = b
-built-all t rs b (a ∷ l) = built-all (addWords t (a .id) (a .flags) (a .pattern)) (afterNext rs a) (built-next t rs b a) l
+pub built-all : (t : List ℕ) (rs : List Accepted) → Built t rs → (l : List Addition) → Narrow l → Built (addAll t l) (acceptedAfter rs l)
+unfolding addAll acceptedAfter Narrow
+built-all t rs b [] narrow = b
+built-all t rs b (a ∷ l) narrow = built-all (addWords t a) (afterNext rs a) (built-next t rs b a (narrow .0)) l (narrow .1)
 
 -- the words of the rules, once one more was tried
-encode-next : (t : List ℕ) (rs : List Accepted) → Built (encode t rs) rs → (a : Addition) → encode t (afterNext rs a) ≡ addWords (encode t rs) (a .id) (a .flags) (a .pattern)
+encode-next : (t : List ℕ) (rs : List Accepted) → Built (encode t rs) rs → (a : Addition) → encode t (afterNext rs a) ≡ addWords (encode t rs) a
 unfolding addWords afterNext withRule withNew
 encode-next t rs b a =
     go (eqb (nextAnswer rs a .number) 0) (readingOf a)
-    ∙ sym (ap (λ (d : Added). cond (eqb (d .number) 0) (withRule (encode t rs) (a .id) (a .flags) (readingOf a)) (encode t rs)) (answer-built (encode t rs) rs b a))
+    ∙ sym (ap (λ (d : Added). cond (eqb (d .number) 0) (withRule (encode t rs) a (readingOf a)) (encode t rs)) (answer-built (encode t rs) rs b a))
   where
-    go : (c : Bool) (d : Read) → encode t (cond c (withNew rs a d) rs) ≡ cond c (withRule (encode t rs) (a .id) (a .flags) d) (encode t rs)
+    go : (c : Bool) (d : Read) → encode t (cond c (withNew rs a d) rs) ≡ cond c (withRule (encode t rs) a d) (encode t rs)
     go false d = refl
     go true (refused number place) = refl
     go true (tree x) = encode-more t rs (record { id = a .id; flags = a .flags; tree = x })
 
-encode-all : (t : List ℕ) (rs : List Accepted) → Built (encode t rs) rs → (l : List Addition) → addAll (encode t rs) l ≡ encode t (acceptedAfter rs l)
-unfolding addAll acceptedAfter
-encode-all t rs b [] = refl
-encode-all t rs b (a ∷ l) =
+encode-all : (t : List ℕ) (rs : List Accepted) → Built (encode t rs) rs → (l : List Addition) → Narrow l → addAll (encode t rs) l ≡ encode t (acceptedAfter rs l)
+unfolding addAll acceptedAfter Narrow
+encode-all t rs b [] narrow = refl
+encode-all t rs b (a ∷ l) narrow =
     ap (λ (s : List ℕ). addAll s l) (sym (encode-next t rs b a))
-    ∙ encode-all t (afterNext rs a) (subst (λ (s : List ℕ). Built s (afterNext rs a)) (sym (encode-next t rs b a)) (built-next (encode t rs) rs b a)) l
+    ∙ encode-all t (afterNext rs a) (subst (λ (s : List ℕ). Built s (afterNext rs a)) (sym (encode-next t rs b a)) (built-next (encode t rs) rs b a (narrow .0))) l (narrow .1)
 
 -- ---- any list of additions to an emptied table
 
+pub narrow-at : (l : List Addition) → Narrow l → (a : Addition) → List·Memᴰ a l → a .id < 2 ^ 32
+unfolding Narrow
+narrow-at (b ∷ l) h a (List·Memᴰ·head e) = subst (λ (c : Addition). c .id < 2 ^ 32) (sym e) (h .0)
+narrow-at (b ∷ l) h a (List·Memᴰ·tail m) = narrow-at l (h .1) a m
+
 module _ (t : List ℕ) (l : List Addition) where
-  module _ (long : tableWords ≤ length t) where
+  module _ (long : tableWords ≤ length t) (narrow : Narrow l) where
     -- the words after it are those of the accepted rules, and are built from them
     pub words-built : Built (addAll (emptied t) l) (acceptedAfter [] l)
-    words-built = built-all (emptied t) [] (built-none t long) l
+    words-built = built-all (emptied t) [] (built-none t long) l narrow
 
     -- they are a function of the accepted rules, in order
     pub words-encoded : addAll (emptied t) l ≡ encode (emptied t) (acceptedAfter [] l)
     unfolding encode
-    words-encoded = encode-all (emptied t) [] (built-none t long) l
+    words-encoded = encode-all (emptied t) [] (built-none t long) l narrow
 
     -- they pass the test
     pub words-pass : isTable (addAll (emptied t) l) ≡ true
@@ -242,12 +247,12 @@ module _ (t : List ℕ) (l : List Addition) where
     words-encode = words-built .encodes
 
     -- the next answer depends on the accepted rules alone
-    pub words-answer : (a : Addition) → addAnswer (addAll (emptied t) l) (a .id) (a .flags) (a .pattern) ≡ nextAnswer (acceptedAfter [] l) a
+    pub words-answer : (a : Addition) → addAnswer (addAll (emptied t) l) a ≡ nextAnswer (acceptedAfter [] l) a
     words-answer a = answer-built (addAll (emptied t) l) (acceptedAfter [] l) words-built a
 
 -- words too few for a table are left as they are, with answer 1 each time
 module _ (t : List ℕ) (short : length t < tableWords) where
-  refuses : (a : Addition) → addAnswer t (a .id) (a .flags) (a .pattern) ≡ answer 1 0
+  refuses : (a : Addition) → addAnswer t a ≡ answer 1 0
   unfolding addAnswer
   refuses a = rw (no-table t (λ p. omega (arith, p .long)))
 
@@ -255,7 +260,7 @@ module _ (t : List ℕ) (short : length t < tableWords) where
   unfolding addAll addWords
   few-words [] = refl
   few-words (a ∷ l) =
-      ap (λ (d : Added). addAll (cond (eqb (d .number) 0) (withRule t (a .id) (a .flags) (readingOf a)) t) l) (refuses a) ∙ few-words l
+      ap (λ (d : Added). addAll (cond (eqb (d .number) 0) (withRule t a (readingOf a)) t) l) (refuses a) ∙ few-words l
 
-  pub few-words-answer : (l : List Addition) (a : Addition) → addAnswer (addAll t l) (a .id) (a .flags) (a .pattern) ≡ answer 1 0
-  few-words-answer l a = ap (λ (s : List ℕ). addAnswer s (a .id) (a .flags) (a .pattern)) (few-words l) ∙ refuses a
+  pub few-words-answer : (l : List Addition) (a : Addition) → addAnswer (addAll t l) a ≡ answer 1 0
+  few-words-answer l a = ap (λ (s : List ℕ). addAnswer s a) (few-words l) ∙ refuses a

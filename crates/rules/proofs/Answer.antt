@@ -1,4 +1,5 @@
--- The answer of an addition and the words after it, by how its checks went: one law for each way that `add` returns.
+-- The answer of an addition and the words after it, by how its checks went: one law for each way
+-- that `add` returns.
 use mathlib.Core.Path.{_≡_, refl, sym, ap, ap₂, _∙_, subst}
 use mathlib.Core.Bool.{Bool, true, false, cond, _||_}
 use mathlib.Core.List.{List}
@@ -19,18 +20,18 @@ use Rattle.regex.specs.Count.{limit}
 use Rattle.regex.proofs.Counted.{within-limit}
 use Rattle.nodes.specs.Nodes.{Syntax, treeAt}
 use Rattle.pattern.specs.Walk.{Read, tree, refused}
-use Rattle.pattern.specs.Read.{readOf, optionsOf, answerOf}
+use Rattle.pattern.specs.Read.{tooLong, optionsOf, limitedRead, answerOf}
 use Rattle.pattern.specs.declared.Reading.{Reading}
-use Rattle.pattern.proofs.Answers.{accepted-tree}
+use Rattle.pattern.proofs.Answers.{within, accepted-tree}
 use Rattle.rules.specs.Gaps.{partsAt}
 use Rattle.rules.specs.Words.{added}
-use Rattle.rules.specs.Add.{answer, unknownFlag, hasId, placed, addAnswer, withRule, addWords}
+use Rattle.rules.specs.Add.{Addition, readingOf, answer, unknownFlag, hasId, placed, addAnswer, withRule, addWords}
 use Rattle.rules.specs.Invariants.{firstFault}
 use Rattle.rules.specs.declared.Added.{Added}
 
--- ---- an id among the records
+-- ---- an id among those of the table
 
--- none of the first a records has it
+-- none of the first a rules has it
 pub NoneBefore : List ℕ → (id a : ℕ) → Type 0
 NoneBefore t id a = any a (λ b. eqb (idWord t b) id) ≡ false
 
@@ -77,30 +78,30 @@ module _ (t : List ℕ) (id flags : ℕ) where
 
 -- ---- the answer and the words
 
-module _ (t : List ℕ) (id flags : ℕ) (s : List ℕ) where
+module _ (t : List ℕ) (a : Addition) where
   -- what a call has to show
   abbrev pub Answers : Added → List ℕ → Type 0
-  Answers r u = (r ≡ addAnswer t id flags s) × (u ≡ addWords t id flags s)
+  Answers r u = (r ≡ addAnswer t a) × (u ≡ addWords t a)
 
   -- a refusal leaves the words as they were
-  kept : (r : Added) → r ≡ addAnswer t id flags s → (r .number ≡ 0 → ⊥) → Answers r t
+  kept : (r : Added) → r ≡ addAnswer t a → (r .number ≡ 0 → ⊥) → Answers r t
   unfolding addWords
   kept r e n = (
     e,
-    sym (ap (λ (b : Bool). cond b (withRule t id flags (readOf s (optionsOf flags))) t)
+    sym (ap (λ (b : Bool). cond b (withRule t a (readingOf a)) t)
         (ap (λ (d : Added). eqb (d .number) 0) (sym e) ∙ ne-eqb (r .number) 0 n)),
   )
 
   -- by the first checks
-  pub early : (f : ℕ) → f ≡ firstFault t id flags → (f ≡ 0 → ⊥) → Answers (answer f 0) t
+  pub early : (f : ℕ) → f ≡ firstFault t (a .id) (a .flags) → (f ≡ 0 → ⊥) → Answers (answer f 0) t
   unfolding addAnswer firstFault
-  early f e n = kept (answer f 0) (go (isTable t) (unknownFlag flags) (hasId t id) (leb maxRules (rulesOf t)) e) n
+  early f e n = kept (answer f 0) (go (isTable t) (unknownFlag (a .flags)) (hasId t (a .id)) (leb maxRules (rulesOf t)) e) n
     where
       last : Added
-      last = placed (positionsOf t) (length s) (readOf s (optionsOf flags))
+      last = cond (tooLong (a .pattern)) (answer 5 0) (placed (positionsOf t) (length (a .pattern)) (readingOf a))
 
-      go : (a b c d : Bool) → f ≡ cond a (cond b 2 (cond c 3 (cond d 4 0))) 1
-          → answer f 0 ≡ cond a (cond b (answer 2 0) (cond c (answer 3 0) (cond d (answer 4 0) last))) (answer 1 0)
+      go : (t b c d : Bool) → f ≡ cond t (cond b 2 (cond c 3 (cond d 4 0))) 1
+          → answer f 0 ≡ cond t (cond b (answer 2 0) (cond c (answer 3 0) (cond d (answer 4 0) last))) (answer 1 0)
       go true true c d z = ap (λ (k : ℕ). answer k 0) z
       go true false true d z = ap (λ (k : ℕ). answer k 0) z
       go true false false true z = ap (λ (k : ℕ). answer k 0) z
@@ -108,17 +109,17 @@ module _ (t : List ℕ) (id flags : ℕ) (s : List ℕ) where
       go false b c d z = ap (λ (k : ℕ). answer k 0) z
 
   -- the first checks are passed
-  module _ (passed : 0 ≡ firstFault t id flags) where
-    through : (a b c d : Bool) → _≡_ {A = ℕ} 0 (cond a (cond b 2 (cond c 3 (cond d 4 0))) 1) → (a ≡ true) × (b ≡ false) × (c ≡ false) × (d ≡ false)
+  module _ (passed : 0 ≡ firstFault t (a .id) (a .flags)) where
+    through : (t b c d : Bool) → _≡_ {A = ℕ} 0 (cond t (cond b 2 (cond c 3 (cond d 4 0))) 1) → (t ≡ true) × (b ≡ false) × (c ≡ false) × (d ≡ false)
     through true true c d z = absurd (omega (arith, z))
     through true false true d z = absurd (omega (arith, z))
     through true false false true z = absurd (omega (arith, z))
     through true false false false z = (refl, refl, refl, refl)
     through false b c d z = absurd (omega (arith, z))
 
-    checks : (isTable t ≡ true) × (unknownFlag flags ≡ false) × (hasId t id ≡ false) × (leb maxRules (rulesOf t) ≡ false)
+    checks : (isTable t ≡ true) × (unknownFlag (a .flags) ≡ false) × (hasId t (a .id) ≡ false) × (leb maxRules (rulesOf t) ≡ false)
     unfolding firstFault
-    checks = through (isTable t) (unknownFlag flags) (hasId t id) (leb maxRules (rulesOf t)) passed
+    checks = through (isTable t) (unknownFlag (a .flags)) (hasId t (a .id)) (leb maxRules (rulesOf t)) passed
 
     pub passed-table : Passes t
     passed-table = passes t (checks .0)
@@ -126,50 +127,61 @@ module _ (t : List ℕ) (id flags : ℕ) (s : List ℕ) where
     pub passed-few : rulesOf t < maxRules
     passed-few = leb-false maxRules (rulesOf t) (checks .3)
 
-    then-read : addAnswer t id flags s ≡ placed (positionsOf t) (length s) (readOf s (optionsOf flags))
-    unfolding addAnswer
-    then-read = rw (checks .0, checks .1, checks .2, checks .3)
+    -- what the reader gives of the pattern
+    abbrev given : Read
+    given = limitedRead (a .pattern) (optionsOf (a .flags))
+
+    then-read : addAnswer t a ≡ placed (positionsOf t) (length (a .pattern)) given
+    unfolding addAnswer limitedRead placed
+    then-read = rw (checks .0, checks .1, checks .2, checks .3) (go (tooLong (a .pattern)))
+      where
+        go : (b : Bool) → cond b (answer 5 0) (placed (positionsOf t) (length (a .pattern)) (readingOf a)) ≡ placed (positionsOf t) (length (a .pattern)) (cond b (refused 5 0) (readingOf a))
+        go true = refl
+        go false = refl
 
     -- by the reader
-    pub unread : (r : Reading) → r ≡ answerOf (readOf s (optionsOf flags)) → (r .number ≡ 0 → ⊥) → Answers (answer (r .number) (r .place)) t
+    pub unread : (r : Reading) → r ≡ answerOf given → (r .number ≡ 0 → ⊥) → Answers (answer (r .number) (r .place)) t
     unfolding answerOf placed
-    unread r e n = kept (answer (r .number) (r .place)) (go (readOf s (optionsOf flags)) refl ∙ sym then-read) n
+    unread r e n = kept (answer (r .number) (r .place)) (go given refl ∙ sym then-read) n
       where
-        go : (d : Read) → readOf s (optionsOf flags) ≡ d → answer (r .number) (r .place) ≡ placed (positionsOf t) (length s) (readOf s (optionsOf flags))
+        go : (d : Read) → given ≡ d → answer (r .number) (r .place) ≡ placed (positionsOf t) (length (a .pattern)) given
         go (refused number place) z =
             let q : r ≡ answerOf (refused number place) = e ∙ ap answerOf z in
-            ap₂ answer (ap (λ (x : Reading). x .number) q) (ap (λ (x : Reading). x .place) q) ∙ sym (ap (placed (positionsOf t) (length s)) z)
+            ap₂ answer (ap (λ (x : Reading). x .number) q) (ap (λ (x : Reading). x .place) q) ∙ sym (ap (placed (positionsOf t) (length (a .pattern))) z)
         go (tree x) z = absurd (n (ap (λ (x : Reading). x .number) (e ∙ ap answerOf z)))
 
     -- the pattern is read
-    module _ (r : Reading) (is : r ≡ answerOf (readOf s (optionsOf flags))) (fine : r .number ≡ 0) where
+    module _ (r : Reading) (is : r ≡ answerOf given) (fine : r .number ≡ 0) where
       x : Syntax
-      x = accepted-tree s (optionsOf flags) r is fine .0
+      x = accepted-tree (a .pattern) (optionsOf (a .flags)) r is fine .0
 
-      read : readOf s (optionsOf flags) ≡ tree x
+      given-is : given ≡ tree x
       unfolding x
-      read = accepted-tree s (optionsOf flags) r is fine .1
+      given-is = accepted-tree (a .pattern) (optionsOf (a .flags)) r is fine .1
+
+      read : readingOf a ≡ tree x
+      read = within (a .pattern) (optionsOf (a .flags)) x given-is .1
 
       here : treeAt (r .nodes) (r .root) ≡ x
       unfolding x
-      here = accepted-tree s (optionsOf flags) r is fine .2 .tree
+      here = accepted-tree (a .pattern) (optionsOf (a .flags)) r is fine .2 .tree
 
       -- the reader has counted the positions, and there are at most 256
       counted : r .positions ≡ positions (write x)
       unfolding x
       counted =
-          let a = accepted-tree s (optionsOf flags) r is fine .2 in
-          a .positions ∙ within-limit x (a .few)
+          let y = accepted-tree (a .pattern) (optionsOf (a .flags)) r is fine .2 in
+          y .positions ∙ within-limit x (y .few)
 
-      last-answer : addAnswer t id flags s ≡ cond (ltb limit (positionsOf t + positions (write x))) (answer 17 (length s)) (answer 0 0)
+      last-answer : addAnswer t a ≡ cond (ltb limit (positionsOf t + positions (write x))) (answer 17 (length (a .pattern))) (answer 0 0)
       unfolding placed
-      last-answer = then-read ∙ ap (placed (positionsOf t) (length s)) read
+      last-answer = then-read ∙ ap (placed (positionsOf t) (length (a .pattern))) given-is
 
       -- its positions do not fit
-      pub too-many : limit < positionsOf t + r .positions → Answers (answer 17 (length s)) t
+      pub too-many : limit < positionsOf t + r .positions → Answers (answer 17 (length (a .pattern))) t
       too-many h =
           let over : limit < positionsOf t + positions (write x) = omega (arith, counted) in
-          kept (answer 17 (length s)) (sym (last-answer ∙ ap (λ (b : Bool). cond b (answer 17 (length s)) (answer 0 0)) (lt-ltb limit (positionsOf t + positions (write x)) over))) (λ z. omega arith)
+          kept (answer 17 (length (a .pattern))) (sym (last-answer ∙ ap (λ (b : Bool). cond b (answer 17 (length (a .pattern))) (answer 0 0)) (lt-ltb limit (positionsOf t + positions (write x)) over))) (λ z. omega arith)
 
       -- they do
       module _ (h : positionsOf t + r .positions ≤ limit) where
@@ -179,8 +191,8 @@ module _ (t : List ℕ) (id flags : ℕ) (s : List ℕ) where
         pub fits-room : positionsOf t + positions (write (treeAt (r .nodes) (r .root))) ≤ maxPositions
         fits-room = subst (λ (y : Syntax). positionsOf t + positions (write y) ≤ maxPositions) (sym here) room
 
-        pub accepted : (u : List ℕ) → u ≡ added t id flags (partsAt (treeAt (r .nodes) (r .root)) (positionsOf t)) → Answers (answer 0 0) u
+        pub accepted : (u : List ℕ) → u ≡ added t (a .id) (a .flags) (partsAt (treeAt (r .nodes) (r .root)) (positionsOf t)) → Answers (answer 0 0) u
         unfolding addWords withRule
         accepted u w =
-            let z : addAnswer t id flags s ≡ answer 0 0 = last-answer ∙ ap (λ (b : Bool). cond b (answer 17 (length s)) (answer 0 0)) (le-ltb limit (positionsOf t + positions (write x)) room) in
-            (sym z, w ∙ ap (λ (y : Syntax). added t id flags (partsAt y (positionsOf t))) here ∙ sym (ap₂ (λ (d : Added) (o : Read). cond (eqb (d .number) 0) (withRule t id flags o) t) z read))
+            let z : addAnswer t a ≡ answer 0 0 = last-answer ∙ ap (λ (b : Bool). cond b (answer 17 (length (a .pattern))) (answer 0 0)) (le-ltb limit (positionsOf t + positions (write x)) room) in
+            (sym z, w ∙ ap (λ (y : Syntax). added t (a .id) (a .flags) (partsAt y (positionsOf t))) here ∙ sym (ap₂ (λ (d : Added) (o : Read). cond (eqb (d .number) 0) (withRule t a o) t) z read))

@@ -1,5 +1,7 @@
--- What an accepted addition has passed. The checks go by four things of the table: whether the id is there, how many rules and positions it has, and, for words,
--- whether they pass the test. An answer of 0 is taken apart here once: each reason to refuse fails, and the words are those with the rule.
+-- What an accepted addition has passed. The checks go by four things of the table: whether the id
+-- is there, how many rules and positions it has, and, for words, whether they pass the test. An
+-- answer of 0 is taken apart here once: each reason to refuse fails, and the words are those with
+-- the rule.
 use mathlib.Core.Path.{_≡_, refl, ap, _∙_}
 use mathlib.Core.Bool.{Bool, true, false, cond}
 use mathlib.Core.Logic.{_↔_}
@@ -18,11 +20,11 @@ use Rattle.regex.specs.Form.{write, positions}
 use Rattle.regex.specs.Count.{limit}
 use Rattle.nodes.specs.Nodes.{Syntax}
 use Rattle.pattern.specs.Walk.{Read, tree, refused}
-use Rattle.pattern.specs.Read.{readOf, optionsOf}
+use Rattle.pattern.specs.Read.{longest, tooLong, optionsOf}
 use Rattle.automaton.specs.declared.Parts.{Parts}
 use Rattle.rules.specs.Gaps.{holdingAt, partsAt}
 use Rattle.rules.specs.Words.{added}
-use Rattle.rules.specs.Add.{answer, unknownFlag, hasId, placed, addAnswer, withRule, addWords}
+use Rattle.rules.specs.Add.{Addition, readingOf, answer, unknownFlag, hasId, placed, addAnswer, withRule, addWords}
 use Rattle.rules.specs.declared.Added.{Added}
 use Rattle.rules.proofs.Kept.{passes-added}
 use Rattle.rules.proofs.Parts.{sized-parts}
@@ -31,37 +33,40 @@ use Rattle.rules.proofs.Readings.{refusal-numbered}
 
 -- ---- the checks after the test
 
-module _ (there : Bool) (rules used flags : ℕ) (pattern : List ℕ) where
+module _ (there : Bool) (rules used : ℕ) (a : Addition) where
   -- each reason to refuse fails
   pub record Admits : Type 0 where
-    pub known : bitAnd flags knownFlags ≡ flags
+    pub known : bitAnd (a .flags) knownFlags ≡ a .flags
     pub free : there ≡ false
     pub few : rules < maxRules
+    pub short : length (a .pattern) ≤ longest
     pub read : Syntax
-    pub reading : readOf pattern (optionsOf flags) ≡ tree read
+    pub reading : readingOf a ≡ tree read
     pub room : used + positions (write read) ≤ maxPositions
 
   abbrev pub checked : Added
-  checked = cond (unknownFlag flags) (answer 2 0) (cond there (answer 3 0) (cond (leb maxRules rules) (answer 4 0) (placed used (length pattern) (readOf pattern (optionsOf flags)))))
+  checked = cond (unknownFlag (a .flags)) (answer 2 0) (cond there (answer 3 0) (cond (leb maxRules rules) (answer 4 0) (cond (tooLong (a .pattern)) (answer 5 0) (placed used (length (a .pattern)) (readingOf a)))))
 
   admits : checked .number ≡ 0 → Admits
   unfolding unknownFlag placed
-  admits = go (unknownFlag flags) there (leb maxRules rules) (readOf pattern (optionsOf flags)) refl refl refl refl
+  admits = go (unknownFlag (a .flags)) there (leb maxRules rules) (tooLong (a .pattern)) (readingOf a) refl refl refl refl refl
     where
-      fits : (x : Syntax) (c : Bool) → ltb limit (used + positions (write x)) ≡ c → cond c (answer 17 (length pattern)) (answer 0 0) .number ≡ 0 → used + positions (write x) ≤ limit
+      fits : (x : Syntax) (c : Bool) → ltb limit (used + positions (write x)) ≡ c → cond c (answer 17 (length (a .pattern))) (answer 0 0) .number ≡ 0 → used + positions (write x) ≤ limit
       fits x true e h = absurd (omega (arith, h))
       fits x false e h = ltb-false limit (used + positions (write x)) e
 
-      go : (u k f : Bool) (d : Read) → unknownFlag flags ≡ u → there ≡ k → leb maxRules rules ≡ f → readOf pattern (optionsOf flags) ≡ d
-          → cond u (answer 2 0) (cond k (answer 3 0) (cond f (answer 4 0) (placed used (length pattern) d))) .number ≡ 0 → Admits
-      go true k f d p q r s h = absurd (omega (arith, h))
-      go false true f d p q r s h = absurd (omega (arith, h))
-      go false false true d p q r s h = absurd (omega (arith, h))
-      go false false false (refused number place) p q r s h = absurd (refusal-numbered pattern (optionsOf flags) number place s h)
-      go false false false (tree x) p q r s h = record {
-        known = eqb-true (bitAnd flags knownFlags) flags (not-false (eqb (bitAnd flags knownFlags) flags) p);
+      go : (u k f l : Bool) (d : Read) → unknownFlag (a .flags) ≡ u → there ≡ k → leb maxRules rules ≡ f → tooLong (a .pattern) ≡ l → readingOf a ≡ d
+          → cond u (answer 2 0) (cond k (answer 3 0) (cond f (answer 4 0) (cond l (answer 5 0) (placed used (length (a .pattern)) d)))) .number ≡ 0 → Admits
+      go true k f l d p q r m s h = absurd (omega (arith, h))
+      go false true f l d p q r m s h = absurd (omega (arith, h))
+      go false false true l d p q r m s h = absurd (omega (arith, h))
+      go false false false true d p q r m s h = absurd (omega (arith, h))
+      go false false false false (refused number place) p q r m s h = absurd (refusal-numbered (a .pattern) (optionsOf (a .flags)) number place m s h)
+      go false false false false (tree x) p q r m s h = record {
+        known = eqb-true (bitAnd (a .flags) knownFlags) (a .flags) (not-false (eqb (bitAnd (a .flags) knownFlags) (a .flags)) p);
         free = q;
         few = leb-false maxRules rules r;
+        short = ltb-false longest (length (a .pattern)) m;
         read = x;
         reading = s;
         room = fits x (ltb limit (used + positions (write x))) refl h;
@@ -69,53 +74,53 @@ module _ (there : Bool) (rules used flags : ℕ) (pattern : List ℕ) where
 
   admitted : Admits → checked ≡ answer 0 0
   unfolding unknownFlag placed
-  admitted c = rw (eq-eqb (bitAnd flags knownFlags) flags (c .known), c .free, lt-leb maxRules rules (c .few), c .reading, le-ltb limit (used + positions (write (c .read))) (c .room))
+  admitted c = rw (eq-eqb (bitAnd (a .flags) knownFlags) (a .flags) (c .known), c .free, lt-leb maxRules rules (c .few), le-ltb longest (length (a .pattern)) (c .short), c .reading, le-ltb limit (used + positions (write (c .read))) (c .room))
 
   -- the answer is 0 exactly where each fails
   pub zero-if : (checked .number ≡ 0) ↔ Admits
   zero-if = (admits, λ c. ap (λ (d : Added). d .number) (admitted c))
 
--- no record has an id that the words have not
+-- no rule has an id that the words have not
 pub no-record : (t : List ℕ) (id : ℕ) → hasId t id ≡ false → (c : ℕ) → c < rulesOf t → idWord t c ≡ id → ⊥
 unfolding hasId
 no-record t id e c h = eqb-false (idWord t c) id (any-none (rulesOf t) (λ c. eqb (idWord t c) id) e c h)
 
 -- ---- an addition that these words accept
 
-module _ (t : List ℕ) (id flags : ℕ) (pattern : List ℕ) (ok : addAnswer t id flags pattern .number ≡ 0) where
+module _ (t : List ℕ) (a : Addition) (ok : addAnswer t a .number ≡ 0) where
   abbrev Checks : Type 0
-  Checks = (isTable t ≡ true) × Admits (hasId t id) (rulesOf t) (positionsOf t) flags pattern
+  Checks = (isTable t ≡ true) × Admits (hasId t (a .id)) (rulesOf t) (positionsOf t) a
 
   checks : Checks
   unfolding addAnswer
   checks = go (isTable t) refl ok
     where
-      go : (b : Bool) → isTable t ≡ b → cond b (checked (hasId t id) (rulesOf t) (positionsOf t) flags pattern) (answer 1 0) .number ≡ 0 → Checks
-      go true e h = (e, admits (hasId t id) (rulesOf t) (positionsOf t) flags pattern h)
+      go : (b : Bool) → isTable t ≡ b → cond b (checked (hasId t (a .id)) (rulesOf t) (positionsOf t) a) (answer 1 0) .number ≡ 0 → Checks
+      go true e h = (e, admits (hasId t (a .id)) (rulesOf t) (positionsOf t) a h)
       go false e h = absurd (omega (arith, h))
 
   abbrev parts : ℕ → Parts
   parts = partsAt (checks .1 .read) (positionsOf t)
 
   -- "An accepted one has place 0."
-  pub accepted-place : addAnswer t id flags pattern .place ≡ 0
+  pub accepted-place : addAnswer t a .place ≡ 0
   unfolding addAnswer
   accepted-place =
-      ap (λ (b : Bool). cond b (checked (hasId t id) (rulesOf t) (positionsOf t) flags pattern) (answer 1 0) .place) (checks .0)
-      ∙ ap (λ (d : Added). d .place) (admitted (hasId t id) (rulesOf t) (positionsOf t) flags pattern (checks .1))
+      ap (λ (b : Bool). cond b (checked (hasId t (a .id)) (rulesOf t) (positionsOf t) a) (answer 1 0) .place) (checks .0)
+      ∙ ap (λ (d : Added). d .place) (admitted (hasId t (a .id)) (rulesOf t) (positionsOf t) a (checks .1))
 
-  with-rule : addWords t id flags pattern ≡ added t id flags parts
+  with-rule : addWords t a ≡ added t (a .id) (a .flags) parts
   unfolding addWords withRule
-  with-rule = rw (eq-eqb (addAnswer t id flags pattern .number) 0 ok, checks .1 .reading)
+  with-rule = rw (eq-eqb (addAnswer t a .number) 0 ok, checks .1 .reading)
 
   -- the words have one rule more
-  pub accepted-rules : rulesOf (addWords t id flags pattern) ≡ rulesOf t + 1
-  accepted-rules = ap rulesOf with-rule ∙ added-rules t id flags parts (passes t (checks .0) .long)
+  pub accepted-rules : rulesOf (addWords t a) ≡ rulesOf t + 1
+  accepted-rules = ap rulesOf with-rule ∙ added-rules t (a .id) (a .flags) parts (passes t (checks .0) .long)
 
   -- and pass the test
-  pub accepted-passes : id < 2 ^ 32 → isTable (addWords t id flags pattern) ≡ true
+  pub accepted-passes : a .id < 2 ^ 32 → isTable (addWords t a) ≡ true
   accepted-passes narrow =
       ap isTable with-rule
-      ∙ accepted (added t id flags parts)
-      (passes-added t id flags parts (passes t (checks .0)) (checks .1 .few)
-      (omega (arith, checks .1 .room, sized-parts (checks .1 .read) (positionsOf t) (holdingAt 0) (checks .1 .room))) narrow (no-record t id (checks .1 .free)))
+      ∙ accepted (added t (a .id) (a .flags) parts)
+      (passes-added t (a .id) (a .flags) parts (passes t (checks .0)) (checks .1 .few)
+      (omega (arith, checks .1 .room, sized-parts (checks .1 .read) (positionsOf t) (holdingAt 0) (checks .1 .room))) narrow (no-record t (a .id) (checks .1 .free)))

@@ -18,11 +18,10 @@ use Rattle.table.proofs.Rows.{row-same}
 use Rattle.table.proofs.Test.{passes}
 use Rattle.table.proofs.Local.{same-word, isTable-local}
 use Rattle.pattern.specs.Walk.{Read, tree, refused}
-use Rattle.pattern.specs.Read.{readOf, optionsOf}
 use Rattle.automaton.specs.declared.Parts.{Parts}
 use Rattle.rules.specs.Gaps.{partsAt}
 use Rattle.rules.specs.Words.{wordsOf, oldRow, joinedRow, placeOf, singlesWith, ownerWith, idWords, singlesWord, ownerWords, lastWords, lateWords, opener, firstWords, followWords, newTaker, takersWords, addedWord, added}
-use Rattle.rules.specs.Add.{hasId, addAnswer, withRule, addWords}
+use Rattle.rules.specs.Add.{Addition, readingOf, hasId, addAnswer, withRule, addWords}
 use Rattle.rules.specs.declared.Added.{Added}
 use Rattle.rules.proofs.Regions.{length-wordsOf}
 
@@ -154,48 +153,48 @@ module _ (t u : List ℕ) (same : take tableWords t ≡ take tableWords u) where
 -- ---- an addition
 
 module _ (t u : List ℕ) (same : take tableWords t ≡ take tableWords u) where
-  module _ (id flags : ℕ) (s : List ℕ) where
+  module _ (a : Addition) where
     -- the answer depends on the first 16,384 words alone
-    pub addAnswer-local : addAnswer t id flags s ≡ addAnswer u id flags s
+    pub addAnswer-local : addAnswer t a ≡ addAnswer u a
     unfolding addAnswer
     addAnswer-local = go (isTable t) refl
       where
-        go : (b : Bool) → isTable t ≡ b → addAnswer t id flags s ≡ addAnswer u id flags s
+        go : (b : Bool) → isTable t ≡ b → addAnswer t a ≡ addAnswer u a
         go false e = rw (e, sym (isTable-local t u same) ∙ e)
-        go true e = rw (e, sym (isTable-local t u same) ∙ e, has-id t u same (passes t e .rules) id, rules t u same, positions t u same)
+        go true e = rw (e, sym (isTable-local t u same) ∙ e, has-id t u same (passes t e .rules) (a .id), rules t u same, positions t u same)
 
     -- an accepted addition has found a table
-    few-rules : eqb (addAnswer t id flags s .number) 0 ≡ true → rulesOf t ≤ maxRules
+    few-rules : eqb (addAnswer t a .number) 0 ≡ true → rulesOf t ≤ maxRules
     unfolding addAnswer
     few-rules = go (isTable t) refl
       where
-        go : (b : Bool) → isTable t ≡ b → eqb (addAnswer t id flags s .number) 0 ≡ true → rulesOf t ≤ maxRules
+        go : (b : Bool) → isTable t ≡ b → eqb (addAnswer t a .number) 0 ≡ true → rulesOf t ≤ maxRules
         go true e h = passes t e .rules
         go false e h = absurd (true≢false (sym h ∙ rw e))
 
     -- so do the first 16,384 words afterwards
-    pub addWords-local : take tableWords (addWords t id flags s) ≡ take tableWords (addWords u id flags s)
+    pub addWords-local : take tableWords (addWords t a) ≡ take tableWords (addWords u a)
     unfolding addWords withRule
     addWords-local =
-        go (eqb (addAnswer t id flags s .number) 0) (readOf s (optionsOf flags)) few-rules
-        ∙ ap (λ (a : Added). take tableWords (cond (eqb (a .number) 0) (withRule u id flags (readOf s (optionsOf flags))) u)) addAnswer-local
+        go (eqb (addAnswer t a .number) 0) (readingOf a) few-rules
+        ∙ ap (λ (d : Added). take tableWords (cond (eqb (d .number) 0) (withRule u a (readingOf a)) u)) addAnswer-local
       where
         go : (c : Bool) (d : Read) → (c ≡ true → rulesOf t ≤ maxRules)
-            → take tableWords (cond c (withRule t id flags d) t) ≡ take tableWords (cond c (withRule u id flags d) u)
+            → take tableWords (cond c (withRule t a d) t) ≡ take tableWords (cond c (withRule u a d) u)
         go false d few = same
         go true (refused number place) few = same
         go true (tree x) few =
-            added-local t u same (few refl) id flags (partsAt x (positionsOf t))
-            ∙ ap (λ (n : ℕ). take tableWords (added u id flags (partsAt x n))) (positions t u same)
+            added-local t u same (few refl) (a .id) (a .flags) (partsAt x (positionsOf t))
+            ∙ ap (λ (n : ℕ). take tableWords (added u (a .id) (a .flags) (partsAt x n))) (positions t u same)
 
 -- "words beyond are never touched"
-pub addWords-beyond : (t : List ℕ) (id flags : ℕ) (s : List ℕ) → drop tableWords (addWords t id flags s) ≡ drop tableWords t
+pub addWords-beyond : (t : List ℕ) (a : Addition) → drop tableWords (addWords t a) ≡ drop tableWords t
 unfolding addWords withRule added
-addWords-beyond t id flags s = go (eqb (addAnswer t id flags s .number) 0) (readOf s (optionsOf flags))
+addWords-beyond t a = go (eqb (addAnswer t a .number) 0) (readingOf a)
   where
-    go : (c : Bool) (d : Read) → drop tableWords (cond c (withRule t id flags d) t) ≡ drop tableWords t
+    go : (c : Bool) (d : Read) → drop tableWords (cond c (withRule t a d) t) ≡ drop tableWords t
     go false d = refl
     go true (refused number place) = refl
     go true (tree x) =
-        drop-at (wordsOf tableWords (addedWord t id flags (partsAt x (positionsOf t)))) (drop tableWords t) tableWords
-        (length-wordsOf tableWords (addedWord t id flags (partsAt x (positionsOf t))))
+        drop-at (wordsOf tableWords (addedWord t (a .id) (a .flags) (partsAt x (positionsOf t)))) (drop tableWords t) tableWords
+        (length-wordsOf tableWords (addedWord t (a .id) (a .flags) (partsAt x (positionsOf t))))

@@ -15,7 +15,7 @@ use Rattle.sets.proofs.Laws.{setOf-ext, any-ext}
 use Rattle.table.specs.Layout.{tableWords, maxRules, maxPositions, bytes, rulesOf, positionsOf, singlesOf, firstAt, idAt, openerAt, ownerAt, lastAt, latesAt, followAt, takersAt, rowHas}
 use Rattle.table.specs.Gaps.{firstGaps, lastGaps, followGaps, innerGaps, unsettled}
 use Rattle.table.proofs.Over.{length-over, over-in, over-below, over-above}
-use Rattle.table.proofs.Writes.{movedUp}
+use Rattle.table.specs.Invariants.{movedUp}
 use Rattle.regex.specs.Form.{write, positions}
 use Rattle.nodes.specs.Nodes.{Syntax}
 use Rattle.automaton.specs.declared.Parts.{Parts}

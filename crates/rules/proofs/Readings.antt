@@ -1,4 +1,5 @@
--- What a pattern that reads as a tree is, each reason to refuse it taken away. The reader's definition goes by cases, so each law does.
+-- What a pattern that reads as a tree is, each reason to refuse it taken away. The reader's
+-- definition goes by cases, so each law does.
 use mathlib.Core.Path.{_≡_, refl, sym, ap, _∙_, subst}
 use mathlib.Core.Bool.{Bool, true, false, cond}
 use mathlib.Core.Logic.{_↔_}
@@ -12,7 +13,7 @@ use Rattle.tokens.specs.declared.Options.{Options}
 use Rattle.regex.specs.Count.{limit, saturating, nullable}
 use Rattle.nodes.specs.Nodes.{Syntax}
 use Rattle.pattern.specs.Walk.{Read, tree, refused, walk, begin}
-use Rattle.pattern.specs.Read.{longest, judged, readOf, answerOf}
+use Rattle.pattern.specs.Read.{tooLong, judged, readOf, limitedRead, answerOf}
 use Rattle.pattern.proofs.Answers.{accepted-tree}
 
 -- a refusal is no tree
@@ -38,24 +39,21 @@ tree-judged n x a b = rw (a, le-ltb limit (saturating x) b)
 
 -- what a pattern that reads as the tree x is
 pub record Reads (s : List ℕ) (o : Options) (x : Syntax) : Type 0 where
-  pub short : length s ≤ longest
   pub walks : walk s 0 0 (begin o) ≡ tree x
   pub full : nullable x ≡ false
   pub fits : saturating x ≤ limit
 
 pub reads : (s : List ℕ) (o : Options) (x : Syntax) → (readOf s o ≡ tree x) ↔ Reads s o x
 unfolding readOf
-reads s o x = (λ h. test (ltb longest (length s)) refl h, λ r. rw (le-ltb longest (length s) (r .short), r .walks) (tree-judged (length s) x (r .full) (r .fits)))
-  where
-    test : (b : Bool) → ltb longest (length s) ≡ b → cond b (refused 5 0) (judged (length s) (walk s 0 0 (begin o))) ≡ tree x → Reads s o x
-    test true p h = not-tree 5 0 x h
-    test false p h =
-        let j = judged-tree (length s) (walk s 0 0 (begin o)) x h in
-        record { short = ltb-false longest (length s) p; walks = j .0; full = j .1; fits = j .2 }
+reads s o x = (
+  λ h. let j = judged-tree (length s) (walk s 0 0 (begin o)) x h in record { walks = j .0; full = j .1; fits = j .2 },
+  λ r. rw (r .walks) (tree-judged (length s) x (r .full) (r .fits)),
+)
 
 -- a refusal has a number
-pub refusal-numbered : (s : List ℕ) (o : Options) (number place : ℕ) → readOf s o ≡ refused number place → number ≡ 0 → ⊥
-unfolding answerOf
-refusal-numbered s o number place e z =
-    let t = accepted-tree s o (answerOf (readOf s o)) refl (ap (λ (r : Read). answerOf r .number) e ∙ z) in
-    not-tree number place (t .0) (sym e ∙ t .1)
+pub refusal-numbered : (s : List ℕ) (o : Options) (number place : ℕ) → tooLong s ≡ false → readOf s o ≡ refused number place → number ≡ 0 → ⊥
+unfolding answerOf limitedRead
+refusal-numbered s o number place short e z =
+    let q : limitedRead s o ≡ refused number place = rw short e in
+    let t = accepted-tree s o (answerOf (limitedRead s o)) refl (ap (λ (r : Read). answerOf r .number) q ∙ z) in
+    not-tree number place (t .0) (sym q ∙ t .1)

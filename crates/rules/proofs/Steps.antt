@@ -15,7 +15,7 @@ use Rattle.sets.proofs.Laws.{has-setOf, has-intersection, setOf-ext, inserted-s
 use Rattle.table.specs.Layout.{maxPositions, singlesOf, firstAt, idAt, idWord, lastAt, latesAt, followAt, takersAt, rowHas, from-to}
 use Rattle.table.specs.Gaps.{lastGaps, followGaps, innerGaps, unsettled}
 use Rattle.table.proofs.Over.{from-to-in, from-to-below, from-to-above, over, Written, written-none, written-above, written-block, written-all}
-use Rattle.table.proofs.Writes.{copied, movedUp}
+use Rattle.table.specs.Invariants.{copied, movedUp}
 use Rattle.nodes.specs.Nodes.{Syntax, asserts}
 use Rattle.automaton.specs.declared.Parts.{Parts}
 use Rattle.automaton.proofs.Unasserted.{same-parts}

@@ -1,4 +1,5 @@
--- Lists of additions: which rules they leave accepted, and what the next answer is, without a word of the table. Assumes nothing: these are definitions.
+-- Lists of additions: which rules they leave accepted, and what the next answer is, without a word
+-- of the table. Assumes nothing: these are definitions.
 use mathlib.Core.Bool.{Bool, false, cond, _||_}
 use mathlib.Core.List.{List, [], _∷_, _++_}
 use Prim.Native.Nat.{ℕ, _+_, _/_, _%_, _^_, _<_}
@@ -9,16 +10,14 @@ use Rattle.regex.specs.Form.{write, positions}
 use Rattle.regex.specs.Rule.{Rule}
 use Rattle.nodes.specs.Nodes.{Syntax}
 use Rattle.pattern.specs.Walk.{Read, tree, refused}
-use Rattle.pattern.specs.Read.{readOf, optionsOf}
-use Rattle.rules.specs.Add.{answer, unknownFlag, placed}
+use Rattle.pattern.specs.Read.{tooLong}
+use Rattle.rules.specs.Add.{Addition, readingOf, answer, unknownFlag, placed}
 use Rattle.rules.specs.declared.Added.{Added}
 
--- an addition: "Ids: any 32-bit number", flags, pattern bytes
-pub record Addition : Type 0 where
-  pub id : ℕ
-  pub narrow : id < 2 ^ 32
-  pub flags : ℕ
-  pub pattern : List ℕ
+-- "Ids: any 32-bit number"
+unfoldable pub Narrow : List Addition → Type 0
+Narrow [] = Unit {0}
+Narrow (a ∷ l) = (a .id < 2 ^ 32) × Narrow l
 
 -- an accepted rule: its id, its flags, and the tree that its pattern reads as
 pub record Accepted : Type 0 where
@@ -43,17 +42,15 @@ unfoldable pub taken : List Accepted → ℕ → Bool
 taken [] id = false
 taken (r ∷ rs) id = eqb (r .id) id || taken rs id
 
--- what the pattern of an addition reads as, under its flags
-abbrev pub readingOf : Addition → Read
-readingOf a = readOf (a .pattern) (optionsOf (a .flags))
-
--- The answer of the next addition to a table with these rules: 2, 3, 4, then the reader's 5 to 16 and 23, then 17.
+-- The answer of the next addition to a table with these rules: 2, 3, 4, 5, then the reader's 6 to
+-- 16 and 23, then 17.
 unfoldable pub nextAnswer : List Accepted → Addition → Added
 nextAnswer rs a =
     cond (unknownFlag (a .flags)) (answer 2 0)
     (cond (taken rs (a .id)) (answer 3 0)
     (cond (leb maxRules (length rs)) (answer 4 0)
-    (placed (used rs) (length (a .pattern)) (readingOf a))))
+    (cond (tooLong (a .pattern)) (answer 5 0)
+    (placed (used rs) (length (a .pattern)) (readingOf a)))))
 
 -- the rules after it: an accepted one comes last, a refused one changes nothing
 unfoldable pub withNew : List Accepted → Addition → Read → List Accepted

@@ -1,4 +1,5 @@
--- What the private functions promise one another: the first checks, and the words with a part of them written anew. No public contract cites it.
+-- What the private functions promise one another: the first checks, and the words with a part of
+-- them written anew. No public contract cites it.
 use mathlib.Core.Bool.{Bool, cond, not, _&&_, _||_}
 use mathlib.Core.List.{List, [], _∷_}
 use Prim.Native.Nat.{ℕ, zero, suc, _+_, _-_, _*_, _/_, _%_}
@@ -71,7 +72,8 @@ newTakers takes n more x = setOf (λ q. from-to n (n + more) q && rowHas takes (
 unfoldable pub takersPut : ℕ → List ℕ → ℕ → List ℕ → List ℕ
 takersPut n takes more t = mergedRows (takersAt 0) bytes n (newTakers takes n more) t
 
--- the sets of the parts at one gap: the first positions, those that can end a match, and what follows each
+-- the sets of the parts at one gap: the first positions, those that can end a match, and what
+-- follows each
 unfoldable pub gapPut : (gap n : ℕ) → Parts → List ℕ → List ℕ
 gapPut g n parts t =
     let first : List ℕ = merged (firstAt g) n (parts .first) t in

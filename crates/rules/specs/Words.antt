@@ -1,6 +1,7 @@
--- The words of a table with one rule more, by what each word's bits mean. The positions that the table has keep what they had among themselves, and the
--- new rule's positions come after them. For any words that pass the test: bits above the old position count, which no built table has, are dropped.
--- Assumes nothing: these are definitions.
+-- The words of a table with one rule more, by what each word's bits mean. The positions that the
+-- table has keep what they had among themselves, and the new rule's positions come after them. For
+-- any words that pass the test: bits above the old position count, which no built table has, are
+-- dropped. Assumes nothing: these are definitions.
 use mathlib.Core.Bool.{Bool, cond, not, _&&_, _||_}
 use mathlib.Core.List.{List, [], _∷_, _++_}
 use Prim.Native.Nat.{ℕ, zero, suc, _+_, _-_, _*_, _/_, _%_}
@@ -36,11 +37,13 @@ singlesWith k new old = wordOf 64 (λ a. cond (ltb a k) (on old a) (cond (eqb a 
 unfoldable pub raised : (k o : ℕ) → ℕ
 raised k o = cond (ltb o k) o (cond (ltb o maxRules) (o + 1) o)
 
--- the owner of position q, which was o: the first n positions keep theirs, and the `more` after them have the rule in place k
+-- the owner of position q, which was o: the first n positions keep theirs, and the `more` after
+-- them have the rule in place k
 unfoldable pub ownerWith : (n more k q o : ℕ) → ℕ
 ownerWith n more k q o = cond (ltb q n) (raised k o) (cond (ltb q (n + more)) k o)
 
--- the new rule's parts are given for each gap; how many positions it has, and which bytes they take, is the same at all
+-- the new rule's parts are given for each gap; how many positions it has, and which bytes they
+-- take, is the same at all
 module _ (t : List ℕ) (id flags : ℕ) (parts : ℕ → Parts) where
   abbrev more : ℕ
   more = parts 0 .positions
@@ -48,7 +51,8 @@ module _ (t : List ℕ) (id flags : ℕ) (parts : ℕ → Parts) where
   abbrev place : ℕ
   place = placeOf t id
 
-  -- the id in place a: the old ones below the new rule's place, the new one, the later old ones moved up by one; words that no rule has stay
+  -- the id in place a: the old ones below the new rule's place, the new one, the later old ones
+  -- moved up by one; words that no rule has stay
   unfoldable pub idWords : ℕ → ℕ
   idWords a =
       cond (ltb a place) (idWord t a)
@@ -68,8 +72,8 @@ module _ (t : List ℕ) (id flags : ℕ) (parts : ℕ → Parts) where
   unfoldable pub lastWords : ℕ → ℕ → ℕ
   lastWords g i = getD (joinedRow t (lastAt g) (parts g .last)) i 0
 
-  -- word i of the set of the positions with which a match can end only where the next byte allows it: at some gap between two bytes, and not where it is not known
-  -- what follows
+  -- word i of the set of the positions with which a match can end only where the next byte allows
+  -- it: at some gap between two bytes, and not where it is not known what follows
   unfoldable pub lateWords : ℕ → ℕ
   lateWords i =
       getD (setOf (λ q. any innerGaps (λ g. oldRow t (lastAt g) q || has (parts g .last) q)
@@ -79,7 +83,8 @@ module _ (t : List ℕ) (id flags : ℕ) (parts : ℕ → Parts) where
   unfoldable pub firstWords : ℕ → ℕ → ℕ
   firstWords g i = getD (joinedRow t (firstAt g) (parts g .first)) i 0
 
-  -- word i of row p of the follow sets at a gap: the old ones, the new rule's, and rows that no position has, which stay
+  -- word i of row p of the follow sets at a gap: the old ones, the new rule's, and rows that no
+  -- position has, which stay
   unfoldable pub followWords : ℕ → ℕ → ℕ → ℕ
   followWords g p i =
       cond (ltb p (positionsOf t)) (getD (setOf (oldRow t (followAt g p))) i 0)
@@ -93,7 +98,8 @@ module _ (t : List ℕ) (id flags : ℕ) (parts : ℕ → Parts) where
   unfoldable pub takersWords : ℕ → ℕ → ℕ
   takersWords x i = getD (setOf (λ q. oldRow t (takersAt x) q || newTaker x q)) i 0
 
-  -- a match can begin with byte x inside a stream: some position takes it and is first at a gap between two bytes
+  -- a match can begin with byte x inside a stream: some position takes it and is first at a gap
+  -- between two bytes
   unfoldable pub opener : ℕ → ℕ
   opener x =
       asOne (any maxPositions (λ q. (oldRow t (takersAt x) q || newTaker x q) && any innerGaps (λ g. oldRow t (firstAt g) q || has (parts g .first) q)))

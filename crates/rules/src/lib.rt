@@ -1,5 +1,6 @@
-// Adding a rule: pattern bytes, id and flags in; a refusal with its place that leaves every word as it was, or the table with the rule. Every refusal is
-// settled before the first word is written. specs/Add.antt says what the answer is, specs/Words.antt what the words are then.
+// Adding a rule: pattern bytes, id and flags in; a refusal with its place that leaves every word as
+// it was, or the table with the rule. Every refusal is settled before the first word is written.
+// specs/Add.antt says what the answer is, specs/Words.antt what the words are then.
 mod write;
 
 use table::layout::IDS_AT;
@@ -12,7 +13,7 @@ ghost use mathlib.Core.Path.{_≡_};
 ghost use Prim.Native.Nat.{_≤_};
 ghost use lib.ListN.{length};
 ghost use Rattle.table.specs.Layout.{tableWords, maxRules, rulesOf};
-ghost use Rattle.rules.specs.Add.{hasId, addAnswer, addWords};
+ghost use Rattle.rules.specs.Add.{addition, hasId, addAnswer, addWords};
 ghost use Rattle.rules.specs.Invariants.{firstFault};
 
 // The answer of an addition: number 0 and place 0, or the refusal's number and place.
@@ -57,7 +58,7 @@ fn first_fault(words: &[u64], id: u32, flags: u32) -> u32
 
 // Adds a rule, or refuses it and leaves every word as it was.
 pub fn add(words: &mut [u64], id: u32, flags: u32, pattern: &[u8]) -> Added
-    ensures { λ r. ⌜ (r ≡ addAnswer (now (words .entry)) id flags (now (pattern .entry))) × (now (words .exit) ≡ addWords (now (words .entry)) id flags (now (pattern .entry))) ⌝ }
+    ensures { λ r. ⌜ (r ≡ addAnswer (now (words .entry)) (addition id flags (now (pattern .entry)))) × (now (words .exit) ≡ addWords (now (words .entry)) (addition id flags (now (pattern .entry)))) ⌝ }
 {
     let fault = first_fault(words, id, flags);
     if fault != 0 {

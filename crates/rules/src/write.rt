@@ -1,5 +1,6 @@
-// Writing a rule into the table, once every refusal is settled. Loops stand in small writers; what is above them is a row of calls, one for each part of
-// the table. specs/Invariants.antt says what each makes, and `add_rule` makes the words of specs/Words.antt.
+// Writing a rule into the table, once every refusal is settled. Loops stand in small writers; what
+// is above them is a row of calls, one for each part of the table. specs/Invariants.antt says what
+// each makes, and `add_rule` makes the words of specs/Words.antt.
 use automaton::Parts;
 use table::gaps::FIRST_GAPS;
 use table::gaps::FOLLOW_GAPS;
@@ -189,7 +190,8 @@ fn put_singles(words: &mut [u64], k: usize, single: bool)
     put_words(words, SINGLES_AT, &one, 1);
 }
 
-// The owner of position q, which was `o`, once a rule with the positions from n on is put in at place k.
+// The owner of position q, which was `o`, once a rule with the positions from n on is put in at
+// place k.
 fn owner_with(n: usize, more: usize, k: usize, q: usize, o: u64) -> u64
     requires { ⌜ n + more ≤ maxPositions ⌝ }
     ensures { λ r. ⌜ r ≡ ownerWith n more k q o ⌝ }
@@ -273,8 +275,8 @@ fn put_takers(words: &mut [u64], n: usize, takes: &[u64; 1024], more: usize)
     }
 }
 
-// The sets of the parts at one gap: the first positions, then, at a gap where a match can end, those that can end one, and, at a gap between two bytes, what follows
-// each.
+// The sets of the parts at one gap: the first positions, then, at a gap where a match can end,
+// those that can end one, and, at a gap between two bytes, what follows each.
 fn put_gap(words: &mut [u64], gap: usize, n: usize, parts: Parts)
     requires { ⌜ (tableWords ≤ length (now words)) × (gap < firstGaps) × (n + parts .positions ≤ maxPositions) ⌝ }
     ensures { λ r. ⌜ now (words .exit) ≡ gapPut gap n parts (now (words .entry)) ⌝ }
@@ -320,8 +322,8 @@ fn put_same(words: &mut [u64], n: usize, parts: Parts)
     }
 }
 
-// The sets of a rule at every gap; `parts` are its parts at the first. Without an assertion a rule has
-// the same parts at all.
+// The sets of a rule at every gap; `parts` are its parts at the first. Without an assertion a rule
+// has the same parts at all.
 fn put_gaps(words: &mut [u64], n: usize, nodes: &[u64], root: usize, parts: Parts)
     requires { ⌜ (tableWords ≤ length (now words)) × (n + positions (write (treeAt (now nodes) root)) ≤ maxPositions) × (parts ≡ partsAt (treeAt (now nodes) root) n 0) ⌝ }
     ensures { λ r. ⌜ now (words .exit) ≡ gapsPut firstGaps n (partsAt (treeAt (now (nodes .entry)) root) n) (now (words .entry)) ⌝ }
@@ -348,7 +350,8 @@ fn inner_rows(words: &[u64], at: usize) -> [u64; 4]
     s
 }
 
-// The positions with which a match can end only where the next byte allows it: at some gap between two bytes, and not where it is not known what follows.
+// The positions with which a match can end only where the next byte allows it: at some gap between
+// two bytes, and not where it is not known what follows.
 fn put_lates(words: &mut [u64])
     requires { ⌜ tableWords ≤ length (now words) ⌝ }
     ensures { λ r. ⌜ now (words .exit) ≡ latesPut (now (words .entry)) ⌝ }
@@ -359,7 +362,8 @@ fn put_lates(words: &mut [u64])
     put_set(words, LATES_AT, late);
 }
 
-// 1 where a match can begin with byte x inside a stream, else 0: some position takes it and is one of these.
+// 1 where a match can begin with byte x inside a stream, else 0: some position takes it and is one
+// of these.
 fn opener(words: &[u64], first: [u64; 4], x: usize) -> u64
     requires { ⌜ (first ≡ innerRows (now words) (firstAt 0)) × (x < 256) ⌝ }
     ensures { λ r. ⌜ r ≡ openerOf (now (words .entry)) x ⌝ }
@@ -396,7 +400,8 @@ fn put_counts(words: &mut [u64], rules: u64, positions: u64)
 // Flag 8: single match.
 const SINGLE: u32 = 8;
 
-// The table with one rule more, the tree of node `root`, whose positions come after those that the table has. `parts` are its parts at the first gap.
+// The table with one rule more, the tree of node `root`, whose positions come after those that the
+// table has. `parts` are its parts at the first gap.
 pub(super) fn add_rule(
     words: &mut [u64],
     id: u32,

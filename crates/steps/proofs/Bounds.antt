@@ -12,8 +12,8 @@ use denote.Array.{Array}
 use borrow.Author.Needs.{needs}
 use borrow.Kind.Array.{eInt, good-length}
 use Rattle.sets.proofs.Laws.{Words, words-owned}
-use Rattle.table.specs.Layout.{tableWords, maxRules, firstAt, lastAt}
-use Rattle.table.specs.Gaps.{innerGaps, lastGaps, firstGaps, followGaps}
+use Rattle.table.specs.Layout.{tableWords, firstAt, lastAt}
+use Rattle.table.specs.Gaps.{lastGaps, firstGaps, followGaps}
 
 -- a place is one more, or has reached the end
 pub up : (a n : ℕ) → a < n → a + 1 ≤ n
@@ -26,19 +26,7 @@ reached a n h l = omega arith
 pub less-left : (n from at : ℕ) → from ≤ at → at < n → n - (at + 1) < n - from
 less-left n from at h l = omega arith
 
--- ---- the places of a table's rules
-
-module _ (a : ℕ) (h : a < maxRules) where
-  pub place-digit : a < 64
-  place-digit = omega arith
-
-  pub next-place-fits : Fits w64 (a + 1)
-  next-place-fits = record { fits = omega arith }
-
 -- ---- the sets of a gap
-
-pub next-gap-fits : (g : ℕ) → g < innerGaps → Fits w64 (g + 1)
-next-gap-fits g h = record { fits = omega arith }
 
 module _ (g : ℕ) (h : g < lastGaps) where
   pub last-offset-fits : Fits w64 (g * 4)

@@ -1,6 +1,6 @@
 -- One byte's step in words: the first positions joined with the follow row of each live one, met with the byte's row and kept below the count, are
 -- `stepped`.
-use mathlib.Core.Path.{_≡_, refl, sym, ap, ap₂, _∙_}
+use mathlib.Core.Path.{_≡_, sym, ap, ap₂, _∙_}
 use mathlib.Core.Bool.{Bool, true, false, cond, not, _||_, _&&_, or-false, or-assoc, and-comm, and-false, and-true}
 use mathlib.Core.List.{List}
 use Prim.Native.Nat.{ℕ, zero, suc, _+_, _-_, _*_, _<_, _≤_}
@@ -11,7 +11,7 @@ use lib.Dec.{eqb, leb, ltb}
 use lib.ListN.{getD}
 use borrow.Author.Tests.{lt-ltb, lt-leb, ne-eqb}
 use Rattle.kinds.specs.declared.Side.{Side}
-use Rattle.sets.specs.Set.{has, setOf, any, unionOf, intersectionOf, keptBelow, emptySet}
+use Rattle.sets.specs.Set.{has, setOf, any, unionOf, intersectionOf, keptBelow, emptySet, fullSet}
 use Rattle.sets.proofs.Laws.{has-setOf, has-empty, setOf-ext, union-setOf, intersection-setOf, below-setOf, any-ext, any-never}
 use Rattle.table.specs.Layout.{maxPositions, bytes, firstAt, followAt, takersAt, openerAt, rowHas}
 use Rattle.table.specs.Gaps.{firstGaps, followGaps, innerGaps, between, gapOf, firstGap}
@@ -114,22 +114,43 @@ module _ (t : List ℕ) (line : Bool) (before after : Side) (live : List ℕ) (t
           any-ext maxPositions (λ p. has live p && rowHas t (followRows gap + p * 4) q) (λ p. has live p && automaton t .follow gap p q)
           (λ p l. ap (λ (b : Bool). has live p && b) (follow-row t gap p q (gapOf-follow line before after) l))
 
-  -- met with the byte's row and kept below the count
-  pub next-words : (first : List ℕ) (rows n x : ℕ) → first ≡ setOf (starts (automaton t) (firstGap line taken before after) x) → rows ≡ followRows (gapOf line before after)
-      → keptBelow (intersectionOf (reached t rows live (has first) maxPositions) (setOf (automaton t .takes x))) n ≡ stepped (automaton t) line before after n live taken x
+  -- met with the byte's row
+  pub met-words : (first : List ℕ) (rows x : ℕ) → first ≡ setOf (starts (automaton t) (firstGap line taken before after) x) → rows ≡ followRows (gapOf line before after)
+      → intersectionOf (reached t rows live (has first) maxPositions) (setOf (automaton t .takes x)) ≡ stepped (automaton t) line before after maxPositions live taken x
   unfolding stepped
-  next-words first rows n x ef er =
-      ap (λ (s : List ℕ). keptBelow (intersectionOf s (setOf takes)) n) (reached-starts first rows x ef er)
-      ∙ ap (λ (s : List ℕ). keptBelow s n) (intersection-setOf from takes)
-      ∙ below-setOf (λ q. from q && takes q) n
-      ∙ setOf-ext (λ q. (from q && takes q) && ltb q n) (λ q. ltb q n && (takes q && from q))
-      (λ q l. and-comm (from q && takes q) (ltb q n) ∙ ap (λ (b : Bool). ltb q n && b) (and-comm (from q) (takes q)))
+  met-words first rows x ef er =
+      ap (λ (s : List ℕ). intersectionOf s (setOf takes)) (reached-starts first rows x ef er)
+      ∙ intersection-setOf from takes
+      ∙ setOf-ext (λ q. from q && takes q) (λ q. ltb q maxPositions && (takes q && from q))
+      (λ q l. and-comm (from q) (takes q) ∙ sym (ap (λ (b : Bool). b && (takes q && from q)) (lt-ltb q maxPositions l)))
     where
       from : ℕ → Bool
       from q = begins x q || any maxPositions (λ p. has live p && automaton t .follow gap p q)
 
       takes : ℕ → Bool
       takes q = automaton t .takes x q
+
+-- ---- the positions that there are
+
+-- of the positions that a byte steps to, those below a number
+module _ (w : Automaton) (line : Bool) (before after : Side) (n : ℕ) (live : List ℕ) (taken x : ℕ) where
+  abbrev goes : ℕ → Bool
+  goes q = w .takes x q && (starts w (firstGap line taken before after) x q || any maxPositions (λ p. has live p && w .follow (gapOf line before after) p q))
+
+  inside : (q : ℕ) → q < maxPositions → ((ltb q maxPositions && goes q) && ltb q n) ≡ (ltb q n && goes q)
+  inside q l = ap (λ (b : Bool). (b && goes q) && ltb q n) (lt-ltb q maxPositions l) ∙ and-comm (goes q) (ltb q n)
+
+  pub stepped-below : keptBelow (stepped w line before after maxPositions live taken x) n ≡ stepped w line before after n live taken x
+  unfolding stepped
+  stepped-below = below-setOf (λ q. ltb q maxPositions && goes q) n ∙ setOf-ext (λ q. (ltb q maxPositions && goes q) && ltb q n) (λ q. ltb q n && goes q) inside
+
+  -- by the set of them, as a scan has it
+  pub stepped-among : intersectionOf (stepped w line before after maxPositions live taken x) (keptBelow fullSet n) ≡ stepped w line before after n live taken x
+  unfolding stepped fullSet
+  stepped-among =
+      ap (intersectionOf (setOf (λ q. ltb q maxPositions && goes q))) (below-setOf (λ q. true) n)
+      ∙ intersection-setOf (λ q. ltb q maxPositions && goes q) (λ q. ltb q n)
+      ∙ setOf-ext (λ q. (ltb q maxPositions && goes q) && ltb q n) (λ q. ltb q n && goes q) inside
 
 -- ---- a byte that starts nothing
 

@@ -1,5 +1,5 @@
--- What one byte does to a live set, and which rules a live set ends. Over the automaton that the words describe, not over words. Assumes nothing: these are
--- definitions.
+-- What one byte does to a live set, and which rules a live set ends. Over the automaton that the
+-- words describe, not over words. Assumes nothing: these are definitions.
 use mathlib.Core.Bool.{Bool, cond, not, _&&_, _||_}
 use mathlib.Core.List.{List}
 use Prim.Native.Nat.{ℕ}
@@ -19,9 +19,10 @@ unfoldable pub numberOn : (t : List ℕ) → ℕ → ℕ
 numberOn t n = cond (leb tableWords (length t)) n 0
 
 module _ (w : Automaton) where
-  -- The live set after byte x, `taken` bytes into the stream: the positions below n, the number that there are, that take x, and are first or follow a live one. A
-  -- match may start at every byte. `before` and `after` are the sides of the gap before x: the byte there, and x. Where `line` is true, as if x were a newline and the
-  -- last byte.
+  -- The live set after byte x, `taken` bytes into the stream: the positions below n, the number
+  -- that there are, that take x, and are first or follow a live one. A match may start at every
+  -- byte. `before` and `after` are the sides of the gap before x: the byte there, and x. Where
+  -- `line` is true, as if x were a newline and the last byte.
   unfoldable pub stepped : (line : Bool) → (before after : Side) → (n : ℕ) → (live : List ℕ) → (taken x : ℕ) → List ℕ
   stepped line before after n live taken x =
       setOf (λ q. ltb q n && (w .takes x q
@@ -31,7 +32,8 @@ module _ (w : Automaton) where
   unfoldable pub ends : (gap : ℕ) → List ℕ → ℕ → Bool
   ends gap live a = any maxPositions (λ p. has live p && last w gap a p)
 
-  -- some position of a set ends a match at a gap, and no position of the live set ends one at another, where less is known
+  -- some position of a set ends a match at a gap, and no position of the live set ends one at
+  -- another, where less is known
   unfoldable pub endsNewly : (gap : ℕ) → List ℕ → (less : ℕ) → List ℕ → ℕ → Bool
   endsNewly gap set less live a = ends gap set a && not (ends less live a)
 
@@ -39,7 +41,8 @@ module _ (w : Automaton) where
   unfoldable pub lastsOf : List ℕ
   lastsOf = setOf (w .ending unsettled)
 
-  -- the positions with which a match of some rule can end only where the next byte allows it, and those of a live set
+  -- the positions with which a match of some rule can end only where the next byte allows it, and
+  -- those of a live set
   unfoldable pub latesOf : List ℕ
   latesOf = setOf (w .late)
 

@@ -1,4 +1,5 @@
-// What one byte does to a live set: the first positions, joined with what follows the live ones, met with those that take the byte.
+// What one byte does to a live set: the first positions, joined with what follows the live ones,
+// met with those that take the byte.
 use super::rows::row;
 use super::walk::walk;
 use kinds::Side;
@@ -13,10 +14,11 @@ use table::layout::SET_WORDS;
 use table::layout::TABLE_WORDS;
 use table::layout::TAKERS_AT;
 ghost use mathlib.Core.Path.{_≡_};
+ghost use mathlib.Core.Bool.{false};
 ghost use Prim.Native.Nat.{_≤_, _<_};
 ghost use lib.ListN.{length};
-ghost use Rattle.sets.specs.Set.{setOf, sizeOf};
-ghost use Rattle.table.specs.Layout.{tableWords};
+ghost use Rattle.sets.specs.Set.{setOf, sizeOf, intersectionOf};
+ghost use Rattle.table.specs.Layout.{tableWords, maxPositions};
 ghost use Rattle.table.specs.Gaps.{firstGaps};
 ghost use Rattle.table.specs.Automaton.{automaton, starts};
 ghost use Rattle.steps.specs.Step.{setOn, numberOn, stepped};
@@ -50,25 +52,26 @@ pub fn takers(words: &[u64], byte: u8) -> [u64; 4]
     row(words, TAKERS_AT + byte as usize * SET_WORDS)
 }
 
-// What one byte leaves: the live set after it, and how many positions were live before it, each of which took a turn.
+// What one byte leaves: the live set after it, and how many positions were live before it, each of
+// which took a turn.
 pub struct Stepped {
     pub live: [u64; 4],
     pub turns: u32,
 }
 
-// The step of one more byte, `taken` bytes into the stream, where `before` and `after` are the sides of the gap before it; where `line` is true, as if the byte were a
-// newline and the last. A caller reads the number of positions once, and not for each byte.
+// The step of one more byte, `taken` bytes into the stream, where `before` and `after` are the
+// sides of the gap before it, among the positions of a set: a caller works out once which positions
+// there are, and not for each byte.
 pub fn step(
-    line: bool,
     before: Side,
     after: Side,
     live: [u64; 4],
     taken: u64,
     words: &[u64],
-    positions: usize,
+    among: [u64; 4],
     byte: u8,
 ) -> Stepped
-    ensures live { λ r. ⌜ r .live ≡ setOn (now (words .entry)) (stepped (automaton (now (words .entry))) line before after positions live taken byte) ⌝ }
+    ensures live { λ r. ⌜ r .live ≡ setOn (now (words .entry)) (intersectionOf (stepped (automaton (now (words .entry))) false before after maxPositions live taken byte) among) ⌝ }
     ensures turns { λ r. ⌜ r .turns ≡ numberOn (now (words .entry)) (sizeOf live) ⌝ }
 {
     if words.len() < TABLE_WORDS {
@@ -78,11 +81,11 @@ pub fn step(
             turns: 0,
         };
     }
-    let first = firsts(first_gap(line, taken, before, after), words, byte);
-    let rows = FOLLOW_AT + gap_of(line, before, after) * FOLLOW_WORDS;
+    let first = firsts(first_gap(false, taken, before, after), words, byte);
+    let rows = FOLLOW_AT + gap_of(false, before, after) * FOLLOW_WORDS;
     let walked = walk(live, first, rows, words);
     let reached = walked.set;
-    let next = sets::below(sets::intersection(reached, takers(words, byte)), positions);
+    let next = sets::intersection(sets::intersection(reached, takers(words, byte)), among);
     Stepped {
         live: next,
         turns: walked.turns,

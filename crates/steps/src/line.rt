@@ -1,5 +1,6 @@
-// The step of a newline as if it were the last byte, with a walk of its own: it is taken once a call at most, and the compiler then puts the other walk into the loop over
-// the bytes, its only caller.
+// The step of a newline as if it were the last byte, with a walk of its own: it is taken once a
+// call at most, and the compiler then puts the other walk into the loop over the bytes, its only
+// caller.
 use super::byte::firsts;
 use super::byte::takers;
 use super::walk::walk_word;
@@ -35,7 +36,8 @@ fn line_walk(live: [u64; 4], from: [u64; 4], rows: usize, words: &[u64]) -> [u64
     set
 }
 
-// The step of one more byte as if it were a newline and the last, `taken` bytes into the stream, where `before` and `after` are the sides of the gap before it.
+// The step of one more byte as if it were a newline and the last, `taken` bytes into the stream,
+// where `before` and `after` are the sides of the gap before it.
 pub fn line_step(
     before: Side,
     after: Side,

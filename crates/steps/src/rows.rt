@@ -1,6 +1,7 @@
-// The rules of a table: the last sets, the rules that a live set ends and those that report once, as a word with a digit for each place, and a
-// rule's id. Words that are no table may name any number of rules; no more are looked at than a table can have. That there are words enough is tested once,
-// before the positions are walked, and not for each of them.
+// The rules of a table: the last sets, the rules that a live set ends and those that report once,
+// as a word with a digit for each place, and a rule's id. Words that are no table may name any
+// number of rules; no more are looked at than a table can have. That there are words enough is
+// tested once, before the positions are walked, and not for each of them.
 use kinds::Side;
 use table::gaps::UNSETTLED;
 use table::layout::IDS_AT;
@@ -107,7 +108,8 @@ fn with_owner(found: u64, a: u64, rules: u64) -> u64
     found
 }
 
-// Collects the owners of the positions of one word, whose digit k is position base + k.
+// Collects the owners of the positions of one word, whose digit k is position base + k. The turns
+// are counted for the proof alone.
 fn owner_word(mut word: u64, base: usize, rules: u64, mut found: u64, words: &[u64]) -> u64
     requires { ⌜ (tableWords ≤ length (now words)) × (base ≤ 192) × (rules ≤ maxRules) ⌝ }
     ensures { λ r. ⌜ r ≡ collected (now (words .entry)) rules word base found (ones word) ⌝ }
@@ -134,7 +136,8 @@ fn owners(set: [u64; 4], rules: u64, words: &[u64]) -> u64
     owner_word(set[3], 192, rules, c, words)
 }
 
-// The rules of which a match ends at a gap with a position of the set: the owners of those that can end one there.
+// The rules of which a match ends at a gap with a position of the set: the owners of those that can
+// end one there.
 fn ending_at(gap: usize, set: [u64; 4], words: &[u64]) -> u64
     requires { ⌜ (tableWords ≤ length (now words)) × (gap < lastGaps) ⌝ }
     ensures { λ r. ⌜ r ≡ rulesWhere (automaton (now (words .entry))) (ends (automaton (now (words .entry))) gap set) ⌝ }
@@ -154,7 +157,8 @@ pub fn ending(live: [u64; 4], words: &[u64]) -> u64
     ending_at(UNSETTLED, live, words)
 }
 
-// The rules of which a match ends with a live position at the gap between these two sides, one that waits for the next byte, and with none whatever follows.
+// The rules of which a match ends with a live position at the gap between these two sides, one that
+// waits for the next byte, and with none whatever follows.
 pub fn late_ending(before: Side, after: Side, live: [u64; 4], words: &[u64]) -> u64
     ensures { λ r. ⌜ r ≡ numberOn (now (words .entry)) (rulesWhere (automaton (now (words .entry))) (endsNewly (automaton (now (words .entry))) (between before after) (lateIn (automaton (now (words .entry))) live) unsettled live)) ⌝ }
 {
@@ -167,7 +171,8 @@ pub fn late_ending(before: Side, after: Side, live: [u64; 4], words: &[u64]) -> 
     known & !settled
 }
 
-// The rules of which a match ends with a live position if a newline that is the last byte follows, and not if any newline does.
+// The rules of which a match ends with a live position if a newline that is the last byte follows,
+// and not if any newline does.
 pub fn line_ending(before: Side, live: [u64; 4], words: &[u64]) -> u64
     ensures { λ r. ⌜ r ≡ numberOn (now (words .entry)) (rulesWhere (automaton (now (words .entry))) (endsNewly (automaton (now (words .entry))) (beforeLast before) live (between before Newline) live)) ⌝ }
 {
@@ -179,7 +184,8 @@ pub fn line_ending(before: Side, live: [u64; 4], words: &[u64]) -> u64
     at_line & !at_newline
 }
 
-// The rules of which a match ends with a live or held position if the stream ends here, and with no live one whatever follows.
+// The rules of which a match ends with a live or held position if the stream ends here, and with no
+// live one whatever follows.
 pub fn closing(before: Side, live: [u64; 4], held: [u64; 4], words: &[u64]) -> u64
     ensures { λ r. ⌜ r ≡ numberOn (now (words .entry)) (rulesWhere (automaton (now (words .entry))) (endsNewly (automaton (now (words .entry))) (atEnd before) (unionOf live held) unsettled live)) ⌝ }
 {

@@ -1,4 +1,5 @@
-// The walk over the live set: the rows of the live positions, one turn for each, from the lowest up. `rows` is the word where the rows begin.
+// The walk over the live set: the rows of the live positions, one turn for each, from the lowest
+// up. `rows` is the word where the rows begin.
 use super::rows::row;
 use table::layout::SET_WORDS;
 ghost use mathlib.Core.Path.{_≡_};

@@ -1,21 +1,22 @@
 -- When a call is accepted. Each test of a state is read off words, the number of a call is settled by the first test that fails, and number 0 says that all
 -- of them hold (`Accepted`).
 use mathlib.Core.Path.{_≡_, refl, sym, ap, ap₂, _∙_}
-use mathlib.Core.Bool.{Bool, true, false, true≢false, cond, not, _&&_, and-false, and-eq-true-iff}
+use mathlib.Core.Bool.{Bool, true, false, true≢false, cond, not, _&&_, _||_, and-false, and-eq-true-iff}
 use mathlib.Core.List.{List}
-use Prim.Native.Nat.{ℕ, _+_, _-_, _*_, _/_, _^_, _<_, _≤_}
+use Prim.Native.Nat.{ℕ, zero, suc, _+_, _-_, _*_, _/_, _^_, _<_, _≤_}
 use native.Mathlib.Nat.{lt-of-le-of-lt, div-le-self}
 use native.Mathlib.Omega.{arith}
 use lib.Bits.{bitAnd, and-le-l}
 use lib.Dec.{eqb, leb, ltb}
 use borrow.Author.Tests.{not-true, eq-eqb, ne-eqb, lt-ltb, le-ltb, ltb-false, le-leb, leb-true, eqb-true}
-use Rattle.sets.specs.Set.{on, has, wordOf, any, fullSet, intersectionOf, complementOf, keptBelow, isEmpty}
+use Rattle.sets.specs.Set.{on, has, wordOf, any, fullSet, unionOf, intersectionOf, complementOf, keptBelow, isEmpty}
 use Rattle.sets.proofs.Digits.{on-zero, on-shr, on-bound, on-wordOf, wordOf-lt, off-zero}
-use Rattle.sets.proofs.Laws.{has-full, has-intersection, has-complement, has-below, any-none, any-some, any-never, any-ext}
+use Rattle.sets.proofs.Laws.{has-full, has-union, has-intersection, has-complement, has-below, any-none, any-some, any-never, any-ext}
 use Rattle.table.specs.Layout.{maxPositions, rulesOf}
 use Rattle.table.specs.Table.{isTable}
 use Rattle.table.specs.Automaton.{Automaton, automaton}
-use Rattle.table.proofs.Members.{not-below, on-without}
+use Rattle.table.proofs.Members.{not-below, on-without, word-is}
+use Rattle.steps.specs.Step.{rulesWhere}
 use Rattle.stream.specs.declared.Stream.{Stream}
 use Rattle.stream.specs.Valid.{streamLimit, sameCounts, liveInside, marksSingle, underLimit, heldInside, pendingInside, pendingLate, valid}
 use Rattle.stream.specs.Calls.{spaceNumber, scanNumber, closeNumber}
@@ -30,6 +31,56 @@ inside-test live n =
     ∙ ap (λ (b : Bool). has live q && b)
     (has-complement (keptBelow fullSet n) q h
     ∙ ap not (has-below fullSet n q h ∙ ap (λ (b : Bool). b && ltb q n) (has-full q h)) ∙ not-below q n)))
+
+-- two sets are inside where their union is, so that those of a state are tested at once
+abbrev beyond : List ℕ → ℕ → Bool
+beyond s n = any maxPositions (λ q. has s q && leb n q)
+
+any-or : (n : ℕ) (f g : ℕ → Bool) → any n (λ k. f k || g k) ≡ (any n f || any n g)
+unfolding any
+any-or zero f g = refl
+any-or (suc n) f g =
+    ap (λ (b : Bool). b || (f n || g n)) (any-or n f g) ∙ swap (any n f) (any n g) (f n) (g n)
+  where
+    swap : (a b c d : Bool) → ((a || b) || (c || d)) ≡ ((a || c) || (b || d))
+    swap true b c d = refl
+    swap false true true d = refl
+    swap false true false d = refl
+    swap false false c d = refl
+
+beyond-union : (s t : List ℕ) (n : ℕ) → beyond (unionOf s t) n ≡ (beyond s n || beyond t n)
+beyond-union s t n =
+    any-ext maxPositions (λ q. has (unionOf s t) q && leb n q)
+    (λ q. (has s q && leb n q) || (has t q && leb n q))
+    (λ q h. ap (λ (b : Bool). b && leb n q) (has-union s t q h)
+    ∙ spread (has s q) (has t q) (leb n q))
+    ∙ any-or maxPositions (λ q. has s q && leb n q) (λ q. has t q && leb n q)
+  where
+    spread : (a b c : Bool) → ((a || b) && c) ≡ ((a && c) || (b && c))
+    spread true b true = refl
+    spread true true false = refl
+    spread true false false = refl
+    spread false b c = refl
+
+pub valid-order : (w : Automaton) (s : Stream)
+    → (sameCounts w s && (not (beyond (unionOf (s .live) (s .held)) (w .positions))
+    && (marksSingle w s && (underLimit s && (pendingInside w s && pendingLate s))))) ≡ valid w s
+unfolding valid liveInside heldInside
+valid-order w s =
+    let rest : Bool = pendingInside w s && pendingLate s in
+    ap (λ (b : Bool). sameCounts w s && (not b && (marksSingle w s && (underLimit s && rest))))
+    (beyond-union (s .live) (s .held) (w .positions))
+    ∙ ap (λ (b : Bool). sameCounts w s && b)
+    (order (beyond (s .live) (w .positions)) (beyond (s .held) (w .positions)) (marksSingle w s)
+    (underLimit s) rest)
+  where
+    order : (l h m u r : Bool)
+        → (not (l || h) && (m && (u && r))) ≡ (not l && (m && (u && (not h && r))))
+    order true h m u r = refl
+    order false false m u r = refl
+    order false true true true r = refl
+    order false true true false r = refl
+    order false true false u r = refl
 
 -- no digit is left where each that is set holds of f
 pub marks-test : (marks singles : ℕ) (f : ℕ → Bool) → marks < 2 ^ 64 → singles ≡ wordOf 64 f
@@ -123,6 +174,21 @@ fitted w s h =
     (ap₂ (λ (a b : Bool). a && b) (eq-eqb (s .rules) (w .rules) (h .rules-same)) (eq-eqb (s .positions) (w .positions) (h .positions-same)))
     (ap₂ (λ (a b : Bool). a && b) (h .live) (ap₂ (λ (a b : Bool). a && b) (h .marks)
     (ap₂ (λ (a b : Bool). a && b) (le-leb (s .taken) streamLimit (h .limit)) (ap₂ (λ (a b : Bool). a && b) (h .held) (ap₂ (λ (a b : Bool). a && b) (h .pending) (h .late))))))
+
+-- the held pairs are those of rules
+pub pending-rules : (w : Automaton) (s : Stream) → pendingInside w s ≡ true → s .pending < 2 ^ 64
+    → s .pending ≡ rulesWhere w (on (s .pending))
+unfolding pendingInside
+pending-rules w s e h =
+    let none = not-true (any 64 (past (s .pending) (w .rules))) e in
+    word-is (s .pending) (λ a. ltb a (w .rules) && on (s .pending) a) h
+    (λ a l. digit (on (s .pending) a) (ltb a (w .rules))
+    (any-none 64 (past (s .pending) (w .rules)) none a l))
+  where
+    digit : (x y : Bool) → (x && not y) ≡ false → x ≡ (y && x)
+    digit x true e = refl
+    digit true false e = e
+    digit false false e = refl
 
 -- ---- the number of a call
 

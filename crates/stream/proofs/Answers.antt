@@ -1,7 +1,7 @@
--- The answers of the calls, from what their parts promise. What of a state counts is handed to the loop alone (`counting`), and what waits for the stream's end is
+-- The answers of the calls, from what their parts promise. What waits for the stream's end is
 -- what the last byte taken leaves; each call's definition is then settled by its number.
 use mathlib.Core.Path.{_≡_, refl, sym, ap, ap₂, _∙_, subst}
-use mathlib.Core.Bool.{Bool, true, false, cond, _&&_, and-false}
+use mathlib.Core.Bool.{Bool, true, false, true≢false, cond, _&&_, and-false}
 use mathlib.Core.List.{List}
 use Prim.Native.Nat.{ℕ, _+_, _-_, _<_, _≤_}
 use native.Mathlib.Omega.{arith}
@@ -19,11 +19,14 @@ use Rattle.table.specs.Automaton.{Automaton, automaton}
 use Rattle.steps.specs.Step.{setOn, numberOn, stepped, endsNewly, rulesWhere}
 use Rattle.steps.proofs.TableSets.{set-on, number-on}
 use Rattle.stream.specs.declared.Stream.{Stream}
-use Rattle.stream.specs.Byte.{nextHeld, nextPending, byteState, stateAfter, idsOf, endsOf, costOf}
-use Rattle.stream.specs.Calls.{fresh, opened, space, scanNumber, closeNumber, takenBy, written, scanned, scannedIds, scannedOffsets, shut, closed, closedIds, closedOffsets}
-use Rattle.stream.specs.Invariants.{stateOf, sideAt, Left, Ended, Ran}
-use Rattle.stream.proofs.Blocks.{state-more, taken-after, last-after, rules-after, positions-after, closed-after}
-use Rattle.stream.proofs.Counting.{counting, held-alike, pending-alike, after-alike, all-ids, all-ends, all-cost, all-fit}
+use Rattle.stream.specs.declared.Advance.{Advance}
+use Rattle.stream.specs.declared.scan.Turn.{Turn}
+use Rattle.stream.specs.Byte.{Machine, after, fitsBy, nextHeld, nextPending, byteState, plain, stateAfter, reportsOf, costOf}
+use Rattle.stream.specs.Calls.{Lists, Call, fresh, opened, space, closeNumber, callNumber, takenBy, written, scanned, scannedLists, shut, closed, closedLists}
+use Rattle.stream.specs.Invariants.{stateOf, sideAt, Left, Ended, Running, Ran, AdvancedBy, Advanced}
+use Rattle.stream.proofs.Machines.{after-more, fits-is}
+use Rattle.stream.proofs.Blocks.{taken-after, last-after, rules-after, positions-after, closed-after}
+use Rattle.stream.proofs.Counting.{counting, held-alike, pending-alike}
 
 -- ---- what waits for the stream's end
 
@@ -90,44 +93,42 @@ pub record Waits (w : Automaton) (s : Stream) (block : List ℕ) (taken : ℕ) (
 
 -- what the state had, where there are none
 none-wait : (w : Automaton) (s : Stream) (block : List ℕ) → Waits w s block 0 (s .held) (s .pending)
-unfolding stateAfter
+unfolding after
 none-wait w s block = record { held-is = refl; pending-is = refl }
 
 -- what the last of them leaves, from the live set before it
-module _ (w : Automaton) (s : Stream) (allowance : ℕ) (block ids offsets live before : List ℕ) (marks taken reports left : ℕ) (ids′ offsets′ : List ℕ)
-    (ran : Ran w (counting s) allowance block ids offsets live before marks taken reports left ids′ offsets′) where
-  last-waits : 0 < taken
-      → Waits w s block taken (nextHeld w (beforeLastByte w s block before taken) (getD block (taken - 1) 0)) (nextPending w (beforeLastByte w s block before taken) (getD block (taken - 1) 0))
+module _ (w : Automaton) (s : Stream) (allowance : ℕ) (block : List ℕ) (l l′ : Lists) (r : Turn) (ran : Running w s allowance block l r l′) where
+  last-waits : 0 < r .at
+      → Waits w s block (r .at) (nextHeld w (beforeLastByte w s block (r .before) (r .at)) (getD block (r .at - 1) 0)) (nextPending w (beforeLastByte w s block (r .before) (r .at)) (getD block (r .at - 1) 0))
   last-waits some =
-      let j : ℕ = taken - 1 in
+      let j : ℕ = r .at - 1 in
       let x : ℕ = getD block j 0 in
       let y : Stream = stateAfter w s block j in
-      let z : Stream = stateOf before (y .reported) (sideAt (s .last) block j) (s .taken + j) in
-      let same : y .live ≡ before = ap (λ (z : Stream). z .live) (after-alike w s (counting s) refl block j) ∙ sym (ran .before-is some) in
-      let alike : counting y ≡ counting z = λ i. stateOf (same i) (y .reported) (last-after w s block j i) (taken-after w s block j i) in
-      let one : j + 1 ≡ taken = omega arith in
-      let more : byteState w y x ≡ stateAfter w s block taken = sym (state-more w s block j) ∙ ap (stateAfter w s block) one in
+      let z : Stream = stateOf (r .before) (y .reported) (sideAt (s .last) block j) (s .taken + j) in
+      let alike : counting y ≡ counting z = λ i. stateOf (sym (ran .before-is some) i) (y .reported) (last-after w s block j i) (taken-after w s block j i) in
+      let one : j + 1 ≡ r .at = omega arith in
+      let more : byteState w y x ≡ stateAfter w s block (r .at) = sym (after-more (plain w) s block j) ∙ ap (stateAfter w s block) one in
       record {
         held-is = held-alike w y z alike x ∙ ap (λ (z : Stream). z .held) more;
         pending-is = pending-alike w y z alike x ∙ ap (λ (z : Stream). z .pending) more;
       }
 
   -- what the loop left, and what came after it
-  pub waits : (held : List ℕ) (pending : ℕ) → Left w s block before taken held pending → Waits w s block taken held pending
-  waits held pending left = go (eqb taken 0) refl
+  pub waits : (held : List ℕ) (pending : ℕ) → Left w s block (r .before) (r .at) held pending → Waits w s block (r .at) held pending
+  waits held pending left = go (eqb (r .at) 0) refl
     where
-      go : (b : Bool) → eqb taken 0 ≡ b → Waits w s block taken held pending
+      go : (b : Bool) → eqb (r .at) 0 ≡ b → Waits w s block (r .at) held pending
       go true e =
-          let none = subst (λ (n : ℕ). Waits w s block n (s .held) (s .pending)) (sym (eqb-true taken 0 e)) (none-wait w s block) in
+          let none = subst (λ (n : ℕ). Waits w s block n (s .held) (s .pending)) (sym (eqb-true (r .at) 0 e)) (none-wait w s block) in
           record {
-            held-is = left .held-is ∙ ap (λ (b : Bool). cond b (s .held) (nextHeld w (beforeLastByte w s block before taken) (getD block (taken - 1) 0))) e ∙ none .held-is;
-            pending-is = left .pending-is ∙ ap (λ (b : Bool). cond b (s .pending) (nextPending w (beforeLastByte w s block before taken) (getD block (taken - 1) 0))) e ∙ none .pending-is;
+            held-is = left .held-is ∙ ap (λ (b : Bool). cond b (s .held) (nextHeld w (beforeLastByte w s block (r .before) (r .at)) (getD block (r .at - 1) 0))) e ∙ none .held-is;
+            pending-is = left .pending-is ∙ ap (λ (b : Bool). cond b (s .pending) (nextPending w (beforeLastByte w s block (r .before) (r .at)) (getD block (r .at - 1) 0))) e ∙ none .pending-is;
           }
       go false e =
-          let last = last-waits (omega (arith, eqb-false taken 0 e)) in
+          let last = last-waits (omega (arith, eqb-false (r .at) 0 e)) in
           record {
-            held-is = left .held-is ∙ ap (λ (b : Bool). cond b (s .held) (nextHeld w (beforeLastByte w s block before taken) (getD block (taken - 1) 0))) e ∙ last .held-is;
-            pending-is = left .pending-is ∙ ap (λ (b : Bool). cond b (s .pending) (nextPending w (beforeLastByte w s block before taken) (getD block (taken - 1) 0))) e ∙ last .pending-is;
+            held-is = left .held-is ∙ ap (λ (b : Bool). cond b (s .held) (nextHeld w (beforeLastByte w s block (r .before) (r .at)) (getD block (r .at - 1) 0))) e ∙ last .held-is;
+            pending-is = left .pending-is ∙ ap (λ (b : Bool). cond b (s .pending) (nextPending w (beforeLastByte w s block (r .before) (r .at)) (getD block (r .at - 1) 0))) e ∙ last .pending-is;
           }
 
 -- ---- opening
@@ -142,119 +143,108 @@ opened-is t z e f = ap (λ (x : Stream). record { number = 0; stream = x }) f �
 
 -- ---- scanning
 
-module _ (t : List ℕ) (s : Stream) (allowance : ℕ) (block ids offsets : List ℕ) (number : ℕ) (is : number ≡ scanNumber t s (length block) (space ids offsets)) where
+-- a scan that may not pause takes as many bytes as fit
+pub advanced-fits : {S : Type 0} (m : Machine S) (out : S → Stream) (s : S) (allowance : ℕ) (block : List ℕ) (l : Lists) (r : Advance) (l′ : Lists)
+    → AdvancedBy m out s allowance block l false r l′ → r .taken ≡ fitsBy m s allowance block (space l) (length block)
+advanced-fits m out s allowance block l r l′ h =
+    sym (fits-is m s block allowance (space l) (r .taken) (length block) (h .inside) (omega (arith, h .filled .count-is, h .filled .room)) (omega (arith, h .left-is))
+    (h .rests .stops (go (r .stopped) refl)))
+  where
+    go : (b : Bool) → r .stopped ≡ b → r .stopped ≡ true
+    go true e = e
+    go false e = absurd (true≢false (sym (h .rests .pauses e .0)))
+
+-- what the loop left, put back into the state
+module _ {w : Automaton} {s : Stream} {allowance : ℕ} {block : List ℕ} {l l′ : Lists} {pause : Bool} {r : Turn} {held : List ℕ} {pending : ℕ}
+    (ran : Ran w s allowance block l pause r l′) (left : Left w s block (r .before) (r .at) held pending) where
+  abbrev come : Stream
+  come = record { live = r .live; held = held; reported = r .reported; pending = pending; last = r .side; taken = s .taken + r .at; rules = s .rules; positions = s .positions; closed = s .closed }
+
+  state-is : come ≡ stateAfter w s block (r .at)
+  state-is =
+      let h = ran .running in
+      let wait = waits w s allowance block l l′ r h held pending left in
+      (λ i. record {
+        live = h .live-is i;
+        held = wait .held-is i;
+        reported = h .marks-are i;
+        pending = wait .pending-is i;
+        last = (ran .running .side-is ∙ sym (last-after w s block (r .at))) i;
+        taken = sym (taken-after w s block (r .at)) i;
+        rules = sym (rules-after w s block (r .at)) i;
+        positions = sym (positions-after w s block (r .at)) i;
+        closed = sym (closed-after w s block (r .at)) i;
+      })
+
+  pub advanced : Advanced w s allowance block l pause (record { stopped = r .stopped; taken = r .at; reports = r .count; left = r .left; stream = come }) l′
+  advanced =
+      record { inside = ran .running .inside; left-is = ran .running .paid; stream-is = state-is; filled = ran .running .filled; rests = ran .rests }
+
+module _ (t : List ℕ) (s : Stream) (c : Call) (number : ℕ) (is : number ≡ callNumber t s c) where
   -- a refused scan gives its number and leaves all else
   module _ (refused : number ≡ 0 → ⊥) where
-    shut-test : eqb (scanNumber t s (length block) (space ids offsets)) 0 ≡ false
-    shut-test = ne-eqb (scanNumber t s (length block) (space ids offsets)) 0 (λ z. refused (is ∙ z))
+    shut-test : eqb (callNumber t s c) 0 ≡ false
+    shut-test = ne-eqb (callNumber t s c) 0 (λ z. refused (is ∙ z))
 
-    pub scan-refused : record { number = number; taken = 0; reports = 0; used = 0; stream = s } ≡ scanned t s allowance block ids offsets
+    pub scan-refused : (record { number = number; taken = 0; reports = 0; used = 0; stream = s } ≡ scanned t s c) × (c .slots ≡ scannedLists t s c)
+    unfolding scanned scannedLists
+    scan-refused =
+        (ap (λ (n : ℕ). record { number = n; taken = 0; reports = 0; used = 0; stream = s }) is ∙ sym (rw shut-test), sym (rw shut-test))
+
+  -- an accepted scan gives what its definition says
+  module _ (accepted : number ≡ 0) (r : Advance) (l′ : Lists) (done : Advanced (automaton t) s (c .allowance) (c .block) (c .slots) false r l′) where
+    open-test : eqb (callNumber t s c) 0 ≡ true
+    open-test = eq-eqb (callNumber t s c) 0 (sym is ∙ accepted)
+
+    taken-is : r .taken ≡ takenBy t s c
+    unfolding takenBy
+    taken-is = advanced-fits (plain (automaton t)) (λ s. s) s (c .allowance) (c .block) (c .slots) r l′ done
+
+    answer-is : record { number = 0; taken = r .taken; reports = r .reports; used = c .allowance - r .left; stream = r .stream } ≡ scanned t s c
     unfolding scanned
-    scan-refused = ap (λ (n : ℕ). record { number = n; taken = 0; reports = 0; used = 0; stream = s }) is ∙ sym (rw shut-test)
+    answer-is =
+        let spent : c .allowance - r .left ≡ costOf (automaton t) s (c .block) (r .taken) = omega (arith, done .left-is) in
+        (λ i. record {
+          number = 0;
+          taken = taken-is i;
+          reports = (done .filled .count-is ∙ ap (λ (k : ℕ). length (reportsOf (automaton t) s (c .block) k)) taken-is) i;
+          used = (spent ∙ ap (costOf (automaton t) s (c .block)) taken-is) i;
+          stream = (done .stream-is ∙ ap (stateAfter (automaton t) s (c .block)) taken-is) i;
+        })
+        ∙ sym (rw open-test)
 
-    pub scan-refused-ids : ids ≡ scannedIds t s allowance block ids offsets
-    unfolding scannedIds
-    scan-refused-ids = sym (rw shut-test)
+    lists-are : l′ ≡ scannedLists t s c
+    unfolding scannedLists
+    lists-are = done .filled .lists-are ∙ ap (λ (k : ℕ). written (reportsOf (automaton t) s (c .block) k) (c .slots)) taken-is ∙ sym (rw open-test)
 
-    pub scan-refused-offsets : offsets ≡ scannedOffsets t s allowance block ids offsets
-    unfolding scannedOffsets
-    scan-refused-offsets = sym (rw shut-test)
-
-  -- an accepted scan gives what the loop left, put back into the state
-  module _ (accepted : number ≡ 0) (live before : List ℕ) (marks taken reports left : ℕ) (ids′ offsets′ : List ℕ)
-      (ran : Ran (automaton t) (counting s) allowance block ids offsets live before marks taken reports left ids′ offsets′)
-      (held : List ℕ) (pending : ℕ) (waits : Waits (automaton t) s block taken held pending) where
-    w : Automaton
-    w = automaton t
-
-    open-test : eqb (scanNumber t s (length block) (space ids offsets)) 0 ≡ true
-    open-test = eq-eqb (scanNumber t s (length block) (space ids offsets)) 0 (sym is ∙ accepted)
-
-    taken-is : taken ≡ takenBy t s allowance block (space ids offsets)
-    unfolding takenBy w
-    taken-is = ran .taken-is ∙ sym (all-fit w s (counting s) refl block allowance (space ids offsets) (length block))
-
-    ids-are : idsOf (automaton t) (counting s) block taken ≡ idsOf (automaton t) s block (takenBy t s allowance block (space ids offsets))
-    unfolding w
-    ids-are = sym (all-ids w s (counting s) refl block taken) ∙ ap (idsOf (automaton t) s block) taken-is
-
-    ends-are : endsOf (automaton t) (counting s) block taken ≡ endsOf (automaton t) s block (takenBy t s allowance block (space ids offsets))
-    unfolding w
-    ends-are = sym (all-ends w s (counting s) refl block taken) ∙ ap (endsOf (automaton t) s block) taken-is
-
-    used-is : allowance - left ≡ costOf (automaton t) s block (takenBy t s allowance block (space ids offsets))
-    unfolding w
-    used-is =
-        let spent : allowance - left ≡ costOf w (counting s) block taken = omega (arith, ran .left-is) in
-        spent ∙ sym (all-cost w s (counting s) refl block taken) ∙ ap (costOf (automaton t) s block) taken-is
-
-    module _ (last : Side) (side : last ≡ sideAt (s .last) block taken) where
-      abbrev after : Stream
-      after = record { live = live; held = held; reported = marks; pending = pending; last = last; taken = s .taken + taken; rules = s .rules; positions = s .positions; closed = s .closed }
-
-      state-is : after ≡ stateAfter (automaton t) s block (takenBy t s allowance block (space ids offsets))
-      unfolding w
-      state-is =
-          let alike = after-alike w s (counting s) refl block taken in
-          (λ i. record {
-            live = (ran .live-is ∙ sym (ap (λ (z : Stream). z .live) alike)) i;
-            held = waits .held-is i;
-            reported = (ran .marks-are ∙ sym (ap (λ (z : Stream). z .reported) alike)) i;
-            pending = waits .pending-is i;
-            last = (side ∙ sym (last-after w s block taken)) i;
-            taken = sym (taken-after w s block taken) i;
-            rules = sym (rules-after w s block taken) i;
-            positions = sym (positions-after w s block taken) i;
-            closed = sym (closed-after w s block taken) i;
-          })
-          ∙ ap (stateAfter (automaton t) s block) taken-is
-
-      pub scan-accepted : record { number = 0; taken = taken; reports = reports; used = allowance - left; stream = after } ≡ scanned t s allowance block ids offsets
-      unfolding scanned
-      scan-accepted =
-          (λ i. record { number = 0; taken = taken-is i; reports = (ran .reports-are ∙ ap length ids-are) i; used = used-is i; stream = state-is i }) ∙ sym (rw open-test)
-
-    pub scan-accepted-ids : ids′ ≡ scannedIds t s allowance block ids offsets
-    unfolding scannedIds
-    scan-accepted-ids = ran .ids-are ∙ ap (λ (l : List ℕ). written l ids) ids-are ∙ sym (rw open-test)
-
-    pub scan-accepted-offsets : offsets′ ≡ scannedOffsets t s allowance block ids offsets
-    unfolding scannedOffsets
-    scan-accepted-offsets = ran .offsets-are ∙ ap (λ (l : List ℕ). written l offsets) ends-are ∙ sym (rw open-test)
+    pub scan-accepted : (record { number = 0; taken = r .taken; reports = r .reports; used = c .allowance - r .left; stream = r .stream } ≡ scanned t s c) × (l′ ≡ scannedLists t s c)
+    scan-accepted = (answer-is, lists-are)
 
 -- ---- closing
 
-module _ (t : List ℕ) (s : Stream) (ids offsets : List ℕ) (number : ℕ) (is : number ≡ closeNumber t s (space ids offsets)) where
+module _ (t : List ℕ) (s : Stream) (l : Lists) (number : ℕ) (is : number ≡ closeNumber t s (space l)) where
   -- a refused closing gives its number and leaves all else
   module _ (refused : number ≡ 0 → ⊥) where
-    kept-test : eqb (closeNumber t s (space ids offsets)) 0 ≡ false
-    kept-test = ne-eqb (closeNumber t s (space ids offsets)) 0 (λ z. refused (is ∙ z))
+    kept-test : eqb (closeNumber t s (space l)) 0 ≡ false
+    kept-test = ne-eqb (closeNumber t s (space l)) 0 (λ z. refused (is ∙ z))
 
-    pub close-refused : record { number = number; reports = 0; stream = s } ≡ closed t s ids offsets
+    pub close-refused : record { number = number; reports = 0; stream = s } ≡ closed t s l
     unfolding closed
     close-refused = ap (λ (n : ℕ). record { number = n; reports = 0; stream = s }) is ∙ sym (rw kept-test)
 
-    pub close-refused-ids : ids ≡ closedIds t s ids offsets
-    unfolding closedIds
-    close-refused-ids = sym (rw kept-test)
-
-    pub close-refused-offsets : offsets ≡ closedOffsets t s ids offsets
-    unfolding closedOffsets
-    close-refused-offsets = sym (rw kept-test)
+    pub close-refused-lists : l ≡ closedLists t s l
+    unfolding closedLists
+    close-refused-lists = sym (rw kept-test)
 
   -- an accepted closing gives its runs and sets the mark
-  module _ (accepted : number ≡ 0) (reports : ℕ) (ids′ offsets′ : List ℕ) (ended : Ended (automaton t) s ids offsets reports ids′ offsets′) where
-    shut-now : eqb (closeNumber t s (space ids offsets)) 0 ≡ true
-    shut-now = eq-eqb (closeNumber t s (space ids offsets)) 0 (sym is ∙ accepted)
+  module _ (accepted : number ≡ 0) (reports : ℕ) (l′ : Lists) (end : Ended (automaton t) s l reports l′) where
+    pass-test : eqb (closeNumber t s (space l)) 0 ≡ true
+    pass-test = eq-eqb (closeNumber t s (space l)) 0 (sym is ∙ accepted)
 
-    pub close-accepted : record { number = 0; reports = reports; stream = shut s } ≡ closed t s ids offsets
+    pub close-accepted : record { number = 0; reports = reports; stream = shut s } ≡ closed t s l
     unfolding closed
-    close-accepted = (λ i. record { number = 0; reports = ended .reports-are i; stream = shut s }) ∙ sym (rw shut-now)
+    close-accepted = ap (λ (n : ℕ). record { number = 0; reports = n; stream = shut s }) (end .reports-are) ∙ sym (rw pass-test)
 
-    pub close-accepted-ids : ids′ ≡ closedIds t s ids offsets
-    unfolding closedIds
-    close-accepted-ids = ended .ids-are ∙ sym (rw shut-now)
-
-    pub close-accepted-offsets : offsets′ ≡ closedOffsets t s ids offsets
-    unfolding closedOffsets
-    close-accepted-offsets = ended .offsets-are ∙ sym (rw shut-now)
+    pub close-accepted-lists : l′ ≡ closedLists t s l
+    unfolding closedLists
+    close-accepted-lists = end .lists-are ∙ sym (rw pass-test)

@@ -24,17 +24,11 @@ short-end end n m e = omega arith
 pub from-end : (at end n left : ℕ) → at ≤ n → end ≡ min n (at + left) → at ≤ end
 from-end at end n left h e = omega arith
 
-pub to-end : (to end n m : ℕ) → to ≤ end → end ≡ min n m → to ≤ n
-to-end to end n m h e = omega arith
-
 pub before-end : (to end n m : ℕ) → to ≤ end → (to ≡ end → ⊥) → end ≡ min n m → to < n
 before-end to end n m h d e = omega arith
 
 pub paid-for : (at to end n left : ℕ) → to ≤ end → end ≡ min n (at + left) → to - at ≤ left
 paid-for at to end n left h e = omega arith
-
-pub all-spent : (to end n at left : ℕ) → to ≡ end → end ≡ min n (at + left) → to < n → left - (to - at) ≡ 0
-all-spent to end n at left d e h = omega arith
 
 -- sums and products
 pub sum-fits : (a b n : ℕ) → a + n < 2 ^ 64 → b ≤ n → Fits w64 (a + b)
@@ -55,11 +49,11 @@ pub short-fits : (a n : ℕ) → a + n ≤ streamLimit → a + n < 2 ^ 64
 short-fits a n h = omega arith
 
 -- what fits in the shorter of two lists fits in each
-pub enough-left : (n m room a b : ℕ) → n ≤ m → m ≤ room → room ≡ min a b → n ≤ a
-enough-left n m room a b h l e = omega arith
+pub enough-left : (n a b : ℕ) → n ≤ min a b → n ≤ a
+enough-left n a b h = omega arith
 
-pub enough-right : (n m room a b : ℕ) → n ≤ m → m ≤ room → room ≡ min a b → n ≤ b
-enough-right n m room a b h l e = omega arith
+pub enough-right : (n a b : ℕ) → n ≤ min a b → n ≤ b
+enough-right n a b h = omega arith
 
 -- a count of elements of a list, and their bytes
 pub count-fits : (n a b : ℕ) → n ≤ min a b → a * 4 < 2 ^ 63 → Fits w64 n
@@ -71,16 +65,9 @@ ids-fit n a b h l = record { fits = omega arith }
 pub offsets-fit : (n a b : ℕ) → n ≤ min a b → b * 8 < 2 ^ 63 → Fits w64 (n * 8)
 offsets-fit n a b h l = record { fits = omega arith }
 
--- the reports of a run, at most one of a rule
-module _ (n rules : ℕ) (few : n ≤ rules) (h : rules ≤ maxRules) where
-  pub run-ids-fit : Fits w64 (n * 4)
-  run-ids-fit = record { fits = omega arith }
-
-  pub run-offsets-fit : Fits w64 (n * 8)
-  run-offsets-fit = record { fits = omega arith }
-
-  pub runs-fit : (m : ℕ) → m ≤ rules → Fits w64 (n + m)
-  runs-fit m l = record { fits = omega arith }
+-- and the place after one of them
+pub next-fits : (n a b : ℕ) → n < min a b → a * 4 < 2 ^ 63 → Fits w64 (n + 1)
+next-fits n a b h l = record { fits = omega arith }
 
 -- ---- the rules of a table
 
@@ -91,14 +78,3 @@ rules-few t h = omega arith
 
 pub twice-fits : (n : ℕ) → n ≤ maxRules → Fits w64 (2 * n)
 twice-fits n h = record { fits = omega arith }
-
--- a number up to a rule's place, as that of the reports before it
-module _ (a : ℕ) (h : a < maxRules) (n : ℕ) (few : n ≤ a) where
-  pub few-fit : Fits w64 (n + 1)
-  few-fit = record { fits = omega arith }
-
-  pub few-ids-fit : Fits w64 (n * 4)
-  few-ids-fit = record { fits = omega arith }
-
-  pub few-offsets-fit : Fits w64 (n * 8)
-  few-offsets-fit = record { fits = omega arith }

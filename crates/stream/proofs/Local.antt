@@ -13,9 +13,9 @@ use Rattle.table.proofs.Local.{same-word, automaton-local, isTable-local}
 use Rattle.stream.specs.declared.Stream.{Stream}
 use Rattle.stream.specs.declared.Scanned.{Scanned}
 use Rattle.stream.specs.declared.Closed.{Closed}
-use Rattle.stream.specs.Byte.{stateAfter, idsOf, endsOf, costOf, fits, closeIds, closeEnds}
+use Rattle.stream.specs.Byte.{stateAfter, reportsOf, costOf, fits, closeReports}
 use Rattle.stream.specs.Valid.{valid}
-use Rattle.stream.specs.Calls.{fresh, opened, space, spaceNumber, scanNumber, closeNumber, takenBy, written, scanned, scannedIds, scannedOffsets, shut, closed, closedIds, closedOffsets, overLimit}
+use Rattle.stream.specs.Calls.{Lists, Call, fresh, opened, space, spaceNumber, scanNumber, closeNumber, callNumber, takenBy, written, scanned, scannedLists, shut, closed, closedLists, overLimit}
 
 module _ (t u : List ℕ) (same : take tableWords t ≡ take tableWords u) where
   table : isTable t ≡ isTable u
@@ -46,42 +46,42 @@ module _ (t u : List ℕ) (same : take tableWords t ≡ take tableWords u) where
       ap₂ (λ (b : Bool) (w : Automaton). cond b (cond (valid w s) (cond (s .closed) 19 (spaceNumber t room)) 18) 1) table machine
       ∙ ap (λ (n : ℕ). cond (isTable u) (cond (valid (automaton u) s) (cond (s .closed) 19 (cond (ltb room (2 * n)) 20 0)) 18) 1) rules
 
-  module _ (s : Stream) (allowance : ℕ) (block ids offsets : List ℕ) where
-    pub scanned-local : scanned t s allowance block ids offsets ≡ scanned u s allowance block ids offsets
+  module _ (s : Stream) (c : Call) where
+    abbrev taken : Automaton → ℕ
+    taken w = fits w s (c .allowance) (c .block) (space (c .slots)) (length (c .block))
+
+    same-number : callNumber t s c ≡ callNumber u s c
+    same-number = scanNumber-local s (length (c .block)) (space (c .slots))
+
+    pub scanned-local : scanned t s c ≡ scanned u s c
     unfolding scanned takenBy
-    scanned-local = ap₂ answer (scanNumber-local s (length block) (space ids offsets)) machine
+    scanned-local = ap₂ answer same-number machine
       where
         answer : ℕ → Automaton → Scanned
         answer n w =
-            let k : ℕ = fits w s allowance block (space ids offsets) (length block) in
-            cond (eqb n 0) (record { number = 0; taken = k; reports = length (idsOf w s block k); used = costOf w s block k; stream = stateAfter w s block k })
+            cond (eqb n 0)
+            (record {
+              number = 0;
+              taken = taken w;
+              reports = length (reportsOf w s (c .block) (taken w));
+              used = costOf w s (c .block) (taken w);
+              stream = stateAfter w s (c .block) (taken w);
+            })
             (record { number = n; taken = 0; reports = 0; used = 0; stream = s })
 
-    pub scannedIds-local : scannedIds t s allowance block ids offsets ≡ scannedIds u s allowance block ids offsets
-    unfolding scannedIds takenBy
-    scannedIds-local =
-        ap₂ (λ (n : ℕ) (w : Automaton). cond (eqb n 0) (written (idsOf w s block (fits w s allowance block (space ids offsets) (length block))) ids) ids)
-        (scanNumber-local s (length block) (space ids offsets)) machine
+    pub scannedLists-local : scannedLists t s c ≡ scannedLists u s c
+    unfolding scannedLists takenBy
+    scannedLists-local =
+        ap₂ (λ (n : ℕ) (w : Automaton). cond (eqb n 0) (written (reportsOf w s (c .block) (taken w)) (c .slots)) (c .slots)) same-number machine
 
-    pub scannedOffsets-local : scannedOffsets t s allowance block ids offsets ≡ scannedOffsets u s allowance block ids offsets
-    unfolding scannedOffsets takenBy
-    scannedOffsets-local =
-        ap₂ (λ (n : ℕ) (w : Automaton). cond (eqb n 0) (written (endsOf w s block (fits w s allowance block (space ids offsets) (length block))) offsets) offsets)
-        (scanNumber-local s (length block) (space ids offsets)) machine
-
-  module _ (s : Stream) (ids offsets : List ℕ) where
-    pub closed-local : closed t s ids offsets ≡ closed u s ids offsets
+  module _ (s : Stream) (l : Lists) where
+    pub closed-local : closed t s l ≡ closed u s l
     unfolding closed
-    closed-local = ap₂ answer (closeNumber-local s (space ids offsets)) machine
+    closed-local = ap₂ answer (closeNumber-local s (space l)) machine
       where
         answer : ℕ → Automaton → Closed
-        answer n w = cond (eqb n 0) (record { number = 0; reports = length (closeIds w s); stream = shut s }) (record { number = n; reports = 0; stream = s })
+        answer n w = cond (eqb n 0) (record { number = 0; reports = length (closeReports w s); stream = shut s }) (record { number = n; reports = 0; stream = s })
 
-    pub closedIds-local : closedIds t s ids offsets ≡ closedIds u s ids offsets
-    unfolding closedIds
-    closedIds-local = ap₂ (λ (n : ℕ) (w : Automaton). cond (eqb n 0) (written (closeIds w s) ids) ids) (closeNumber-local s (space ids offsets)) machine
-
-    pub closedOffsets-local : closedOffsets t s ids offsets ≡ closedOffsets u s ids offsets
-    unfolding closedOffsets
-    closedOffsets-local =
-        ap₂ (λ (n : ℕ) (w : Automaton). cond (eqb n 0) (written (closeEnds w s) offsets) offsets) (closeNumber-local s (space ids offsets)) machine
+    pub closedLists-local : closedLists t s l ≡ closedLists u s l
+    unfolding closedLists
+    closedLists-local = ap₂ (λ (n : ℕ) (w : Automaton). cond (eqb n 0) (written (closeReports w s) l) l) (closeNumber-local s (space l)) machine

@@ -1,28 +1,29 @@
 -- Where nothing happens. A live set that does not meet the union of the last sets ends no rule; one that does not meet those that wait for the next byte ends none late;
 -- and where nothing is live, a byte that starts nothing leaves it so, whatever stands before it.
 use mathlib.Core.Path.{_≡_, refl, sym, ap, _∙_}
-use mathlib.Core.Bool.{Bool, true, false, true≢false, not, _&&_}
+use mathlib.Core.Bool.{Bool, true, false, true≢false, not, _||_, _&&_}
 use mathlib.Core.List.{List}
 use Prim.Native.Nat.{ℕ, _+_, _<_, _≤_}
 use native.Mathlib.Nat.{le-refl}
+use native.Mathlib.Decide.{decLt}
 use native.Mathlib.Omega.{arith}
 use lib.Dec.{eqb}
 use lib.ListN.{getD}
-use borrow.Author.Count.{below-more}
 use Rattle.kinds.specs.declared.Side.{Side}
 use Rattle.kinds.specs.Side.{sideOf}
-use Rattle.sets.specs.Set.{has, any, emptySet, sizeOf}
-use Rattle.sets.proofs.Laws.{has-intersection, has-setOf, has-empty, any-none, any-never, count-never}
+use Rattle.sets.specs.Set.{has, any, emptySet, unionOf, intersectionOf, isEmpty, sizeOf}
+use Rattle.sets.proofs.Laws.{has-union, has-intersection, has-setOf, has-empty, any-none, any-never, count-never}
 use Rattle.table.specs.Layout.{maxPositions}
 use Rattle.table.specs.Gaps.{between, unsettled}
 use Rattle.table.specs.Automaton.{Automaton, last}
-use Rattle.steps.specs.Step.{stepped, ends, endsNewly, lastsOf, latesOf, lateIn, rulesWhere}
-use Rattle.stream.specs.Invariants.{Skipped}
+use Rattle.steps.specs.Step.{ends, endsNewly, lastsOf, latesOf, lateIn, rulesWhere}
+use Rattle.steps.proofs.Steps.{next-quiet}
+use Rattle.stream.specs.Invariants.{NoOpener, Skipped}
 use Rattle.stream.proofs.Runs.{rules-none}
 
 -- ---- the rules that end
 
-gate : (w : Automaton) (live : List ℕ) (a : ℕ) → any maxPositions (λ q. has live q && has (lastsOf w) q) ≡ false → ends w unsettled live a ≡ false
+pub gate : (w : Automaton) (live : List ℕ) (a : ℕ) → any maxPositions (λ q. has live q && has (lastsOf w) q) ≡ false → ends w unsettled live a ≡ false
 unfolding ends lastsOf
 gate w live a e =
     any-never maxPositions (λ p. has live p && last w unsettled a p)
@@ -35,7 +36,7 @@ gate w live a e =
     shut false y z f = refl
 
 -- where no live position waits for the next byte, none ends a match late
-late-gate : (w : Automaton) (live : List ℕ) (gap less a : ℕ) → any maxPositions (λ q. has live q && has (latesOf w) q) ≡ false
+pub late-gate : (w : Automaton) (live : List ℕ) (gap less a : ℕ) → any maxPositions (λ q. has live q && has (latesOf w) q) ≡ false
     → endsNewly w gap (lateIn w live) less live a ≡ false
 unfolding endsNewly ends
 late-gate w live gap less a e =
@@ -43,12 +44,34 @@ late-gate w live gap less a e =
     (any-never maxPositions (λ p. has (lateIn w live) p && last w gap a p)
     (λ p l. ap (λ (b : Bool). b && last w gap a p) (has-intersection live (latesOf w) p l ∙ any-none maxPositions (λ q. has live q && has (latesOf w) q) e p l)))
 
+-- the joined gate: two pairs of sets, neither of which has a member in common
+pub apart : (s t u v : List ℕ) → isEmpty (unionOf (intersectionOf s t) (intersectionOf u v)) ≡ true
+    → (any maxPositions (λ q. has s q && has t q) ≡ false) × (any maxPositions (λ q. has u q && has v q) ≡ false)
+unfolding isEmpty
+apart s t u v e = (
+  any-never maxPositions (λ q. has s q && has t q) (λ q l. sym (has-intersection s t q l) ∙ left-off (has (intersectionOf s t) q) (has (intersectionOf u v) q) (neither q l)),
+  any-never maxPositions (λ q. has u q && has v q) (λ q l. sym (has-intersection u v q l) ∙ right-off (has (intersectionOf s t) q) (has (intersectionOf u v) q) (neither q l)),
+)
+  where
+    neither : (q : ℕ) → q < maxPositions → (has (intersectionOf s t) q || has (intersectionOf u v) q) ≡ false
+    neither q l =
+        sym (has-union (intersectionOf s t) (intersectionOf u v) q l)
+        ∙ any-none maxPositions (has (unionOf (intersectionOf s t) (intersectionOf u v))) (not-true (any maxPositions (has (unionOf (intersectionOf s t) (intersectionOf u v)))) e) q l
+      where
+        not-true : (b : Bool) → not b ≡ true → b ≡ false
+        not-true true f = sym f
+        not-true false f = refl
+
+    left-off : (x y : Bool) → (x || y) ≡ false → x ≡ false
+    left-off true y f = f
+    left-off false y f = refl
+
+    right-off : (x y : Bool) → (x || y) ≡ false → y ≡ false
+    right-off true y f = absurd (true≢false f)
+    right-off false y f = f
+
 -- a set that keeps such a gate shut has no rule
 module _ (w : Automaton) (live : List ℕ) where
-  pub own-none : (last : List ℕ) → last ≡ lastsOf w → any maxPositions (λ q. has live q && has last q) ≡ false → 0 ≡ rulesWhere w (ends w unsettled live)
-  own-none last is e =
-      rules-none w (ends w unsettled live) (λ a h. gate w live a (ap (λ (x : List ℕ). any maxPositions (λ q. has live q && has x q)) (sym is) ∙ e))
-
   pub late-none : (late : List ℕ) → late ≡ latesOf w → any maxPositions (λ q. has live q && has late q) ≡ false → (before after : Side)
       → 0 ≡ rulesWhere w (endsNewly w (between before after) (lateIn w live) unsettled live)
   late-none late is e before after =
@@ -71,27 +94,26 @@ size-empty = count-never maxPositions (has emptySet) has-empty
 
 -- ---- bytes passed over
 
-module _ (w : Automaton) (block : List ℕ) (taken from : ℕ) where
-  pub skipped-none : (live : List ℕ) (end : ℕ) → from ≤ end → Skipped w live block taken from end from
-  skipped-none live end h = record { rises = le-refl from; inside = h; empty = λ l. absurd (omega arith); still = λ j l m. absurd (omega arith) }
+-- no match can begin with some bytes
+module _ (w : Automaton) (block : List ℕ) (from end : ℕ) where
+  pub unopened-none : from ≤ end → NoOpener w block from end from
+  unopened-none h = record { rises = le-refl from; inside = h; none = λ j l m. absurd (omega arith) }
 
-  pub skipped-more : (end at : ℕ) → Skipped w emptySet block taken from end at → at < end
-      → ((before : Side) → stepped w false before (sideOf (getD block at 0)) (w .positions) emptySet (taken + at) (getD block at 0) ≡ emptySet)
-      → Skipped w emptySet block taken from end (at + 1)
-  skipped-more end at h l e =
-      record {
-        rises = omega (arith, h .rises);
-        inside = omega arith;
-        empty = λ m. refl;
-        still = λ j f g.
-            below-more (λ (i : ℕ). from ≤ i → (before : Side) → stepped w false before (sideOf (getD block i 0)) (w .positions) emptySet (taken + i) (getD block i 0) ≡ emptySet) at
-            (λ i m k. h .still i k m) (λ k. e) j g f;
-      }
+  pub unopened-more : (at k : ℕ) → NoOpener w block from end at → at + k ≤ end → ((j : ℕ) → at ≤ j → j < at + k → w .opens (getD block j 0) ≡ false) → NoOpener w block from end (at + k)
+  unopened-more at k h l e = record { rises = omega (arith, h .rises); inside = l; none = λ j f g. go j f g (decLt j at) }
+    where
+      go : (j : ℕ) → from ≤ j → j < at + k → Dec (j < at) → w .opens (getD block j 0) ≡ false
+      go j f g (yes d) = h .none j f d
+      go j f g (no d) = e j (omega arith) g
 
-  pub skipped-live : (end at : ℕ) (live : List ℕ) → live ≡ emptySet → Skipped w emptySet block taken from end at → Skipped w live block taken from end at
-  skipped-live end at live e h = record { rises = h .rises; inside = h .inside; empty = λ l. e; still = h .still }
+-- so they leave a live set empty
+pub skipped-none : (w : Automaton) (block : List ℕ) (taken from : ℕ) (live : List ℕ) (end : ℕ) → from ≤ end → Skipped w live block taken from end from
+skipped-none w block taken from live end h = record { rises = le-refl from; inside = h; empty = λ l. absurd (omega arith); still = λ j l m. absurd (omega arith) }
 
-  -- up to some place of them
-  pub skipped-to : (live : List ℕ) (end to n : ℕ) → Skipped w live block taken from end to → from ≤ n → n ≤ to → Skipped w live block taken from end n
-  skipped-to live end to n q l m =
-      record { rises = l; inside = omega (arith, q .inside); empty = λ g. q .empty (omega arith); still = λ j f g. q .still j f (omega arith) }
+pub unopened-skipped : (w : Automaton) (live block : List ℕ) (taken from end to : ℕ) → live ≡ emptySet → 0 < taken + from → NoOpener w block from end to → Skipped w live block taken from end to
+unopened-skipped w live block taken from end to e p h = record {
+  rises = h .rises;
+  inside = h .inside;
+  empty = λ l. e;
+  still = λ j l m before. next-quiet w before (sideOf (getD block j 0)) (w .positions) (taken + j) (getD block j 0) (omega arith) (h .none j l m);
+}

@@ -1,5 +1,7 @@
--- What callers may count on. An accepted scan that may use 257 units takes some byte, since there is space for two reports of each rule; the state that comes back is valid again, since a live
--- set is kept below the count, a mark is set for single-match rules alone, and the bytes stay within the limit.
+-- What callers may count on. An accepted scan that may use 257 units takes some byte, since there
+-- is space for two reports of each rule; the state that comes back is valid again, since a live set
+-- is kept below the count, a mark is set for single-match rules alone, and the bytes stay within
+-- the limit.
 use mathlib.Core.Path.{_≡_, refl, sym, ap, ap₂, _∙_}
 use mathlib.Core.Bool.{Bool, true, false, cond, not, _||_, _&&_, or-true, and-false}
 use mathlib.Core.List.{List}
@@ -23,10 +25,11 @@ use Rattle.table.proofs.Members.{not-below}
 use Rattle.stream.specs.declared.Stream.{Stream}
 use Rattle.stream.specs.declared.Scanned.{Scanned}
 use Rattle.stream.specs.declared.Closed.{Closed}
-use Rattle.stream.specs.Byte.{nextHeld, nextPending, runMarks, twoMarks, lateTest, ownTest, byteState, stateAfter, idsOf, costOf, fits, closeIds, busyOf}
+use Rattle.stream.specs.Byte.{nextHeld, nextPending, runMarks, twoMarks, lateTest, ownTest, byteState, plain, after, stateAfter, reportsOf, costOf, closeReports, busyOf}
 use Rattle.stream.specs.Valid.{streamLimit, sameCounts, liveInside, marksSingle, underLimit, heldInside, pendingInside, pendingLate, valid}
-use Rattle.stream.specs.Calls.{fresh, opened, space, scanNumber, closeNumber, takenBy, scanned, shut, closed}
-use Rattle.stream.proofs.Blocks.{cost-some, cost-few, fits-le, fits-within, one-fits, taken-after, rules-after, positions-after}
+use Rattle.stream.specs.Calls.{Lists, Call, fresh, opened, space, closeNumber, callNumber, takenBy, scanned, shut, closed}
+use Rattle.stream.proofs.Machines.{fits-le, fits-within}
+use Rattle.stream.proofs.Blocks.{cost-some, cost-few, one-fits, taken-after, rules-after, positions-after}
 use Rattle.stream.proofs.Accepting.{Fitting, fitted, Accepted, accepted, close-number}
 
 -- ---- an opened stream
@@ -79,12 +82,12 @@ module _ (w : Automaton) (line : Bool) (before after : Side) (live : List ℕ) (
       ap not (any-never maxPositions (λ q. has (setOf takers) q && leb (w .positions) q)
       (λ q h. ap₂ (λ (a b : Bool). a && b) (has-setOf takers q h) (sym (not-below q (w .positions))) ∙ apart (ltb q (w .positions)) (rest q)))
 
-inside-next : (w : Automaton) (s : Stream) (x : ℕ) → liveInside w (byteState w s x) ≡ true
+pub inside-next : (w : Automaton) (s : Stream) (x : ℕ) → liveInside w (byteState w s x) ≡ true
 unfolding liveInside byteState
 inside-next w s x = inside-step w false (s .last) (sideOf x) (s .live) (s .taken) x
 
 -- what is held is such a step, or nothing
-held-next : (w : Automaton) (s : Stream) (x : ℕ) → heldInside w (byteState w s x) ≡ true
+pub held-next : (w : Automaton) (s : Stream) (x : ℕ) → heldInside w (byteState w s x) ≡ true
 unfolding heldInside byteState nextHeld
 held-next w s x = go (eqb x 10)
   where
@@ -93,7 +96,7 @@ held-next w s x = go (eqb x 10)
     go false = ap not (any-never maxPositions (λ q. has emptySet q && leb (w .positions) q) (λ q h. ap (λ (b : Bool). b && leb (w .positions) q) (has-empty q h)))
 
 -- a pair is held for rules of the table alone, and where a byte stands before its end offset
-pending-next : (w : Automaton) (s : Stream) (x : ℕ) → pendingInside w (byteState w s x) ≡ true
+pub pending-next : (w : Automaton) (s : Stream) (x : ℕ) → pendingInside w (byteState w s x) ≡ true
 unfolding pendingInside byteState nextPending
 pending-next w s x = go (eqb x 10 && ltb 0 (s .taken))
   where
@@ -153,27 +156,27 @@ single-next w s x e = single-run w (ownTest w s x) (runMarks w (lateTest w s x) 
 
 module _ (w : Automaton) (s : Stream) (block : List ℕ) (h : Fitting w s) where
   live-after : (k : ℕ) → liveInside w (stateAfter w s block k) ≡ true
-  unfolding stateAfter
+  unfolding after
   live-after zero = h .live
   live-after (suc k) = inside-next w (stateAfter w s block k) (getD block k 0)
 
   held-after : (k : ℕ) → heldInside w (stateAfter w s block k) ≡ true
-  unfolding stateAfter
+  unfolding after
   held-after zero = h .held
   held-after (suc k) = held-next w (stateAfter w s block k) (getD block k 0)
 
   pending-after : (k : ℕ) → pendingInside w (stateAfter w s block k) ≡ true
-  unfolding stateAfter
+  unfolding after
   pending-after zero = h .pending
   pending-after (suc k) = pending-next w (stateAfter w s block k) (getD block k 0)
 
   late-after : (k : ℕ) → pendingLate (stateAfter w s block k) ≡ true
-  unfolding stateAfter
+  unfolding after
   late-after zero = h .late
   late-after (suc k) = late-next w (stateAfter w s block k) (getD block k 0)
 
   marks-after : (k : ℕ) → marksSingle w (stateAfter w s block k) ≡ true
-  unfolding stateAfter
+  unfolding after
   marks-after zero = h .marks
   marks-after (suc k) = single-next w (stateAfter w s block k) (getD block k 0) (marks-after k)
 
@@ -196,71 +199,71 @@ by-test : {A : Type 0} (P : A → Type 0) (b : Bool) {x y : A} → (b ≡ true �
 by-test P true f g = f refl
 by-test P false f g = g refl
 
-module _ (t : List ℕ) (s : Stream) (allowance : ℕ) (block ids offsets : List ℕ) where
+module _ (t : List ℕ) (s : Stream) (c : Call) where
   -- the number in the answer is the call's number
-  pub scan-number : scanned t s allowance block ids offsets .number ≡ scanNumber t s (length block) (space ids offsets)
+  pub scan-number : scanned t s c .number ≡ callNumber t s c
   unfolding scanned
   scan-number = by-test (λ (r : Scanned). r .number ≡ n) (eqb n 0) (λ e. sym (eqb-true n 0 e)) (λ e. refl)
     where
       n : ℕ
-      n = scanNumber t s (length block) (space ids offsets)
+      n = callNumber t s c
 
   -- at most all bytes are taken
-  pub taken-within : scanned t s allowance block ids offsets .taken ≤ length block
+  pub taken-within : scanned t s c .taken ≤ length (c .block)
   unfolding scanned takenBy
   taken-within =
-      by-test (λ (r : Scanned). r .taken ≤ length block) (eqb (scanNumber t s (length block) (space ids offsets)) 0)
-      (λ e. fits-le (automaton t) s block allowance (space ids offsets) (length block)) (λ e. zero-le)
+      by-test (λ (r : Scanned). r .taken ≤ length (c .block)) (eqb (callNumber t s c) 0)
+      (λ e. fits-le (plain (automaton t)) s (c .block) (c .allowance) (space (c .slots)) (length (c .block))) (λ e. zero-le)
 
   -- by its number
-  module _ (ok : scanNumber t s (length block) (space ids offsets) ≡ 0) where
+  module _ (ok : callNumber t s c ≡ 0) where
     abbrev k : ℕ
-    k = takenBy t s allowance block (space ids offsets)
+    k = takenBy t s c
 
-    pub accepted-scan : scanned t s allowance block ids offsets ≡ record { number = 0; taken = k; reports = length (idsOf (automaton t) s block k); used = costOf (automaton t) s block k; stream = stateAfter (automaton t) s block k }
+    pub accepted-scan : scanned t s c ≡ record { number = 0; taken = k; reports = length (reportsOf (automaton t) s (c .block) k); used = costOf (automaton t) s (c .block) k; stream = stateAfter (automaton t) s (c .block) k }
     unfolding scanned
-    accepted-scan = rw (eq-eqb (scanNumber t s (length block) (space ids offsets)) 0 ok)
+    accepted-scan = rw (eq-eqb (callNumber t s c) 0 ok)
 
-  pub refused-scan : ¬ (scanNumber t s (length block) (space ids offsets) ≡ 0)
-      → scanned t s allowance block ids offsets ≡ record { number = scanNumber t s (length block) (space ids offsets); taken = 0; reports = 0; used = 0; stream = s }
+  pub refused-scan : ¬ (callNumber t s c ≡ 0)
+      → scanned t s c ≡ record { number = callNumber t s c; taken = 0; reports = 0; used = 0; stream = s }
   unfolding scanned
-  refused-scan bad = rw (ne-eqb (scanNumber t s (length block) (space ids offsets)) 0 bad)
+  refused-scan bad = rw (ne-eqb (callNumber t s c) 0 bad)
 
-  module _ (ok : scanned t s allowance block ids offsets .number ≡ 0) where
-    is-accepted : scanNumber t s (length block) (space ids offsets) ≡ 0
+  module _ (ok : scanned t s c .number ≡ 0) where
+    is-accepted : callNumber t s c ≡ 0
     is-accepted = sym scan-number ∙ ok
 
-    held : Accepted t s (length block) (space ids offsets)
-    held = accepted t s (length block) (space ids offsets) is-accepted
+    held : Accepted t s (length (c .block)) (space (c .slots))
+    held = accepted t s (length (c .block)) (space (c .slots)) is-accepted
 
     -- the state handed back is that after the bytes taken
-    pub scan-state : scanned t s allowance block ids offsets .stream ≡ stateAfter (automaton t) s block (scanned t s allowance block ids offsets .taken)
-    scan-state = ap (λ (r : Scanned). r .stream) (accepted-scan is-accepted) ∙ sym (ap (λ (r : Scanned). stateAfter (automaton t) s block (r .taken)) (accepted-scan is-accepted))
+    pub scan-state : scanned t s c .stream ≡ stateAfter (automaton t) s (c .block) (scanned t s c .taken)
+    scan-state = ap (λ (r : Scanned). r .stream) (accepted-scan is-accepted) ∙ sym (ap (λ (r : Scanned). stateAfter (automaton t) s (c .block) (r .taken)) (accepted-scan is-accepted))
 
     -- an accepted scan of a block with a byte takes one, if it may use 257 units
-    pub progress : 257 ≤ allowance → 0 < length block → 0 < scanned t s allowance block ids offsets .taken
+    pub progress : 257 ≤ c .allowance → 0 < length (c .block) → 0 < scanned t s c .taken
     unfolding takenBy automaton
     progress wide h =
-        omega (arith, ap (λ (r : Scanned). r .taken) (accepted-scan is-accepted), one-fits (automaton t) s block allowance (space ids offsets) (length block) h (omega (arith, held .space)) wide)
+        omega (arith, ap (λ (r : Scanned). r .taken) (accepted-scan is-accepted), one-fits (automaton t) s (c .block) (c .allowance) (space (c .slots)) (length (c .block)) h (omega (arith, held .space)) wide)
 
     -- and gives back a state that is valid for the same words
-    pub scanned-valid : valid (automaton t) (scanned t s allowance block ids offsets .stream) ≡ true
+    pub scanned-valid : valid (automaton t) (scanned t s c .stream) ≡ true
     scanned-valid =
         ap (valid (automaton t)) scan-state
-        ∙ fitted (automaton t) (stateAfter (automaton t) s block (scanned t s allowance block ids offsets .taken))
-        (fitting-after (automaton t) s block (held .state) (scanned t s allowance block ids offsets .taken) (omega (arith, held .short, taken-within)))
+        ∙ fitted (automaton t) (stateAfter (automaton t) s (c .block) (scanned t s c .taken))
+        (fitting-after (automaton t) s (c .block) (held .state) (scanned t s c .taken) (omega (arith, held .short, taken-within)))
 
   -- what a scan uses: no more than it may, and from 1 to 257 units for each byte that it takes
-  pub used-within : (scanned t s allowance block ids offsets .used ≤ allowance)
-      × (scanned t s allowance block ids offsets .taken ≤ scanned t s allowance block ids offsets .used)
-      × (scanned t s allowance block ids offsets .used ≤ 257 * scanned t s allowance block ids offsets .taken)
+  pub used-within : (scanned t s c .used ≤ c .allowance)
+      × (scanned t s c .taken ≤ scanned t s c .used)
+      × (scanned t s c .used ≤ 257 * scanned t s c .taken)
   unfolding scanned takenBy
   used-within =
-      by-test (λ (r : Scanned). (r .used ≤ allowance) × (r .taken ≤ r .used) × (r .used ≤ 257 * r .taken)) (eqb (scanNumber t s (length block) (space ids offsets)) 0)
+      by-test (λ (r : Scanned). (r .used ≤ c .allowance) × (r .taken ≤ r .used) × (r .used ≤ 257 * r .taken)) (eqb (callNumber t s c) 0)
       (λ e. (
-        fits-within (automaton t) s block allowance (space ids offsets) (length block) .1,
-        cost-some (automaton t) s block (fits (automaton t) s allowance block (space ids offsets) (length block)),
-        cost-few (automaton t) s block (fits (automaton t) s allowance block (space ids offsets) (length block)),
+        fits-within (plain (automaton t)) s (c .block) (c .allowance) (space (c .slots)) (length (c .block)) .1,
+        cost-some (automaton t) s (c .block) (takenBy t s c),
+        cost-few (automaton t) s (c .block) (takenBy t s c),
       ))
       (λ e. (zero-le, zero-le, zero-le))
 
@@ -271,26 +274,26 @@ shut-valid : (w : Automaton) (s : Stream) → valid w (shut s) ≡ valid w s
 unfolding valid sameCounts liveInside marksSingle underLimit heldInside pendingInside pendingLate
 shut-valid w s = refl
 
-module _ (t : List ℕ) (s : Stream) (ids offsets : List ℕ) where
-  pub close-number-is : closed t s ids offsets .number ≡ closeNumber t s (space ids offsets)
+module _ (t : List ℕ) (s : Stream) (l : Lists) where
+  pub close-number-is : closed t s l .number ≡ closeNumber t s (space l)
   unfolding closed
   close-number-is = by-test (λ (r : Closed). r .number ≡ n) (eqb n 0) (λ e. sym (eqb-true n 0 e)) (λ e. refl)
     where
       n : ℕ
-      n = closeNumber t s (space ids offsets)
+      n = closeNumber t s (space l)
 
   -- by its number
-  pub accepted-close : closeNumber t s (space ids offsets) ≡ 0 → closed t s ids offsets ≡ record { number = 0; reports = length (closeIds (automaton t) s); stream = shut s }
+  pub accepted-close : closeNumber t s (space l) ≡ 0 → closed t s l ≡ record { number = 0; reports = length (closeReports (automaton t) s); stream = shut s }
   unfolding closed
-  accepted-close ok = rw (eq-eqb (closeNumber t s (space ids offsets)) 0 ok)
+  accepted-close ok = rw (eq-eqb (closeNumber t s (space l)) 0 ok)
 
-  pub refused-close : ¬ (closeNumber t s (space ids offsets) ≡ 0) → closed t s ids offsets ≡ record { number = closeNumber t s (space ids offsets); reports = 0; stream = s }
+  pub refused-close : ¬ (closeNumber t s (space l) ≡ 0) → closed t s l ≡ record { number = closeNumber t s (space l); reports = 0; stream = s }
   unfolding closed
-  refused-close bad = rw (ne-eqb (closeNumber t s (space ids offsets)) 0 bad)
+  refused-close bad = rw (ne-eqb (closeNumber t s (space l)) 0 bad)
 
-  module _ (ok : closed t s ids offsets .number ≡ 0) where
+  module _ (ok : closed t s l .number ≡ 0) where
     -- an accepted one gives back a state that is valid for the same words
-    pub closed-valid : valid (automaton t) (closed t s ids offsets .stream) ≡ true
+    pub closed-valid : valid (automaton t) (closed t s l .stream) ≡ true
     closed-valid =
         ap (λ (r : Closed). valid (automaton t) (r .stream)) (accepted-close (sym close-number-is ∙ ok)) ∙ shut-valid (automaton t) s
-        ∙ fitted (automaton t) s (accepted t s 0 (space ids offsets) (close-number t s (space ids offsets) ∙ sym close-number-is ∙ ok) .state)
+        ∙ fitted (automaton t) s (accepted t s 0 (space l) (close-number t s (space l) ∙ sym close-number-is ∙ ok) .state)

@@ -1,88 +1,76 @@
--- A run of reports. Rules are asked one a turn, so `runIds` grows by one id where a rule is due, and how many there are is the number of set digits of
--- the rules that end without those marked. A run's ids and marks look at the rules of the table alone.
+-- A run of reports. How many there are is the number of set digits of the rules that end without
+-- those marked. A run's reports and marks look at the rules of the table alone. They are written
+-- from the lowest digit on: what is left to report loses its first report, and the word that digit.
 use mathlib.Core.Path.{_≡_, refl, sym, ap, ap₂, _∙_}
-use mathlib.Core.Bool.{Bool, true, false, cond, not, _||_, _&&_, or-false, and-false, and-comm, and-assoc}
+use mathlib.Core.Bool.{Bool, true, false, true≢false, cond, not, _||_, _&&_, or-false, and-false, and-true, and-comm, and-assoc}
 use mathlib.Core.List.{List, [], _∷_, _++_, append-nil, append-assoc}
-use Prim.Native.Nat.{ℕ, zero, suc, _+_, _-_, _/_, _^_, _<_, _≤_, zero-le}
-use native.Mathlib.Decide.{le-ind}
-use native.Mathlib.Numerals.{add-one}
+use Prim.Native.Nat.{ℕ, zero, suc, _+_, _-_, _*_, _/_, _^_, _<_, _≤_}
+use native.Mathlib.Decide.{le-ind, decLt}
 use native.Mathlib.Omega.{arith}
-use lib.Bits.{bitAnd, bitOr, or-lt, and-le-l, and-le-r, and-mask}
-use native.Mathlib.Nat.{lt-of-le-of-lt}
-use lib.Count.{ones}
-use lib.Dec.{eqb, ltb}
-use lib.ListN.{length, drop, set, getD, replicate, length-append, length-set, length-replicate}
-use lib.Seq.{drop-cons, set-at}
-use borrow.Author.Fill.{fill-more}
-use borrow.Author.Tests.{eq-eqb, ne-eqb}
+use lib.Bits.{bitAnd, bitOr, or-lt, and-le-l, and-le-r}
+use native.Mathlib.Nat.{add-zero, lt-of-le-of-lt, le-of-lt}
+use lib.Count.{ones, trailingZeros}
+use lib.Dec.{ltb}
+use lib.ListN.{length, set, length-append}
+use mir.Syntax.{w64}
+use mir.Val.{Fits}
 use Rattle.sets.specs.Set.{on, asOne, count}
-use Rattle.sets.proofs.Digits.{on-or, on-and, on-zero, on-wordOf, wordOf-ext, wordOf-lt, ones-count, count-ext, count-le}
+use Rattle.sets.proofs.Digits.{on-or, on-and, on-zero, on-wordOf, wordOf-ext, wordOf-lt, ones-count, count-ext, count-le, zeros-on, zeros-off, clear-low, cleared-on, cleared-off}
 use Rattle.table.specs.Automaton.{Automaton, single}
 use Rattle.table.proofs.Rows.{under}
 use Rattle.steps.specs.Step.{rulesWhere}
 use Rattle.table.proofs.Members.{word-is, on-places-past, on-without, count-below}
-use Rattle.stream.specs.Byte.{due, runIds, runMarks}
-use Rattle.stream.specs.Invariants.{Wrote}
+use Rattle.stream.specs.Byte.{Report, due, runReports, runMarks}
+use Rattle.stream.specs.Calls.{Lists, lists, space}
+use Rattle.stream.specs.Invariants.{writtenAt, AsLong, Wrote}
+use Rattle.stream.proofs.Bounds as bounds
+use Rattle.stream.proofs.Lists.{written-at-none, written-store, long-written}
 
--- ---- the ids
+-- ---- the reports
 
-module _ (w : Automaton) (test : ℕ → Bool) (marks : ℕ) where
-  pub run-hit : (a : ℕ) → due w test marks a ≡ true → runIds w test marks (a + 1) ≡ runIds w test marks a ++ (w .id a ∷ [])
-  unfolding runIds
-  run-hit a e = ap (runIds w test marks) (add-one a) ∙ ap (λ (b : Bool). runIds w test marks a ++ cond b (w .id a ∷ []) []) e
-
-  pub run-miss : (a : ℕ) → due w test marks a ≡ false → runIds w test marks (a + 1) ≡ runIds w test marks a
-  unfolding runIds
-  run-miss a e =
-      ap (runIds w test marks) (add-one a) ∙ ap (λ (b : Bool). runIds w test marks a ++ cond b (w .id a ∷ []) []) e ∙ append-nil (runIds w test marks a)
-
+module _ (test : ℕ → Bool) (marks : ℕ) (give : ℕ → Report) where
   -- as many as there are rules due
-  pub run-count : (n : ℕ) → length (runIds w test marks n) ≡ count n (due w test marks)
-  unfolding runIds count
+  pub run-count : (n : ℕ) → length (runReports test marks give n) ≡ count n (due test marks)
+  unfolding runReports count
   run-count zero = refl
   run-count (suc n) =
-      length-append (runIds w test marks n) (cond (due w test marks n) (w .id n ∷ []) [])
-      ∙ ap₂ (λ (x y : ℕ). x + y) (run-count n) (one (due w test marks n))
+      length-append (runReports test marks give n) (cond (due test marks n) (give n ∷ []) [])
+      ∙ ap₂ (λ (x y : ℕ). x + y) (run-count n) (one (due test marks n))
     where
-      one : (b : Bool) → length (cond b (w .id n ∷ []) []) ≡ asOne b
+      one : (b : Bool) → length (cond b (give n ∷ []) []) ≡ asOne b
       one true = refl
       one false = refl
 
-  pub run-few : (n : ℕ) → length (runIds w test marks n) ≤ n
-  run-few n = omega (arith, run-count n, count-le n (due w test marks))
+  pub run-few : (n : ℕ) → length (runReports test marks give n) ≤ n
+  run-few n = omega (arith, run-count n, count-le n (due test marks))
 
-  run-more : (n : ℕ) → length (runIds w test marks n) ≤ length (runIds w test marks (suc n))
-  unfolding runIds
-  run-more n = omega (arith, length-append (runIds w test marks n) (cond (due w test marks n) (w .id n ∷ []) []))
-
-  run-mono : (a n : ℕ) → a ≤ n → length (runIds w test marks a) ≤ length (runIds w test marks n)
-  run-mono a n h = le-ind (λ (m : ℕ). length (runIds w test marks a) ≤ length (runIds w test marks m)) (omega arith) (λ m l e. omega (arith, run-more m)) n h
-
-  -- where the rule in place a is due, those before it leave room for one more
-  pub run-room : (a n room : ℕ) → a < n → due w test marks a ≡ true → length (runIds w test marks n) ≤ room → length (runIds w test marks a) < room
-  run-room a n room h e l =
-      omega (arith, run-mono (a + 1) n (omega arith), ap length (run-hit a e), length-append (runIds w test marks a) (w .id a ∷ []))
+  -- a run in which no rule ends
+  pub run-none : (n : ℕ) → ((a : ℕ) → a < n → test a ≡ false) → runReports test marks give n ≡ []
+  unfolding runReports
+  run-none zero e = refl
+  run-none (suc n) e =
+      ap₂ (λ (l : List Report) (b : Bool). l ++ cond (b && not (on marks n)) (give n ∷ []) []) (run-none n (λ a h. e a (omega arith))) (e n (omega arith))
 
 -- ---- a run looks at the rules of the table alone
 
-pub run-ext : (w : Automaton) (f g : ℕ → Bool) (marks n : ℕ) → ((a : ℕ) → a < n → f a ≡ g a) → runIds w f marks n ≡ runIds w g marks n
-unfolding runIds
-run-ext w f g marks zero e = refl
-run-ext w f g marks (suc n) e =
-    ap₂ (λ (l : List ℕ) (b : Bool). l ++ cond (b && not (on marks n)) (w .id n ∷ []) []) (run-ext w f g marks n (λ a h. e a (omega arith))) (e n (omega arith))
+pub run-same : (f g : ℕ → Bool) (m m′ : ℕ) (give : ℕ → Report) (n : ℕ)
+    → ((a : ℕ) → a < n → due f m a ≡ due g m′ a) → runReports f m give n ≡ runReports g m′ give n
+unfolding runReports
+run-same f g m m′ give zero e = refl
+run-same f g m m′ give (suc n) e =
+    ap₂ (λ (l : List Report) (b : Bool). l ++ cond b (give n ∷ []) [])
+    (run-same f g m m′ give n (λ a h. e a (omega arith))) (e n (omega arith))
+
+pub run-ext : (f g : ℕ → Bool) (marks : ℕ) (give : ℕ → Report) (n : ℕ)
+    → ((a : ℕ) → a < n → f a ≡ g a) → runReports f marks give n ≡ runReports g marks give n
+run-ext f g marks give n e =
+    run-same f g marks marks give n (λ a h. ap (λ (b : Bool). b && not (on marks a)) (e a h))
 
 pub marks-ext : (w : Automaton) (f g : ℕ → Bool) (marks : ℕ) → ((a : ℕ) → a < w .rules → f a ≡ g a) → runMarks w f marks ≡ runMarks w g marks
 unfolding runMarks
 marks-ext w f g marks e =
     wordOf-ext 64 (λ a. on marks a || (ltb a (w .rules) && (single w a && f a))) (λ a. on marks a || (ltb a (w .rules) && (single w a && g a)))
     (λ a h. ap (λ (b : Bool). on marks a || b) (under (w .rules) a (λ b. b && (single w a && f a)) (λ b. b && (single w a && g a)) (λ l. ap (λ (b : Bool). single w a && b) (e a l)) refl))
-
--- a run in which no rule ends
-pub run-none : (w : Automaton) (f : ℕ → Bool) (marks n : ℕ) → ((a : ℕ) → a < n → f a ≡ false) → runIds w f marks n ≡ []
-unfolding runIds
-run-none w f marks zero e = refl
-run-none w f marks (suc n) e =
-    ap₂ (λ (l : List ℕ) (b : Bool). l ++ cond (b && not (on marks n)) (w .id n ∷ []) []) (run-none w f marks n (λ a h. e a (omega arith))) (e n (omega arith))
 
 pub marks-none : (w : Automaton) (f : ℕ → Bool) (marks : ℕ) → marks < 2 ^ 64 → ((a : ℕ) → a < w .rules → f a ≡ false) → runMarks w f marks ≡ marks
 unfolding runMarks
@@ -116,19 +104,13 @@ due-ones ending marks h l =
     ones-count 64 (bitAnd ending (2 ^ 64 - 1 - marks)) (lt-of-le-of-lt (and-le-l ending (2 ^ 64 - 1 - marks)) h)
     ∙ count-ext 64 (on (bitAnd ending (2 ^ 64 - 1 - marks))) (λ a. on ending a && not (on marks a)) (λ a m. on-without ending marks a l m)
 
--- one of them is asked for by its digit
-pub due-digit : (ending marks a : ℕ) → marks < 2 ^ 64 → a < 64 → eqb (bitAnd (bitAnd ending (2 ^ 64 - 1 - marks) / 2 ^ a) 1) 1 ≡ (on ending a && not (on marks a))
-unfolding on
-due-digit ending marks a h l =
-    ap (λ (x : ℕ). eqb x 1) (and-mask (bitAnd ending (2 ^ 64 - 1 - marks) / 2 ^ a) 1) ∙ on-without ending marks a h l
-
--- and are as many as the run has ids, where no digit is past the rules
-pub due-count : (w : Automaton) (ending marks : ℕ) → ending ≡ rulesWhere w (on ending) → w .rules ≤ 64
-    → count 64 (λ a. on ending a && not (on marks a)) ≡ length (runIds w (on ending) marks (w .rules))
-due-count w ending marks is h =
+-- and are as many as the run has reports, where no digit is past the rules
+pub due-count : (w : Automaton) (ending marks : ℕ) (give : ℕ → Report) → ending ≡ rulesWhere w (on ending) → w .rules ≤ 64
+    → count 64 (λ a. on ending a && not (on marks a)) ≡ length (runReports (on ending) marks give (w .rules))
+due-count w ending marks give is h =
     count-below (w .rules) 64 (λ a. on ending a && not (on marks a)) h
     (λ a l m. ap (λ (b : Bool). b && not (on marks a)) (ap (λ (x : ℕ). on x a) is ∙ on-places-past (on ending) (w .rules) a l m))
-    ∙ sym (run-count w (on ending) marks (w .rules))
+    ∙ sym (run-count (on ending) marks give (w .rules))
 
 -- as in the word of the rules that pass a test
 pub rules-alone : (w : Automaton) (f : ℕ → Bool) → rulesWhere w f ≡ rulesWhere w (on (rulesWhere w f))
@@ -140,98 +122,185 @@ rules-alone w f =
     twice true b = refl
     twice false b = refl
 
+pub alone : (w : Automaton) (f : ℕ → Bool) {word : ℕ}
+    → word ≡ rulesWhere w f → word ≡ rulesWhere w (on word)
+alone w f e = e ∙ rules-alone w f ∙ ap (λ (x : ℕ). rulesWhere w (on x)) (sym e)
+
 -- none pass a test that fails of each
 pub rules-none : (w : Automaton) (f : ℕ → Bool) → ((a : ℕ) → a < w .rules → f a ≡ false) → 0 ≡ rulesWhere w f
 rules-none w f e =
     word-is 0 (λ a. ltb a (w .rules) && f a) (omega arith) (λ a h. on-zero a ∙ sym (under (w .rules) a (λ b. b && f a) (λ b. false) (e a) refl))
 
+-- ---- the lowest digit of a word, and the word without it
+
+abbrev pub lowest : ℕ → ℕ
+lowest word = trailingZeros 64 word
+
+abbrev pub without : ℕ → ℕ
+without word = bitAnd word (word - 1)
+
+-- what the rules of a word report
+abbrev reportsIn : ℕ → (ℕ → Report) → ℕ → List Report
+reportsIn word = runReports (on word) 0
+
+module _ (word : ℕ) (small : word < 2 ^ 64) (some : ¬ (word ≡ 0)) where
+  lowest-on : (lowest word < 64) × (on word (lowest word) ≡ true)
+  lowest-on = zeros-on 64 word small (omega arith)
+
+  without-is : without word ≡ word / 2 ^ suc (lowest word) * 2 ^ suc (lowest word)
+  without-is = clear-low 64 word small (omega arith)
+
+  without-off : (k : ℕ) → k ≤ lowest word → on (without word) k ≡ false
+  without-off k h =
+      ap (λ (x : ℕ). on x k) without-is
+      ∙ cleared-off (word / 2 ^ suc (lowest word)) (suc (lowest word)) k (omega arith)
+
+  without-same : (k : ℕ) → lowest word < k → on word k ≡ on (without word) k
+  without-same k h =
+      let at : suc (lowest word) + (k - suc (lowest word)) ≡ k = omega arith in
+      ap (on word) (sym at) ∙ sym (cleared-on word (suc (lowest word)) (k - suc (lowest word)))
+      ∙ sym (ap₂ on without-is (sym at))
+
+  pub without-less : without word < word
+  without-less = omega (arith, and-le-r word (word - 1))
+
+  -- its rule reports first
+  lowest-first : (give : ℕ → Report) (n : ℕ) → lowest word < n
+      → reportsIn word give n ≡ give (lowest word) ∷ reportsIn (without word) give n
+  unfolding runReports
+  lowest-first give =
+      le-ind First
+      (ap₂ (λ (l : List Report) (b : Bool). l ++ cond b (give (lowest word) ∷ []) [])
+      (run-none (on word) 0 give (lowest word) (zeros-off 64 word))
+      (ap₂ (λ (x y : Bool). x && not y) (lowest-on .1) (on-zero (lowest word)))
+      ∙ ap (λ (l : List Report). give (lowest word) ∷ l)
+      (sym (run-none (on (without word)) 0 give (suc (lowest word))
+      (λ k l. without-off k (omega arith)))))
+      (λ m l e. ap₂ (λ (r : List Report) (b : Bool). r ++ cond (b && not (on 0 m)) (give m ∷ []) [])
+      e (without-same m l))
+    where
+      First : ℕ → Type 0
+      First m = reportsIn word give m ≡ give (lowest word) ∷ reportsIn (without word) give m
+
 -- ---- the writer's loop
 
--- what holds of the two lists, which were ids₀ and offsets₀, once the rules below a are asked and n reports are written
-pub record Writing (w : Automaton) (ending marks end : ℕ) (ids₀ offsets₀ ids offsets : List ℕ) (n a : ℕ) : Type 0 where
-  pub inside : a ≤ w .rules
-  pub few : n ≤ a
-  pub count : n ≡ length (runIds w (on ending) marks a)
-  pub ids-are : ids ≡ runIds w (on ending) marks a ++ drop n ids₀
-  pub offsets-are : offsets ≡ replicate n end ++ drop n offsets₀
-  pub ids-long : length ids ≡ length ids₀
-  pub offsets-long : length offsets ≡ length offsets₀
+-- What holds of the lists, which were l₀, while the rules of the word `left` are still to report:
+-- the reports before theirs are written from place `from` on, and the next one's place is n.
+pub record Writing (w : Automaton) (ending marks : ℕ) (give : ℕ → Report) (from : ℕ)
+    (l₀ l : Lists) (left n : ℕ) : Type 0 where
+  pub small : left < 2 ^ 64
+  pub ruled : (a : ℕ) → w .rules ≤ a → a < 64 → on left a ≡ false
+  pub done : List Report
+  pub all : done ++ reportsIn left give (w .rules) ≡ runReports (on ending) marks give (w .rules)
+  pub next-is : n ≡ from + length done
+  pub lists-are : l ≡ writtenAt from done l₀
 
--- one more element at the seam
-store : (d x : List ℕ) (n v : ℕ) → length d ≡ n → n < length x → set (d ++ drop n x) n v ≡ (d ++ (v ∷ [])) ++ drop (n + 1) x
-store d x n v e h =
-    ap (λ (l : List ℕ). set (d ++ l) n v) (drop-cons x n 0 h)
-    ∙ set-at d (getD x n 0) (drop (suc n) x) v n e
-    ∙ ap (λ (m : ℕ). d ++ (v ∷ drop m x)) (sym (add-one n))
-    ∙ sym (append-assoc d (v ∷ []) (drop (n + 1) x))
+-- what a turn needs: the lowest rule is one of the table's, and there is a place for its report
+pub record Turn (w : Automaton) (l₀ : Lists) (left n : ℕ) : Type 0 where
+  pub ruled : lowest left < w .rules
+  pub digit : lowest left < 64
+  pub fits : Fits w64 (lowest left)
+  pub some : 1 ≤ left
+  pub room : n < space l₀
+  pub ids-fit : length (l₀ .ids) * 4 < 2 ^ 63 → Fits w64 (n * 4)
+  pub offsets-fit : length (l₀ .offsets) * 8 < 2 ^ 63 → Fits w64 (n * 8)
+  pub next-fits : length (l₀ .ids) * 4 < 2 ^ 63 → Fits w64 (n + 1)
 
-module _ (w : Automaton) (ending marks end : ℕ) (ids₀ offsets₀ : List ℕ) where
-  pub writing-start : Writing w ending marks end ids₀ offsets₀ ids₀ offsets₀ 0 0
-  unfolding runIds
-  writing-start = record {
-    inside = zero-le;
-    few = zero-le;
-    count = refl;
-    ids-are = refl;
-    offsets-are = refl;
-    ids-long = refl;
-    offsets-long = refl;
-  }
+pub writing-start : (w : Automaton) (ending marks : ℕ) (give : ℕ → Report) (from : ℕ) (l₀ : Lists)
+    → ending < 2 ^ 64 → marks < 2 ^ 64 → ending ≡ rulesWhere w (on ending) → w .rules ≤ 64
+    → Writing w ending marks give from l₀ l₀ (bitAnd ending (2 ^ 64 - 1 - marks)) from
+writing-start w ending marks give from l₀ h l is few =
+    record {
+      small = lt-of-le-of-lt (and-le-l ending (2 ^ 64 - 1 - marks)) h;
+      ruled = λ a m k.
+          on-without ending marks a l k
+          ∙ ap (λ (b : Bool). b && not (on marks a))
+          (ap (λ (x : ℕ). on x a) is ∙ on-places-past (on ending) (w .rules) a m k);
+      done = [];
+      all =
+          run-same (on (bitAnd ending (2 ^ 64 - 1 - marks))) (on ending) 0 marks give (w .rules)
+          (λ a m. ap₂ (λ (x y : Bool). x && not y)
+          (on-without ending marks a l (omega arith)) (on-zero a)
+          ∙ and-true (due (on ending) marks a));
+      next-is = sym (add-zero from);
+      lists-are = sym (written-at-none l₀ from);
+    }
 
-  -- one turn: the rule in place a is asked by the digit of those that end and have no mark
-  module _ (ids offsets : List ℕ) (n a : ℕ) (h : Writing w ending marks end ids₀ offsets₀ ids offsets n a) (l : a < w .rules) (few : w .rules ≤ 64)
-      (small : marks < 2 ^ 64) (asked : ℕ) (asks : asked ≡ bitAnd ending (2 ^ 64 - 1 - marks)) where
-    tested : eqb (bitAnd (asked / 2 ^ a) 1) 1 ≡ due w (on ending) marks a
-    tested = ap (λ (x : ℕ). eqb (bitAnd (x / 2 ^ a) 1) 1) asks ∙ due-digit ending marks a small (omega arith)
+module _ {w : Automaton} {ending marks : ℕ} {give : ℕ → Report} {from : ℕ} {l₀ l : Lists}
+    {left n : ℕ} (h : Writing w ending marks give from l₀ l left n)
+    (room : from + length (runReports (on ending) marks give (w .rules)) ≤ space l₀) where
+  parts : length (h .done) + length (reportsIn left give (w .rules))
+      ≡ length (runReports (on ending) marks give (w .rules))
+  parts = sym (length-append (h .done) (reportsIn left give (w .rules))) ∙ ap length (h .all)
 
-    -- the reports before it leave room for one more
-    pub writing-room : (room : ℕ) → bitAnd (asked / 2 ^ a) 1 ≡ 1 → length (runIds w (on ending) marks (w .rules)) ≤ room → n < room
-    writing-room room m r =
-        omega (arith, h .count, run-room w (on ending) marks a (w .rules) room l (sym tested ∙ eq-eqb (bitAnd (asked / 2 ^ a) 1) 1 m) r)
+  pub writing-long : AsLong l l₀
+  writing-long = long-written from (h .done) (h .lists-are) (omega (arith, parts))
 
-    module _ (ids′ offsets′ : List ℕ) (n′ : ℕ) where
-      pub writing-miss : (bitAnd (asked / 2 ^ a) 1 ≡ 1 → ⊥) → ids′ ≡ ids → offsets′ ≡ offsets → n′ ≡ n → Writing w ending marks end ids₀ offsets₀ ids′ offsets′ n′ (a + 1)
-      writing-miss m p q r =
-          let same = run-miss w (on ending) marks a (sym tested ∙ ne-eqb (bitAnd (asked / 2 ^ a) 1) 1 m) in
-          record {
-            inside = omega arith;
-            few = omega (arith, h .few);
-            count = r ∙ h .count ∙ sym (ap length same);
-            ids-are = p ∙ h .ids-are ∙ ap₂ (λ (x : List ℕ) (y : ℕ). x ++ drop y ids₀) (sym same) (sym r);
-            offsets-are = q ∙ h .offsets-are ∙ ap (λ (y : ℕ). replicate y end ++ drop y offsets₀) (sym r);
-            ids-long = ap length p ∙ h .ids-long;
-            offsets-long = ap length q ∙ h .offsets-long;
-          }
+  module _ (some : ¬ (left ≡ 0)) where
+    low : (lowest left < 64) × (on left (lowest left) ≡ true)
+    low = lowest-on left (h .small) some
 
-      pub writing-hit : bitAnd (asked / 2 ^ a) 1 ≡ 1 → n < length ids₀ → n < length offsets₀ → ids′ ≡ set ids n (w .id a) → offsets′ ≡ set offsets n end → n′ ≡ n + 1
-          → Writing w ending marks end ids₀ offsets₀ ids′ offsets′ n′ (a + 1)
-      writing-hit m ri ro p q r =
-          let more = run-hit w (on ending) marks a (sym tested ∙ eq-eqb (bitAnd (asked / 2 ^ a) 1) 1 m) in
-          record {
-            inside = omega arith;
-            few = omega (arith, r, h .few);
-            count = r ∙ ap (λ (x : ℕ). x + 1) (h .count) ∙ sym (ap length more ∙ length-append (runIds w (on ending) marks a) (w .id a ∷ []));
-            ids-are =
-                p ∙ ap (λ (x : List ℕ). set x n (w .id a)) (h .ids-are) ∙ store (runIds w (on ending) marks a) ids₀ n (w .id a) (sym (h .count)) ri
-                ∙ ap₂ (λ (x : List ℕ) (y : ℕ). x ++ drop y ids₀) (sym more) (sym r);
-            offsets-are =
-                q ∙ ap (λ (x : List ℕ). set x n end) (h .offsets-are) ∙ fill-more n end offsets₀ ro
-                ∙ ap (λ (y : ℕ). replicate y end ++ drop y offsets₀) (sym r);
-            ids-long = ap length p ∙ length-set ids n (w .id a) ∙ h .ids-long;
-            offsets-long = ap length q ∙ length-set offsets n end ∙ h .offsets-long;
-          }
+    ruled : lowest left < w .rules
+    ruled = go (decLt (lowest left) (w .rules))
+      where
+        go : Dec (lowest left < w .rules) → lowest left < w .rules
+        go (yes m) = m
+        go (no m) =
+            absurd (true≢false (sym (low .1) ∙ h .ruled (lowest left) (omega arith) (low .0)))
 
-  -- once every rule is asked
-  pub writing-done : (ids offsets : List ℕ) (n a : ℕ) → Writing w ending marks end ids₀ offsets₀ ids offsets n a → w .rules ≤ a → (marks′ : ℕ) → marks′ ≡ runMarks w (on ending) marks
-      → Wrote w (on ending) marks end ids₀ offsets₀ n marks′ ids offsets
-  writing-done ids offsets n a h l marks′ m =
-      let all : a ≡ w .rules = omega (arith, h .inside) in
-      let count : n ≡ length (runIds w (on ending) marks (w .rules)) = h .count ∙ ap (λ (x : ℕ). length (runIds w (on ending) marks x)) all in
+    first : reportsIn left give (w .rules)
+        ≡ give (lowest left) ∷ reportsIn (without left) give (w .rules)
+    first = lowest-first left (h .small) some give (w .rules) ruled
+
+    pub writing-turn : Turn w l₀ left n
+    writing-turn =
+        let i : ℕ = length (l₀ .ids) in
+        let o : ℕ = length (l₀ .offsets) in
+        let here : n < space l₀ = omega (arith, parts, h .next-is, ap length first) in
+        record {
+          ruled = ruled;
+          digit = low .0;
+          fits = record { fits = omega (arith, low .0) };
+          some = omega arith;
+          room = here;
+          ids-fit = bounds.ids-fit n i o (le-of-lt here);
+          offsets-fit = bounds.offsets-fit n i o (le-of-lt here);
+          next-fits = bounds.next-fits n i o here;
+        }
+
+    -- its report is stored, and its digit cleared
+    pub writing-again : {l′ : Lists}
+        → l′ ≡ lists (set (l .ids) n (give (lowest left) .id))
+        (set (l .offsets) n (give (lowest left) .end))
+        → Writing w ending marks give from l₀ l′ (without left) (n + 1)
+    writing-again e =
+        let r : Report = give (lowest left) in
+        record {
+          small = omega (arith, without-less left (h .small) some, h .small);
+          ruled = λ a m k.
+              sym (without-same left (h .small) some a (omega (arith, ruled))) ∙ h .ruled a m k;
+          done = h .done ++ r ∷ [];
+          all =
+              append-assoc (h .done) (r ∷ []) (reportsIn (without left) give (w .rules))
+              ∙ ap (λ (x : List Report). h .done ++ x) (sym first) ∙ h .all;
+          next-is = omega (arith, h .next-is, length-append (h .done) (r ∷ []));
+          lists-are =
+              e
+              ∙ ap (λ (x : Lists). lists (set (x .ids) n (r .id)) (set (x .offsets) n (r .end)))
+              (h .lists-are)
+              ∙ written-store l₀ from n (h .done) r (h .next-is) (writing-turn .room);
+        }
+
+  -- once nothing is left
+  pub writing-done : left ≡ 0 → {marks′ : ℕ} → marks′ ≡ runMarks w (on ending) marks
+      → Wrote w (on ending) marks give from l₀ n marks′ l
+  writing-done e m =
+      let none : reportsIn left give (w .rules) ≡ [] =
+      run-none (on left) 0 give (w .rules) (λ a k. ap (λ (x : ℕ). on x a) e ∙ on-zero a) in
+      let whole : h .done ≡ runReports (on ending) marks give (w .rules) =
+      sym (append-nil (h .done)) ∙ ap (λ (x : List Report). h .done ++ x) (sym none) ∙ h .all in
       record {
-        reports-are = count;
+        next-is = h .next-is ∙ ap (λ (x : List Report). from + length x) whole;
         marks-are = m;
-        ids-are = h .ids-are ∙ ap₂ (λ (x y : ℕ). runIds w (on ending) marks x ++ drop y ids₀) all count;
-        offsets-are =
-            h .offsets-are
-            ∙ ap₂ (λ (x y : ℕ). replicate x end ++ drop y offsets₀) count (count ∙ sym (length-replicate (length (runIds w (on ending) marks (w .rules))) end));
+        lists-are = h .lists-are ∙ ap (λ (x : List Report). writtenAt from x l₀) whole;
       }

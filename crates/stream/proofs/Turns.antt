@@ -1,352 +1,273 @@
--- The scanning loop. `Running` says what holds once `at` bytes are taken: live set, marks and lists are those of the definitions. A byte that is taken and bytes passed
--- over keep it; where the loop leaves, `at` is what `fits` says, and what is left of the allowance is what these bytes do not cost (`Paid`).
-use mathlib.Core.Path.{_≡_, refl, sym, ap, ap₂, _∙_, subst}
-use mathlib.Core.Bool.{Bool, true, false, cond, not, _&&_}
-use mathlib.Core.Logic.{inl}
-use mathlib.Core.List.{List, [], _++_, append-nil}
+-- The scanning loop. `Running` says what holds once some bytes are taken: live set, marks, units and lists are those of the definitions. Bytes passed over and a byte that
+-- is taken keep it, and where the loop stops one more byte would not fit.
+use mathlib.Core.Path.{_≡_, refl, sym, ap, _∙_, subst}
+use mathlib.Core.Bool.{Bool, true, false, true≢false, cond}
+use mathlib.Core.Logic.{_⊎_, inl, inr}
+use mathlib.Core.List.{List, _++_, append-nil}
 use Prim.Native.Nat.{ℕ, zero, suc, _+_, _-_, _^_, _<_, _≤_, min, zero-le}
 use native.Mathlib.Nat.{add-zero}
+use native.Mathlib.Numerals.{add-one}
 use native.Mathlib.Omega.{arith}
 use lib.Dec.{ltb}
-use lib.ListN.{length, getD, take, drop, length-take, length-drop, length-append}
-use borrow.Rule.Slice.PartMut.{putMid}
-use borrow.Author.Tests.{ltb-true, ltb-false}
-use Rattle.sets.specs.Set.{on, emptySet, sizeOf}
+use lib.ListN.{length, getD, length-append}
+use borrow.Author.Tests.{lt-ltb, le-ltb}
+use Rattle.sets.specs.Set.{emptySet, isEmpty, sizeOf}
+use Rattle.kinds.specs.declared.Side.{Side}
 use Rattle.kinds.specs.Side.{sideOf}
 use Rattle.table.specs.Gaps.{between, unsettled}
 use Rattle.table.specs.Automaton.{Automaton}
-use Rattle.steps.specs.Step.{stepped, ends, endsNewly, rulesWhere, lateIn}
-use Rattle.table.proofs.Members.{on-places}
+use Rattle.steps.specs.Step.{stepped, ends, endsNewly, lateIn}
 use Rattle.stream.specs.declared.Stream.{Stream}
-use Rattle.stream.specs.Byte.{nextLive, twoIds, twoEnds, twoMarks, lateTest, ownTest, byteIds, byteEnds, byteState, stateAfter, idsOf, endsOf, costOf}
-use Rattle.stream.specs.Calls.{space, written}
-use Rattle.stream.specs.Invariants.{stateOf, sideAt, WroteTwo, Delivered, Skipped, Ran}
-use Rattle.stream.proofs.TwoRuns.{two-ends-count, two-ids-ext, two-ends-ext, two-marks-ext, two-ids-none, two-ends-none, two-marks-none, two-marks-small, grow}
-use Rattle.stream.proofs.Blocks.{state-more, ids-more, ends-more, taken-after, last-after, ends-count, cost-more, Over, fits-le, fits-is}
-use Rattle.stream.proofs.Counting.{counting, byte-live, byte-marks, ids-alike, ends-alike}
-use Rattle.stream.proofs.Quiet.{ends-empty, late-empty, size-empty, skipped-to}
+use Rattle.stream.specs.declared.scan.Turn.{Turn}
+use Rattle.stream.specs.Byte.{Report, after, reportsBy, costBy, given, nextLive, lateTest, ownTest, byteReports, byteState, plain, stateAfter, reportsOf, costOf}
+use Rattle.stream.specs.Calls.{Lists, space}
+use Rattle.stream.specs.Invariants.{stateOf, sideAt, hereAt, passedSide, skipTo, stopAt, Skipped, Passed, Stops, Takes, Offered, Running, Over, Ran}
+use Rattle.stream.proofs.Lists.{filled-start, filled-space, filled-more, filled-same}
+use Rattle.stream.proofs.TwoRuns.{two-none, two-marks-none, two-marks-small}
+use Rattle.stream.proofs.Machines.{after-more, reports-more, cost-more}
+use Rattle.stream.proofs.Blocks.{taken-after, last-after}
+use Rattle.stream.proofs.Counting.{counting, byte-live, byte-marks, reports-alike}
+use Rattle.stream.proofs.Quiet.{ends-empty, late-empty, size-empty}
 
--- ---- what holds in the loop
+less-one : (n : ℕ) → n ≡ n + 1 - 1
+less-one n = omega arith
 
-pub record Running (w : Automaton) (s : Stream) (block ids₀ offsets₀ live : List ℕ) (reported : ℕ) (ids offsets : List ℕ) (count at : ℕ) : Type 0 where
-  pub inside : at ≤ length block
-  pub live-is : live ≡ stateAfter w s block at .live
-  pub marks-are : reported ≡ stateAfter w s block at .reported
-  pub small : reported < 2 ^ 64
-  pub count-is : count ≡ length (idsOf w s block at)
-  pub room : count ≤ space ids₀ offsets₀
-  pub ids-are : ids ≡ idsOf w s block at ++ drop count ids₀
-  pub offsets-are : offsets ≡ endsOf w s block at ++ drop count offsets₀
-  pub ids-long : length ids ≡ length ids₀
-  pub offsets-long : length offsets ≡ length offsets₀
+-- what stands before the byte after the next
+side-next : (before : Side) (block : List ℕ) (at : ℕ) → sideOf (getD block at 0) ≡ sideAt before block (at + 1)
+unfolding sideAt
+side-next before block at = ap (sideAt before block) (sym (add-one at))
 
--- the live set before the last byte taken
-abbrev pub Before : (w : Automaton) (s : Stream) (block before : List ℕ) (at : ℕ) → Type 0
-Before w s block before at = 0 < at → before ≡ stateAfter w s block (at - 1) .live
+-- where the loop begins
+abbrev pub startTurn : Stream → (allowance : ℕ) → Turn
+startTurn s allowance = record { live = s .live; before = s .live; reported = s .reported; side = s .last; at = 0; count = 0; left = allowance; stopped = false }
 
--- the units that are left once `at` bytes are taken
-abbrev pub Paid : (w : Automaton) (s : Stream) (allowance : ℕ) (block : List ℕ) (at left : ℕ) → Type 0
-Paid w s allowance block at left = left + costOf w s block at ≡ allowance
-
-module _ (w : Automaton) (s : Stream) (block ids₀ offsets₀ : List ℕ) where
-  pub running-start : s .reported < 2 ^ 64 → Running w s block ids₀ offsets₀ (s .live) (s .reported) ids₀ offsets₀ 0 0
-  unfolding stateAfter idsOf endsOf
+module _ (w : Automaton) (s : Stream) (allowance : ℕ) (block : List ℕ) (l₀ : Lists) where
+  pub running-start : s .reported < 2 ^ 64 → Running w s allowance block l₀ (startTurn s allowance) l₀
+  unfolding after reportsBy costBy sideAt
   running-start h = record {
     inside = zero-le;
     live-is = refl;
+    before-is = λ l. absurd (omega arith);
     marks-are = refl;
+    side-is = refl;
     small = h;
-    count-is = refl;
-    room = zero-le;
-    ids-are = refl;
-    offsets-are = refl;
-    ids-long = refl;
-    offsets-long = refl;
+    paid = add-zero allowance;
+    filled = filled-start l₀;
   }
 
-  -- the reports written lie inside both lists
-  pub ids-hold : (live : List ℕ) (reported : ℕ) (ids offsets : List ℕ) (count at : ℕ) → Running w s block ids₀ offsets₀ live reported ids offsets count at → count ≤ length ids
-  ids-hold live reported ids offsets count at h = omega (arith, h .room, h .ids-long)
-
-  pub offsets-hold : (live : List ℕ) (reported : ℕ) (ids offsets : List ℕ) (count at : ℕ) → Running w s block ids₀ offsets₀ live reported ids offsets count at → count ≤ length offsets
-  offsets-hold live reported ids offsets count at h = omega (arith, h .room, h .offsets-long)
-
-  -- where the loop leaves: at the block's end, or before a byte that cannot be paid for or whose reports do not fit
-  pub running-done : (allowance : ℕ) (live before : List ℕ) (reported : ℕ) (ids offsets : List ℕ) (count at left : ℕ) → Running w s block ids₀ offsets₀ live reported ids offsets count at
-      → Before w s block before at → Paid w s allowance block at left → (at < length block → Over w s block allowance (space ids₀ offsets₀) (at + 1))
-      → Ran w s allowance block ids₀ offsets₀ live before reported at count left ids offsets
-  running-done allowance live before reported ids offsets count at left h b paid stopped =
-      record {
-        taken-is = sym (fits-is w s block allowance (space ids₀ offsets₀) at (length block) (h .inside) (omega (arith, h .count-is, h .room)) (omega (arith, paid)) stopped);
-        left-is = paid;
-        live-is = h .live-is;
-        before-is = b;
-        marks-are = h .marks-are;
-        reports-are = h .count-is;
-        ids-are = h .ids-are ∙ ap (λ (n : ℕ). idsOf w s block at ++ drop n ids₀) (h .count-is);
-        offsets-are = h .offsets-are ∙ ap (λ (n : ℕ). endsOf w s block at ++ drop n offsets₀) (h .count-is ∙ sym (ends-count w s block at));
-      }
-
-  module _ (live : List ℕ) (reported : ℕ) (ids offsets : List ℕ) (count at : ℕ) (h : Running w s block ids₀ offsets₀ live reported ids offsets count at) where
+  module _ (z : Turn) (l : Lists) (h : Running w s allowance block l₀ z l) where
     -- the state before the next byte, as far as it counts, and the byte
     abbrev here : Stream
-    here = stateOf live reported (sideAt (s .last) block at) (s .taken + at)
+    here = hereAt (s .taken) z
 
     abbrev x : ℕ
-    x = getD block at 0
+    x = getD block (z .at) 0
 
-    here-is : counting (stateAfter w s block at) ≡ counting here
-    here-is = λ i. stateOf (sym (h .live-is) i) (sym (h .marks-are) i) (last-after w s block at i) (taken-after w s block at i)
+    here-is : counting (stateAfter w s block (z .at)) ≡ counting here
+    here-is = λ i. stateOf (sym (h .live-is) i) (sym (h .marks-are) i) ((last-after w s block (z .at) ∙ sym (h .side-is)) i) (taken-after w s block (z .at) i)
 
     -- what the definitions say of the next byte, in terms of the locals
-    live-more : nextLive w here x ≡ stateAfter w s block (at + 1) .live
+    live-more : nextLive w here x ≡ stateAfter w s block (z .at + 1) .live
     live-more =
-        ap (λ (y : Stream). nextLive w y x) (sym here-is) ∙ sym (byte-live w (stateAfter w s block at) x) ∙ sym (ap (λ (y : Stream). y .live) (state-more w s block at))
+        ap (λ (y : Stream). nextLive w y x) (sym here-is) ∙ sym (byte-live w (stateAfter w s block (z .at)) x)
+        ∙ sym (ap (λ (y : Stream). y .live) (after-more (plain w) s block (z .at)))
 
-    marks-more : byteState w here x .reported ≡ stateAfter w s block (at + 1) .reported
+    before-more : 0 < z .at + 1 → z .live ≡ stateAfter w s block (z .at + 1 - 1) .live
+    before-more p = let last : z .at ≡ z .at + 1 - 1 = omega arith in h .live-is ∙ ap (λ (n : ℕ). stateAfter w s block n .live) last
+
+    marks-more : byteState w here x .reported ≡ stateAfter w s block (z .at + 1) .reported
     marks-more =
-        ap (λ (y : Stream). byteState w y x .reported) (sym here-is) ∙ sym (byte-marks w (stateAfter w s block at) x)
-        ∙ sym (ap (λ (y : Stream). y .reported) (state-more w s block at))
+        ap (λ (y : Stream). byteState w y x .reported) (sym here-is) ∙ sym (byte-marks w (stateAfter w s block (z .at)) x)
+        ∙ sym (ap (λ (y : Stream). y .reported) (after-more (plain w) s block (z .at)))
 
-    ids-next : idsOf w s block (at + 1) ≡ idsOf w s block at ++ byteIds w here x
-    ids-next = ids-more w s block at ∙ ap (λ (l : List ℕ). idsOf w s block at ++ l) (ids-alike w (stateAfter w s block at) here here-is x)
+    reports-next : reportsOf w s block (z .at + 1) ≡ reportsOf w s block (z .at) ++ byteReports w here x
+    reports-next =
+        reports-more (plain w) s block (z .at)
+        ∙ ap (λ (r : List Report). reportsOf w s block (z .at) ++ r) (reports-alike w (stateAfter w s block (z .at)) here here-is x)
 
-    ends-next : endsOf w s block (at + 1) ≡ endsOf w s block at ++ byteEnds w here x
-    ends-next = ends-more w s block at ∙ ap (λ (l : List ℕ). endsOf w s block at ++ l) (ends-alike w (stateAfter w s block at) here here-is x)
+    cost-next : costOf w s block (z .at + 1) ≡ costOf w s block (z .at) + suc (sizeOf (z .live))
+    cost-next = cost-more (plain w) s block (z .at) ∙ ap (λ (y : List ℕ). costOf w s block (z .at) + suc (sizeOf y)) (sym (h .live-is))
 
-    -- the next live set, and the rules of both runs
-    module _ (next : List ℕ) (step : next ≡ nextLive w here x) (late own : ℕ) (late-is : late ≡ rulesWhere w (lateTest w here x)) (own-is : own ≡ rulesWhere w (ends w unsettled next))
-        (few : w .rules ≤ 64) where
-      late-on : (a : ℕ) → a < w .rules → on late a ≡ lateTest w here x a
-      late-on a l = ap (λ (y : ℕ). on y a) late-is ∙ on-places (lateTest w here x) (w .rules) a l few
+    -- a byte that is taken
+    pub running-take : (r : Turn) (l′ : Lists) → Takes w here block z l r l′ → Running w s allowance block l₀ r l′
+    unfolding byteState
+    running-take r l′ t =
+        subst (λ (y : Turn). Running w s allowance block l₀ y l′) (sym (t .is))
+        (record {
+          inside = omega (arith, t .inside);
+          live-is = live-more;
+          before-is = before-more;
+          marks-are = marks-more;
+          side-is = side-next (s .last) block (z .at);
+          small = two-marks-small w (lateTest w here x) (ownTest w here x) (z .reported);
+          paid = omega (arith, h .paid, t .paid, cost-next);
+          filled = filled-same (sym reports-next) (filled-more (h .filled) (byteReports w here x) l′ (t .lists-are) (t .room));
+        })
 
-      own-on : (a : ℕ) → a < w .rules → on own a ≡ ownTest w here x a
-      own-on a l =
-          ap (λ (y : ℕ). on y a) own-is ∙ on-places (ends w unsettled next) (w .rules) a l few ∙ ap (λ (y : List ℕ). ends w unsettled y a) step
+    -- a turn that stops
+    module _ (r : Turn) (l′ : Lists) (t : Stops w here block z l r l′) where
+      pub running-stop : Running w s allowance block l₀ r l′
+      running-stop =
+          subst (λ (y : Turn). Running w s allowance block l₀ y l′) (sym (t .is)) (subst (λ (y : Lists). Running w s allowance block l₀ (stopAt z) y) (sym (t .lists-are))
+          (record {
+            inside = h .inside;
+            live-is = h .live-is;
+            before-is = h .before-is;
+            marks-are = h .marks-are;
+            side-is = h .side-is;
+            small = h .small;
+            paid = h .paid;
+            filled = h .filled;
+          }))
 
-      abbrev new : List ℕ
-      new = twoIds w (on late) (on own) reported
+      pub stop-over : r .at < length block → Over (plain w) s allowance block (space l₀) (r .at + 1)
+      stop-over b =
+          let same : z .at ≡ r .at = ap (λ (y : Turn). y .at) (sym (t .is)) in
+          subst (λ (n : ℕ). Over (plain w) s allowance block (space l₀) (n + 1)) same (go (t .over (omega (arith, same))))
+        where
+          go : (space l < z .count + length (byteReports w here x)) ⊎ (z .left < suc (sizeOf (z .live))) → Over (plain w) s allowance block (space l₀) (z .at + 1)
+          go (inl g) =
+              inl (omega (arith, filled-space (h .filled), h .filled .count-is, ap length reports-next, length-append (reportsOf w s block (z .at)) (byteReports w here x)))
+          go (inr g) = inr (omega (arith, h .paid, cost-next))
 
-      abbrev new-ends : List ℕ
-      new-ends = twoEnds w (on late) (on own) reported (s .taken + at) (suc (s .taken + at))
+    -- a byte that is passed over: nothing is live, and it leaves it so
+    abbrev passOne : Turn
+    passOne = record { live = z .live; before = z .live; reported = z .reported; side = sideOf x; at = z .at + 1; count = z .count; left = z .left - 1; stopped = z .stopped }
 
-      new-is : new ≡ byteIds w here x
-      unfolding byteIds
-      new-is = two-ids-ext w (on late) (lateTest w here x) (on own) (ownTest w here x) reported late-on own-on
-
-      new-ends-are : new-ends ≡ byteEnds w here x
-      unfolding byteEnds
-      new-ends-are = two-ends-ext w (on late) (lateTest w here x) (on own) (ownTest w here x) reported late-on own-on (s .taken + at) (suc (s .taken + at))
-
-      new-marks-are : twoMarks w (on late) (on own) reported ≡ byteState w here x .reported
-      unfolding byteState
-      new-marks-are = two-marks-ext w (on late) (lateTest w here x) (on own) (ownTest w here x) reported late-on own-on
-
-      -- what the reports up to the next byte come to
-      count-more : count + length new ≡ length (idsOf w s block (at + 1))
-      count-more =
-          ap₂ (λ (m n : ℕ). m + n) (h .count-is) (ap length new-is) ∙ sym (ap length ids-next ∙ length-append (idsOf w s block at) (byteIds w here x))
-
-      -- what was written into the free part of both lists
-      module _ (full : Bool) (reports marks : ℕ) (ilast olast : List ℕ)
-          (d : Delivered w (on late) (on own) reported (s .taken + at) (suc (s .taken + at)) (take (length ids - count) (drop count ids)) (take (length offsets - count) (drop count offsets)) full reports marks ilast olast) where
-        free : ℕ
-        free = space (take (length ids - count) (drop count ids)) (take (length offsets - count) (drop count offsets))
-
-        free-is : count + free ≡ space ids₀ offsets₀
-        unfolding free
-        free-is =
-            omega (
-              arith,
-              h .room,
-              h .ids-long,
-              h .offsets-long,
-              length-take (length ids - count) (drop count ids),
-              length-drop count ids,
-              length-take (length offsets - count) (drop count offsets),
-              length-drop count offsets,
-            )
-
-        wrote-if : (b : Bool) → full ≡ b
-            → WroteTwo w (λ a. not b && on late a) (λ a. not b && on own a) reported (s .taken + at) (suc (s .taken + at)) (take (length ids - count) (drop count ids)) (take (length offsets - count) (drop count offsets)) reports marks ilast olast
-        wrote-if b e =
-            subst (λ (y : Bool). WroteTwo w (λ a. not y && on late a) (λ a. not y && on own a) reported (s .taken + at) (suc (s .taken + at)) (take (length ids - count) (drop count ids)) (take (length offsets - count) (drop count offsets)) reports marks ilast olast)
-            e (d .wrote)
-
-        -- a byte whose reports fit is taken
-        pub running-room : full ≡ false → count + reports ≤ space ids₀ offsets₀
-        unfolding free
-        running-room fits = omega (arith, ltb-false free (length new) (sym (d .full-if) ∙ fits), wrote-if false fits .reports-are, free-is)
-
-        pub running-run : full ≡ false → at < length block
-            → length (putMid count (length ids - count) ids ilast) ≡ length ids → length (putMid count (length offsets - count) offsets olast) ≡ length offsets
-            → Running w s block ids₀ offsets₀ next marks (putMid count (length ids - count) ids ilast) (putMid count (length offsets - count) offsets olast) (count + reports) (at + 1)
-        running-run fits b li lo =
-            let wrote = wrote-if false fits in
-            let n : length new ≡ reports = sym (wrote .reports-are) in
-            record {
-              inside = omega arith;
-              live-is = step ∙ live-more;
-              marks-are = wrote .marks-are ∙ new-marks-are ∙ marks-more;
-              small = subst (λ (m : ℕ). m < 2 ^ 64) (sym (wrote .marks-are)) (two-marks-small w (on late) (on own) reported);
-              count-is = ap (λ (m : ℕ). count + m) (wrote .reports-are) ∙ count-more;
-              room = running-room fits;
-              ids-are =
-                  grow (idsOf w s block at) new ids ids₀ ilast count (sym (h .count-is)) (omega (arith, h .ids-long, h .room)) (h .ids-are) (wrote .ids-are)
-                  ∙ ap₂ (λ (l : List ℕ) (m : ℕ). l ++ drop (count + m) ids₀) (ap (λ (l : List ℕ). idsOf w s block at ++ l) new-is ∙ sym ids-next) n;
-              offsets-are =
-                  grow (endsOf w s block at) new-ends offsets offsets₀ olast count (ends-count w s block at ∙ sym (h .count-is))
-                  (omega (arith, h .offsets-long, h .room)) (h .offsets-are) (wrote .offsets-are)
-                  ∙ ap₂ (λ (l : List ℕ) (m : ℕ). l ++ drop (count + m) offsets₀)
-                  (ap (λ (l : List ℕ). endsOf w s block at ++ l) new-ends-are ∙ sym ends-next) (two-ends-count w (on late) (on own) reported (s .taken + at) (suc (s .taken + at)) ∙ n);
-              ids-long = li ∙ h .ids-long;
-              offsets-long = lo ∙ h .offsets-long;
-            }
-
-        -- before a byte whose reports do not fit the loop leaves
-        running-full : full ≡ true → space ids₀ offsets₀ < length (idsOf w s block (at + 1))
-        unfolding free
-        running-full e = omega (arith, ltb-true free (length new) (sym (d .full-if) ∙ e), count-more, free-is)
-
-        -- and both lists are as they were
-        running-kept : full ≡ true → length (putMid count (length ids - count) ids ilast) ≡ length ids → length (putMid count (length offsets - count) offsets olast) ≡ length offsets
-            → Running w s block ids₀ offsets₀ live reported (putMid count (length ids - count) ids ilast) (putMid count (length offsets - count) offsets olast) count at
-        running-kept e li lo =
-            let wrote = wrote-if true e in
-            record {
-              inside = h .inside;
-              live-is = h .live-is;
-              marks-are = h .marks-are;
-              small = h .small;
-              count-is = h .count-is;
-              room = h .room;
-              ids-are =
-                  grow (idsOf w s block at) [] ids ids₀ ilast count (sym (h .count-is)) (omega (arith, h .ids-long, h .room)) (h .ids-are)
-                  (wrote .ids-are ∙ ap (λ (l : List ℕ). written l (take (length ids - count) (drop count ids))) (two-ids-none w (λ a. false) (λ a. false) reported (λ a l. refl) (λ a l. refl)))
-                  ∙ ap₂ (λ (l : List ℕ) (m : ℕ). l ++ drop m ids₀) (append-nil (idsOf w s block at)) (add-zero count);
-              offsets-are =
-                  grow (endsOf w s block at) [] offsets offsets₀ olast count (ends-count w s block at ∙ sym (h .count-is))
-                  (omega (arith, h .offsets-long, h .room)) (h .offsets-are)
-                  (wrote .offsets-are ∙ ap (λ (l : List ℕ). written l (take (length offsets - count) (drop count offsets))) (two-ends-none w (λ a. false) (λ a. false) reported (λ a l. refl) (λ a l. refl) (s .taken + at) (suc (s .taken + at))))
-                  ∙ ap₂ (λ (l : List ℕ) (m : ℕ). l ++ drop m offsets₀) (append-nil (endsOf w s block at)) (add-zero count);
-              ids-long = li ∙ h .ids-long;
-              offsets-long = lo ∙ h .offsets-long;
-            }
-
-        pub running-stop : (allowance left : ℕ) (before : List ℕ) → Before w s block before at → Paid w s allowance block at left → full ≡ true → length (putMid count (length ids - count) ids ilast) ≡ length ids → length (putMid count (length offsets - count) offsets olast) ≡ length offsets
-            → Ran w s allowance block ids₀ offsets₀ live before reported at count left (putMid count (length ids - count) ids ilast) (putMid count (length offsets - count) offsets olast)
-        running-stop allowance left before b paid e li lo =
-            running-done allowance live before reported (putMid count (length ids - count) ids ilast) (putMid count (length offsets - count) offsets olast) count at left (running-kept e li lo) b paid
-            (λ g. inl (running-full e))
-
-    -- a byte with which no rule ends
-    running-silent : at < length block → ((a : ℕ) → a < w .rules → lateTest w here x a ≡ false) → ((a : ℕ) → a < w .rules → ownTest w here x a ≡ false)
-        → Running w s block ids₀ offsets₀ (nextLive w here x) reported ids offsets count (at + 1)
-    unfolding byteIds byteEnds byteState
-    running-silent b one two =
-        let ids-same : idsOf w s block (at + 1) ≡ idsOf w s block at =
-        ids-next ∙ ap (λ (l : List ℕ). idsOf w s block at ++ l) (two-ids-none w (lateTest w here x) (ownTest w here x) reported one two) ∙ append-nil (idsOf w s block at) in
-        let ends-same : endsOf w s block (at + 1) ≡ endsOf w s block at =
-        ends-next ∙ ap (λ (l : List ℕ). endsOf w s block at ++ l) (two-ends-none w (lateTest w here x) (ownTest w here x) reported one two (s .taken + at) (suc (s .taken + at)))
-        ∙ append-nil (endsOf w s block at) in
+    running-pass : z .at < length block → 0 < z .left → z .live ≡ emptySet → nextLive w here x ≡ emptySet → Running w s allowance block l₀ passOne l
+    unfolding byteReports byteState
+    running-pass b p empty still =
+        let one : (a : ℕ) → a < w .rules → lateTest w here x a ≡ false =
+        λ a f. ap (λ (y : List ℕ). endsNewly w (between (here .last) (sideOf x)) (lateIn w y) unsettled y a) empty ∙ late-empty w (between (here .last) (sideOf x)) unsettled a in
+        let two : (a : ℕ) → a < w .rules → ownTest w here x a ≡ false = λ a f. ap (λ (y : List ℕ). ends w unsettled y a) still ∙ ends-empty w unsettled a in
+        let same : reportsOf w s block (z .at + 1) ≡ reportsOf w s block (z .at) =
+        reports-next
+        ∙ ap (λ (r : List Report). reportsOf w s block (z .at) ++ r)
+        (two-none w (lateTest w here x) (ownTest w here x) (z .reported) one two (given w (s .taken + z .at)) (given w (suc (s .taken + z .at))))
+        ∙ append-nil (reportsOf w s block (z .at)) in
+        let none : sizeOf (z .live) ≡ 0 = ap sizeOf empty ∙ size-empty in
         record {
           inside = omega arith;
-          live-is = live-more;
-          marks-are = sym (two-marks-none w (lateTest w here x) (ownTest w here x) reported one two (h .small)) ∙ marks-more;
+          live-is = empty ∙ sym still ∙ live-more;
+          before-is = before-more;
+          marks-are = sym (two-marks-none w (lateTest w here x) (ownTest w here x) (z .reported) one two (h .small)) ∙ marks-more;
+          side-is = side-next (s .last) block (z .at);
           small = h .small;
-          count-is = h .count-is ∙ sym (ap length ids-same);
-          room = h .room;
-          ids-are = h .ids-are ∙ ap (λ (l : List ℕ). l ++ drop count ids₀) (sym ids-same);
-          offsets-are = h .offsets-are ∙ ap (λ (l : List ℕ). l ++ drop count offsets₀) (sym ends-same);
-          ids-long = h .ids-long;
-          offsets-long = h .offsets-long;
+          paid = omega (arith, h .paid, cost-next, none);
+          filled = filled-same (sym same) (h .filled);
         }
 
-  module _ (live : List ℕ) (reported : ℕ) (ids offsets : List ℕ) (count : ℕ) where
-    -- bytes passed over
-    pub running-skip : (at end to : ℕ) → end ≤ length block → Running w s block ids₀ offsets₀ live reported ids offsets count at → Skipped w live block (s .taken) at end to
-        → Running w s block ids₀ offsets₀ live reported ids offsets count to
-    running-skip at end to short h q =
-        let whole : at + (to - at) ≡ to = omega (arith, q .rises) in
-        subst (λ (n : ℕ). Running w s block ids₀ offsets₀ live reported ids offsets count n) whole (over (to - at) (omega (arith, q .rises)))
-      where
-        one : (n : ℕ) → at ≤ n → n < to → Running w s block ids₀ offsets₀ live reported ids offsets count n → Running w s block ids₀ offsets₀ live reported ids offsets count (n + 1)
-        one n l m r =
-            let empty : live ≡ emptySet = q .empty (omega arith) in
-            let side = sideAt (s .last) block n in
-            let byte = getD block n 0 in
-            let same : stepped w false side (sideOf byte) (w .positions) live (s .taken + n) byte ≡ live =
-            ap (λ (y : List ℕ). stepped w false side (sideOf byte) (w .positions) y (s .taken + n) byte) empty ∙ q .still n l m side ∙ sym empty in
-            subst (λ (y : List ℕ). Running w s block ids₀ offsets₀ y reported ids offsets count (n + 1)) same
-            (running-silent live reported ids offsets count n r (omega (arith, q .inside))
-            (λ a f. ap (λ (y : List ℕ). endsNewly w (between side (sideOf byte)) (lateIn w y) unsettled y a) empty ∙ late-empty w (between side (sideOf byte)) unsettled a)
-            (λ a f. ap (λ (y : List ℕ). ends w unsettled y a) (same ∙ empty) ∙ ends-empty w unsettled a))
+  -- bytes passed over
+  module _ (z : Turn) (l : Lists) (h : Running w s allowance block l₀ z l) (to : ℕ)
+      (q : Skipped w (z .live) block (s .taken) (z .at) (min (length block) (z .at + z .left)) to) where
+    skip-one : (n : ℕ) → z .at ≤ n → n < to → Running w s allowance block l₀ (skipTo block z n) l → Running w s allowance block l₀ (skipTo block z (n + 1)) l
+    skip-one n a b r =
+        let byte = getD block n 0 in
+        let side = passedSide (z .at) n (z .side) block in
+        let empty : z .live ≡ emptySet = q .empty (omega arith) in
+        let still : stepped w false side (sideOf byte) (w .positions) (z .live) (s .taken + n) byte ≡ emptySet =
+        ap (λ (y : List ℕ). stepped w false side (sideOf byte) (w .positions) y (s .taken + n) byte) empty ∙ q .still n a b side in
+        let units : z .left - (n - z .at) - 1 ≡ z .left - (n + 1 - z .at) = omega arith in
+        let passed : ltb (z .at) (n + 1) ≡ true = lt-ltb (z .at) (n + 1) (omega arith) in
+        subst (λ (y : Turn). Running w s allowance block l₀ y l)
+        (λ i. record {
+          live = z .live;
+          before = sym (ap (λ (c : Bool). cond c (z .live) (z .before)) passed) i;
+          reported = z .reported;
+          side = (ap (λ (m : ℕ). sideOf (getD block m 0)) (less-one n) ∙ sym (ap (λ (c : Bool). cond c (sideOf (getD block (n + 1 - 1) 0)) (z .side)) passed)) i;
+          at = n + 1;
+          count = z .count;
+          left = units i;
+          stopped = z .stopped;
+        })
+        (running-pass (skipTo block z n) l r (omega (arith, q .inside)) (omega (arith, q .inside)) empty still)
 
-        over : (d : ℕ) → at + d ≤ to → Running w s block ids₀ offsets₀ live reported ids offsets count (at + d)
-        over zero l = subst (λ (n : ℕ). Running w s block ids₀ offsets₀ live reported ids offsets count n) (sym (add-zero at)) h
-        over (suc d) l =
-            let next : at + d + 1 ≡ at + suc d = omega arith in
-            subst (λ (n : ℕ). Running w s block ids₀ offsets₀ live reported ids offsets count n) next (one (at + d) (omega arith) (omega arith) (over d (omega arith)))
+    skip-all : (d : ℕ) → z .at + d ≤ to → Running w s allowance block l₀ (skipTo block z (z .at + d)) l
+    skip-all zero b =
+        let units : z .left ≡ z .left - (z .at + 0 - z .at) = omega arith in
+        let place : z .at ≡ z .at + 0 = omega arith in
+        let none : ltb (z .at) (z .at + 0) ≡ false = le-ltb (z .at) (z .at + 0) (omega arith) in
+        subst (λ (y : Turn). Running w s allowance block l₀ y l)
+        (λ i. record {
+          live = z .live;
+          before = sym (ap (λ (c : Bool). cond c (z .live) (z .before)) none) i;
+          reported = z .reported;
+          side = sym (ap (λ (c : Bool). cond c (sideOf (getD block (z .at + 0 - 1) 0)) (z .side)) none) i;
+          at = place i;
+          count = z .count;
+          left = units i;
+          stopped = z .stopped;
+        })
+        h
+    skip-all (suc d) b =
+        let next : z .at + d + 1 ≡ z .at + suc d = omega arith in
+        subst (λ (n : ℕ). Running w s allowance block l₀ (skipTo block z n) l) next (skip-one (z .at + d) (omega arith) (omega arith) (skip-all d (omega arith)))
 
-  -- the live set before the last byte: before the first there is none, a byte that is taken leaves the one before it, and bytes passed over leave theirs
-  pub before-start : (before : List ℕ) → Before w s block before 0
-  before-start before l = absurd (omega arith)
+  pub running-skip : (z r : Turn) (l : Lists) → Running w s allowance block l₀ z l → Passed w (s .taken) block z r → Running w s allowance block l₀ r l
+  running-skip z r l h p =
+      let to : z .at + (r .at - z .at) ≡ r .at = omega (arith, p .skipped .rises) in
+      subst (λ (y : Turn). Running w s allowance block l₀ y l) (sym (p .is))
+      (subst (λ (n : ℕ). Running w s allowance block l₀ (skipTo block z n) l) to (skip-all z l h (r .at) (p .skipped) (r .at - z .at) (omega (arith, p .skipped .rises))))
 
-  pub before-step : (live : List ℕ) (reported : ℕ) (ids offsets : List ℕ) (count at : ℕ) → Running w s block ids₀ offsets₀ live reported ids offsets count at → Before w s block live (at + 1)
-  before-step live reported ids offsets count at h l =
-      let last : at ≡ at + 1 - 1 = omega arith in
-      h .live-is ∙ ap (λ (n : ℕ). stateAfter w s block n .live) last
+-- ---- a turn
 
-  before-skip : (live : List ℕ) (reported : ℕ) (ids offsets : List ℕ) (count at end to : ℕ) → end ≤ length block → Running w s block ids₀ offsets₀ live reported ids offsets count at
-      → Skipped w live block (s .taken) at end to → at < to → Before w s block live to
-  before-skip live reported ids offsets count at end to short h q m l =
-      running-skip live reported ids offsets count at end (to - 1) short h (skipped-to w block (s .taken) at live end to (to - 1) q (omega arith) (omega arith)) .live-is
+-- what the loop knows where a turn ends
+pub record Turned (w : Automaton) (s : Stream) (allowance : ℕ) (block : List ℕ) (l₀ : Lists) (pause going : Bool) (z : Turn) (l : Lists) : Type 0 where
+  pub running : Running w s allowance block l₀ z l
+  pub stops : z .stopped ≡ true → z .at < length block → Over (plain w) s allowance block (space l₀) (z .at + 1)
+  pub goes : going ≡ true → z .stopped ≡ false
+  pub rests : going ≡ false → z .stopped ≡ false → (pause ≡ true) × (isEmpty (z .live) ≡ true) × (0 < z .at)
 
-  -- what they cost: a unit each
-  module _ (allowance : ℕ) where
-    pub paid-start : Paid w s allowance block 0 allowance
-    unfolding costOf
-    paid-start = add-zero allowance
+pub turned-start : (w : Automaton) (s : Stream) (allowance : ℕ) (block : List ℕ) (l₀ : Lists) (pause : Bool) → s .reported < 2 ^ 64
+    → Turned w s allowance block l₀ pause true (startTurn s allowance) l₀
+turned-start w s allowance block l₀ pause h = record {
+  running = running-start w s allowance block l₀ h;
+  stops = λ e. absurd (true≢false (sym e));
+  goes = λ e. refl;
+  rests = λ e. absurd (true≢false e);
+}
 
-    module _ (live : List ℕ) (reported : ℕ) (ids offsets : List ℕ) (count at : ℕ) (h : Running w s block ids₀ offsets₀ live reported ids offsets count at) (left : ℕ)
-        (paid : Paid w s allowance block at left) where
-      cost-skip : (end to : ℕ) → end ≤ length block → Skipped w live block (s .taken) at end to → (d : ℕ) → at + d ≤ to → costOf w s block (at + d) ≡ costOf w s block at + d
-      cost-skip end to short q zero l = ap (costOf w s block) (add-zero at) ∙ sym (add-zero (costOf w s block at))
-      cost-skip end to short q (suc d) l =
-          let next : at + d + 1 ≡ at + suc d = omega arith in
-          let same : live ≡ stateAfter w s block (at + d) .live =
-          running-skip live reported ids offsets count at end (at + d) short h (skipped-to w block (s .taken) at live end to (at + d) q (omega arith) (omega arith)) .live-is in
-          let none : sizeOf (stateAfter w s block (at + d) .live) ≡ 0 = ap sizeOf (sym same ∙ q .empty (omega arith)) ∙ size-empty in
-          omega (arith, ap (costOf w s block) next, cost-more w s block (at + d), none, cost-skip end to short q d (omega arith))
+-- bytes are passed over, and one is offered
+module _ {w : Automaton} {s : Stream} {allowance : ℕ} {block : List ℕ} {l₀ : Lists} {z o r : Turn} {l l′ : Lists}
+    (h : Running w s allowance block l₀ z l) (p : Passed w (s .taken) block z o) (t : Offered w (hereAt (s .taken) o) block o l r l′) where
+  over : Running w s allowance block l₀ o l
+  over = running-skip w s allowance block l₀ z o l h p
 
-      pub paid-skip : (end to : ℕ) → end ≡ min (length block) (at + left) → Skipped w live block (s .taken) at end to → Paid w s allowance block to (left - (to - at))
-      paid-skip end to e q =
-          let whole : at + (to - at) ≡ to = omega (arith, q .rises) in
-          omega (arith, paid, q .rises, q .inside, e, ap (costOf w s block) (sym whole), cost-skip end to (omega (arith, e)) q (to - at) (omega arith))
-
-      -- a byte costs a unit, and one for each position that is live before it
-      pub paid-byte : (turns : ℕ) → turns ≡ sizeOf live → 1 + turns ≤ left → Paid w s allowance block (at + 1) (left - (1 + turns))
-      paid-byte turns e l = omega (arith, paid, cost-more w s block at, ap sizeOf (sym (h .live-is)), e)
-
-      -- one that cannot be paid for
-      pub unpaid : (turns : ℕ) → turns ≡ sizeOf live → left < 1 + turns → allowance < costOf w s block (at + 1)
-      unpaid turns e l = omega (arith, paid, cost-more w s block at, ap sizeOf (sym (h .live-is)), e)
-
-      -- nor can any where nothing is left
-      pub spent : left ≡ 0 → allowance < costOf w s block (at + 1)
-      spent e = omega (arith, paid, cost-more w s block at)
-
-  pub before-passed : (live before : List ℕ) (reported : ℕ) (ids offsets : List ℕ) (count at end to : ℕ) → end ≤ length block → Running w s block ids₀ offsets₀ live reported ids offsets count at
-      → Before w s block before at → Skipped w live block (s .taken) at end to → (now : List ℕ) → now ≡ cond (ltb at to) live before → Before w s block now to
-  before-passed live before reported ids offsets count at end to short h b q now e = go (ltb at to) refl
+  turn-running : Running w s allowance block l₀ r l′
+  turn-running = go (r .stopped) refl
     where
-      go : (x : Bool) → ltb at to ≡ x → Before w s block now to
-      go true x = subst (λ (y : List ℕ). Before w s block y to) (sym (e ∙ ap (λ (z : Bool). cond z live before) x)) (before-skip live reported ids offsets count at end to short h q (ltb-true at to x))
-      go false x =
-          let same : at ≡ to = omega (arith, q .rises, ltb-false at to x) in
-          subst (λ (y : List ℕ). Before w s block y to) (sym (e ∙ ap (λ (z : Bool). cond z live before) x)) (subst (λ (n : ℕ). Before w s block before n) same b)
+      go : (b : Bool) → r .stopped ≡ b → Running w s allowance block l₀ r l′
+      go true e = running-stop w s allowance block l₀ o l over r l′ (t .stops e)
+      go false e = running-take w s allowance block l₀ o l over r l′ (t .takes e)
 
--- no more bytes are taken than there are
-pub ran-inside : (w : Automaton) (s : Stream) (allowance : ℕ) (block ids offsets live before : List ℕ) (reported taken reports left : ℕ) (ids′ offsets′ : List ℕ)
-    → Ran w s allowance block ids offsets live before reported taken reports left ids′ offsets′ → taken ≤ length block
-ran-inside w s allowance block ids offsets live before reported taken reports left ids′ offsets′ h = omega (arith, h .taken-is, fits-le w s block allowance (space ids offsets) (length block))
+  -- it comes no less far, and further unless it stops
+  pub turn-rises : z .at ≤ r .at
+  turn-rises = go (r .stopped) refl
+    where
+      go : (b : Bool) → r .stopped ≡ b → z .at ≤ r .at
+      go true e = omega (arith, p .skipped .rises, ap (λ (y : Turn). y .at) (t .stops e .is))
+      go false e = omega (arith, p .skipped .rises, ap (λ (y : Turn). y .at) (t .takes e .is))
+
+  pub turn-further : r .stopped ≡ false → (z .at < r .at) × (z .at < length block)
+  turn-further e =
+      let k = t .takes e in
+      (omega (arith, p .skipped .rises, ap (λ (y : Turn). y .at) (k .is)), omega (arith, p .skipped .rises, k .inside))
+
+  pub turned : (pause going : Bool) → (going ≡ true → r .stopped ≡ false) × (going ≡ false → r .stopped ≡ false → (pause ≡ true) × (isEmpty (r .live) ≡ true))
+      → Turned w s allowance block l₀ pause going r l′
+  turned pause going g = record {
+    running = turn-running;
+    stops = λ e. stop-over w s allowance block l₀ o l over r l′ (t .stops e);
+    goes = g .0;
+    rests = λ e n. (g .1 e n .0, g .1 e n .1, omega (arith, turn-further n .0));
+  }
+
+pub ran : {w : Automaton} {s : Stream} {allowance : ℕ} {block : List ℕ} {l₀ : Lists} {pause going : Bool} {z : Turn} {l : Lists}
+    → going ≡ false → Turned w s allowance block l₀ pause going z l → Ran w s allowance block l₀ pause z l
+ran e h = record { running = h .running; rests = record { stops = h .stops; pauses = h .rests e } }
+
+-- the loop's measure
+pub turn-less : (going next stopped : Bool) (at to n : ℕ) → going ≡ true → (next ≡ true → stopped ≡ false) → at ≤ to → (stopped ≡ false → (at < to) × (at < n))
+    → cond next 1 0 + (n - to) < cond going 1 0 + (n - at)
+turn-less going true stopped at to n e g h f = let k = f (g refl) in omega (arith, k .0, k .1, ap {B = ℕ} (λ (b : Bool). cond b 1 0) e)
+turn-less going false stopped at to n e g h f = omega (arith, ap {B = ℕ} (λ (b : Bool). cond b 1 0) e)

@@ -1,4 +1,5 @@
--- When a state fits a table: number 18 has exactly the reasons of the rules, one named test each. Assumes nothing: these are definitions.
+-- When a state fits a table: number 18 has exactly the reasons of the rules, one named test each.
+-- Assumes nothing: these are definitions.
 use mathlib.Core.Bool.{Bool, not, _&&_, _||_}
 use Prim.Native.Nat.{ℕ}
 use lib.Dec.{eqb, leb, ltb}
@@ -11,8 +12,9 @@ use Rattle.stream.specs.declared.Stream.{Stream}
 abbrev pub streamLimit : ℕ
 streamLimit = 1099511627775
 
--- "A state carries the rule and position counts of its table; if they differ, or a live bit has no position, or a mark "already reported" has no
--- single-match rule, or the total is over the limit, it is refused with 18."
+-- "A state carries the rule and position counts of its table; if they differ, or a live bit has no
+-- position, or a mark "already reported" has no single-match rule, or the total is over the limit,
+-- it is refused with 18."
 unfoldable pub sameCounts : Automaton → Stream → Bool
 sameCounts w s = eqb (s .rules) (w .rules) && eqb (s .positions) (w .positions)
 
@@ -25,7 +27,8 @@ marksSingle w s = not (any 64 (λ a. on (s .reported) a && not (ltb a (w .rules)
 unfoldable pub underLimit : Stream → Bool
 underLimit s = leb (s .taken) streamLimit
 
--- "A held position or pair the table hasn't got is 18, and so is a pair held for n-1 while n is below 2."
+-- "A held position or pair the table hasn't got is 18, and so is a pair held for n-1 while n is
+-- below 2."
 unfoldable pub heldInside : Automaton → Stream → Bool
 heldInside w s = not (any maxPositions (λ q. has (s .held) q && leb (w .positions) q))
 

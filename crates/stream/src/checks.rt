@@ -1,4 +1,5 @@
-// Whether a call is accepted: the tests of a state against a table, and the number of the first reason that refuses it.
+// Whether a call is accepted: the tests of a state against a table, and the number of the first
+// reason that refuses it.
 use super::STREAM_LIMIT;
 use super::Stream;
 use steps::singles;
@@ -6,9 +7,9 @@ use table::layout::MAX_RULES;
 use table::layout::POSITIONS_AT;
 use table::layout::RULES_AT;
 ghost use mathlib.Core.Path.{_≡_};
-ghost use mathlib.Core.Bool.{not, _&&_, _||_};
+ghost use mathlib.Core.Bool.{not, _&&_};
 ghost use Prim.Native.Nat.{_≤_, min};
-ghost use lib.Dec.{eqb, leb, ltb};
+ghost use lib.Dec.{leb, ltb};
 ghost use lib.ListN.{length};
 ghost use Rattle.sets.specs.Set.{on, has, any};
 ghost use Rattle.table.specs.Layout.{tableWords, maxPositions};
@@ -46,17 +47,7 @@ fn pending_inside(pending: u64, rules: u64) -> bool
     rules >= MAX_RULES || pending >> rules == 0
 }
 
-// Whether what waits in a state fits a table.
-fn waits_inside(s: Stream, rules: u64, positions: u64) -> bool
-    ensures { λ r. ⌜ r ≡ (not (any maxPositions (λ q. has (s .held) q && leb positions q)) && (not (any 64 (λ a. on (s .pending) a && not (ltb a rules))) && (eqb (s .pending) 0 || leb 2 (s .taken)))) ⌝ }
-{
-    let held = s.held;
-    let positioned = inside(held, positions as usize);
-    let ruled = pending_inside(s.pending, rules);
-    positioned & (ruled & ((s.pending == 0) | (2 <= s.taken)))
-}
-
-// Whether a state fits a table.
+// Whether a state fits a table. Its two sets are tested at once, by their union.
 fn is_valid(s: Stream, words: &[u64]) -> bool
     requires { ⌜ tableWords ≤ length (now words) ⌝ }
     ensures { λ r. ⌜ r ≡ valid (automaton (now (words .entry))) s ⌝ }
@@ -64,14 +55,16 @@ fn is_valid(s: Stream, words: &[u64]) -> bool
     let rules = words[RULES_AT];
     let positions = words[POSITIONS_AT];
     let live = s.live;
+    let held = s.held;
     let same = (s.rules == rules) & (s.positions == positions);
-    let positioned = inside(live, positions as usize);
+    let positioned = inside(sets::union(live, held), positions as usize);
     let marked = marks_single(s.reported, words);
-    let waits = waits_inside(s, rules, positions);
-    same & (positioned & (marked & ((s.taken <= STREAM_LIMIT) & waits)))
+    let ruled = pending_inside(s.pending, rules) & ((s.pending == 0) | (2 <= s.taken));
+    same & (positioned & (marked & ((s.taken <= STREAM_LIMIT) & ruled)))
 }
 
-// The number of a scan of `len` bytes with this report space. A closing is numbered as a scan of no bytes, which 21 never refuses.
+// The number of a scan of `len` bytes with this report space. A closing is numbered as a scan of no
+// bytes, which 21 never refuses.
 pub(super) fn refusal(s: Stream, words: &[u64], len: usize, space: usize) -> u32
     ensures { λ r. ⌜ r ≡ scanNumber (now (words .entry)) s len space ⌝ }
 {

@@ -1,5 +1,6 @@
-// The stream: opening, scanning, closing, and the busy figure. The state goes in by value and the next state comes back inside the answer.
-// Nothing is required of a caller: each promise holds for any words, state, allowance, block and lists. specs/Calls.antt says what each call gives.
+// The stream: opening, scanning, closing, and the busy figure. The state goes in by value and the
+// next state comes back inside the answer. Nothing is required of a caller: each promise holds for
+// any words, state and inputs. specs/Calls.antt says what each call gives.
 mod checks;
 mod reports;
 mod scan;
@@ -8,13 +9,20 @@ use checks::least;
 use checks::refusal;
 use kinds::Side;
 use reports::write_closing;
+use scan::Sets;
 use scan::run;
-use scan::side_at;
+use scan::sets_of;
 use scan::waiting_after;
 use table::layout::POSITIONS_AT;
 use table::layout::RULES_AT;
 ghost use mathlib.Core.Path.{_≡_};
-ghost use Rattle.stream.specs.Calls.{fresh, opened, scanned, scannedIds, scannedOffsets, closed, closedIds, closedOffsets};
+ghost use mathlib.Core.Bool.{true};
+ghost use Prim.Native.Nat.{_+_, _^_, _<_};
+ghost use lib.ListN.{length};
+ghost use Rattle.table.specs.Table.{isTable};
+ghost use Rattle.table.specs.Automaton.{automaton};
+ghost use Rattle.stream.specs.Invariants.{SetsOf, Advanced};
+ghost use Rattle.stream.specs.Calls.{fresh, opened, lists, call, scanned, scannedLists, closed, closedLists};
 ghost use Rattle.stream.specs.Byte.{busyOf};
 
 // How many bytes a stream may have.
@@ -23,9 +31,10 @@ pub const STREAM_LIMIT: u64 = 1_099_511_627_775;
 // An allowance that no stream can use up.
 pub const NO_LIMIT: u64 = 0xffff_ffff_ffff_ffff;
 
-// A stream's state: the live positions, and those held in case the last line ends before the last byte taken; a mark for each single-match rule that has reported,
-// and one for each rule with a pair that is held likewise; what the last byte is to the assertions after it, `Other` before the first; the bytes taken, the
-// counts of its table, and whether it is closed.
+// A stream's state: the live positions, and those held in case the last line ends before the last
+// byte taken; a mark for each single-match rule that has reported, and one for each rule with a
+// pair that is held likewise; what the last byte is to the assertions after it, `Other` before the
+// first; the bytes taken, the counts of its table, and whether it is closed.
 pub struct Stream {
     pub live: [u64; 4],
     pub held: [u64; 4],
@@ -44,12 +53,23 @@ pub struct Opened {
     pub stream: Stream,
 }
 
-// The answer of a scan: its number, how many bytes it took, how many reports it wrote, how many units of work it used, the next state.
+// The answer of a scan: its number, how many bytes it took, how many reports it wrote, how many
+// units of work it used, the next state.
 pub struct Scanned {
     pub number: u32,
     pub taken: usize,
     pub reports: usize,
     pub used: u64,
+    pub stream: Stream,
+}
+
+// How far an accepted scan came: whether it stopped, how many bytes it took, how many reports it
+// wrote, the units that it did not use, the next state.
+struct Advance {
+    pub stopped: bool,
+    pub taken: usize,
+    pub reports: usize,
+    pub left: u64,
     pub stream: Stream,
 }
 
@@ -96,8 +116,9 @@ impl Stream {
         }
     }
 
-    // Scans the bytes of a block as far as the allowance of work and the report space go, and writes the reports at the front of both lists. A byte costs a unit,
-    // and one for each live position.
+    // Scans the bytes of a block as far as the allowance of work and the report space go, and
+    // writes the reports at the front of the lists. A byte costs a unit, and one for each live
+    // position.
     pub fn scan(
         self,
         words: &[u64],
@@ -106,9 +127,8 @@ impl Stream {
         ids: &mut [u32],
         offsets: &mut [u64],
     ) -> Scanned
-        ensures answer { λ r. ⌜ r ≡ scanned (now (words .entry)) self allowance (now (block .entry)) (now (ids .entry)) (now (offsets .entry)) ⌝ }
-        ensures ids { λ r. ⌜ now (ids .exit) ≡ scannedIds (now (words .entry)) self allowance (now (block .entry)) (now (ids .entry)) (now (offsets .entry)) ⌝ }
-        ensures offsets { λ r. ⌜ now (offsets .exit) ≡ scannedOffsets (now (words .entry)) self allowance (now (block .entry)) (now (ids .entry)) (now (offsets .entry)) ⌝ }
+        ensures answer { λ r. ⌜ r ≡ scanned (now (words .entry)) self (call allowance (now (block .entry)) (lists (now (ids .entry)) (now (offsets .entry)))) ⌝ }
+        ensures lists { λ r. ⌜ lists (now (ids .exit)) (now (offsets .exit)) ≡ scannedLists (now (words .entry)) self (call allowance (now (block .entry)) (lists (now (ids .entry)) (now (offsets .entry)))) ⌝ }
     {
         let number = refusal(self, words, block.len(), least(ids.len(), offsets.len()));
         if number != 0 {
@@ -120,31 +140,44 @@ impl Stream {
                 stream: self,
             };
         }
-        let live = self.live;
-        let side = self.last;
-        let r = run(
-            live,
-            self.reported,
-            side,
-            self.taken,
-            words,
-            allowance,
-            block,
-            ids,
-            offsets,
-        );
-        let before = r.before;
-        let waits = waiting_after(self, r.taken, before, words, block);
-        let after = r.live;
-        let held = waits.held;
-        let last = side_at(side, block, r.taken);
-        let taken = self.taken + r.taken as u64;
-        let used = allowance - r.left;
+        let r = self.advance(words, sets_of(words), false, allowance, block, ids, offsets);
+        let stream = r.stream;
         Scanned {
             number: 0,
             taken: r.taken,
             reports: r.reports,
-            used,
+            used: allowance - r.left,
+            stream,
+        }
+    }
+
+    // An accepted scan, with the sets of its table: all of it, or, where it may pause, up to a byte
+    // after which nothing is live.
+    fn advance(
+        self,
+        words: &[u64],
+        sets: Sets,
+        pause: bool,
+        allowance: u64,
+        block: &[u8],
+        ids: &mut [u32],
+        offsets: &mut [u64],
+    ) -> Advance
+        requires { ⌜ (isTable (now words) ≡ true) × SetsOf (now words) sets × (self .taken + length (now block) < 2 ^ 64) ⌝ }
+        ensures { λ r. ⌜ Advanced (automaton (now (words .entry))) self allowance (now (block .entry)) (lists (now (ids .entry)) (now (offsets .entry))) pause r (lists (now (ids .exit)) (now (offsets .exit))) ⌝ }
+    {
+        let r = run(self, words, sets, pause, allowance, block, ids, offsets);
+        let before = r.before;
+        let waits = waiting_after(self, r.at, before, words, block);
+        let after = r.live;
+        let held = waits.held;
+        let last = r.side;
+        let taken = self.taken + r.at as u64;
+        Advance {
+            stopped: r.stopped,
+            taken: r.at,
+            reports: r.count,
+            left: r.left,
             stream: Stream {
                 live: after,
                 held,
@@ -159,11 +192,10 @@ impl Stream {
         }
     }
 
-    // Closes the stream, and writes the reports that needed its end at the front of both lists.
+    // Closes the stream, and writes the reports that needed its end at the front of the lists.
     pub fn close(mut self, words: &[u64], ids: &mut [u32], offsets: &mut [u64]) -> Closed
-        ensures answer { λ r. ⌜ r ≡ closed (now (words .entry)) self (now (ids .entry)) (now (offsets .entry)) ⌝ }
-        ensures ids { λ r. ⌜ now (ids .exit) ≡ closedIds (now (words .entry)) self (now (ids .entry)) (now (offsets .entry)) ⌝ }
-        ensures offsets { λ r. ⌜ now (offsets .exit) ≡ closedOffsets (now (words .entry)) self (now (ids .entry)) (now (offsets .entry)) ⌝ }
+        ensures answer { λ r. ⌜ r ≡ closed (now (words .entry)) self (lists (now (ids .entry)) (now (offsets .entry))) ⌝ }
+        ensures lists { λ r. ⌜ lists (now (ids .exit)) (now (offsets .exit)) ≡ closedLists (now (words .entry)) self (lists (now (ids .entry)) (now (offsets .entry))) ⌝ }
     {
         let number = refusal(self, words, 0, least(ids.len(), offsets.len()));
         if number != 0 {

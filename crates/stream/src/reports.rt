@@ -1,10 +1,10 @@
-// Runs of reports: a run has one end offset, and the rules that end there by rising place, each a digit of a word. A byte has two of them, and so has the closing.
+// Runs of reports: a run has one end offset, and the rules that end there by rising place, each a
+// digit of a word. A byte has two of them, and so has the closing.
 use super::Stream;
 use super::checks::least;
 use steps::closing;
 use steps::rule_id;
 use steps::singles;
-use table::layout::RULES_AT;
 ghost use mathlib.Core.Path.{_≡_};
 ghost use mathlib.Core.Bool.{true, not, _&&_};
 ghost use Prim.Native.Nat.{suc, _+_, _*_, _-_, _^_, _<_, _≤_};
@@ -14,12 +14,14 @@ ghost use Rattle.table.specs.Layout.{rulesOf};
 ghost use Rattle.table.specs.Table.{isTable};
 ghost use Rattle.table.specs.Automaton.{automaton, single};
 ghost use Rattle.steps.specs.Step.{rulesWhere};
-ghost use Rattle.stream.specs.Byte.{runIds, twoIds};
+ghost use Rattle.stream.specs.Byte.{given, runReports, twoReports};
+ghost use Rattle.stream.specs.Valid.{pendingInside};
+ghost use Rattle.stream.specs.Calls.{lists, space};
 ghost use Rattle.stream.specs.Invariants.{Wrote, WroteTwo, Delivered, Ended};
 
-// What a run leaves: how many reports it wrote, and the marks afterwards.
+// What a run leaves: the place after its last report, and the marks afterwards.
 pub(super) struct Run {
-    pub reports: usize,
+    pub next: usize,
     pub reported: u64,
 }
 
@@ -30,38 +32,41 @@ pub(super) fn due(ending: u64, reported: u64) -> usize
     u64::count_ones(ending & !reported) as usize
 }
 
-// Writes one run at the front of both lists, and marks its single-match rules.
+// Writes one run into the lists from place `from` on, and marks its single-match rules. The word
+// `ending` has digits of rules alone.
 pub(super) fn write_run(
     ending: u64,
     reported: u64,
     singles: u64,
     words: &[u64],
     end: u64,
+    from: usize,
     ids: &mut [u32],
     offsets: &mut [u64],
 ) -> Run
-    requires { ⌜ (isTable (now words) ≡ true) × (singles ≡ rulesWhere (automaton (now words)) (single (automaton (now words)))) × (length (runIds (automaton (now words)) (on ending) reported (automaton (now words) .rules)) ≤ length (now ids)) × (length (runIds (automaton (now words)) (on ending) reported (automaton (now words) .rules)) ≤ length (now offsets)) ⌝ }
-    ensures { λ r. ⌜ Wrote (automaton (now (words .entry))) (on ending) reported end (now (ids .entry)) (now (offsets .entry)) (r .reports) (r .reported) (now (ids .exit)) (now (offsets .exit)) ⌝ }
+    requires { ⌜ (isTable (now words) ≡ true)
+        × (singles ≡ rulesWhere (automaton (now words)) (single (automaton (now words))))
+        × (ending ≡ rulesWhere (automaton (now words)) (on ending))
+        × (from + length (runReports (on ending) reported (given (automaton (now words)) end)
+        (automaton (now words) .rules)) ≤ space (lists (now ids) (now offsets))) ⌝ }
+    ensures { λ r. ⌜ Wrote (automaton (now (words .entry))) (on ending) reported (given (automaton (now (words .entry))) end) from (lists (now (ids .entry)) (now (offsets .entry))) (r .next) (r .reported) (lists (now (ids .exit)) (now (offsets .exit))) ⌝ }
 {
-    let rules = words[RULES_AT] as usize;
-    let due = ending & !reported;
-    let mut n: usize = 0;
-    let mut a: usize = 0;
-    while a < rules {
-        if due >> a & 1 == 1 {
-            ids[n] = rule_id(words, a) as u32;
-            offsets[n] = end;
-            n += 1;
-        }
-        a += 1;
+    let mut due = ending & !reported;
+    let mut n = from;
+    while due != 0 {
+        ids[n] = rule_id(words, u64::trailing_zeros(due) as usize) as u32;
+        offsets[n] = end;
+        n += 1;
+        due = due & (due - 1);
     }
     Run {
-        reports: n,
+        next: n,
         reported: reported | ending & singles,
     }
 }
 
-// Writes two runs at the front of both lists, with these end offsets, the marks brought up to date between them.
+// Writes two runs at the front of the lists, with these end offsets, the marks brought up to date
+// between them.
 fn write_two(
     first: u64,
     second: u64,
@@ -73,36 +78,38 @@ fn write_two(
     ids: &mut [u32],
     offsets: &mut [u64],
 ) -> Run
-    requires { ⌜ (isTable (now words) ≡ true) × (singles ≡ rulesWhere (automaton (now words)) (single (automaton (now words)))) × (length (twoIds (automaton (now words)) (on first) (on second) reported) ≤ length (now ids)) × (length (twoIds (automaton (now words)) (on first) (on second) reported) ≤ length (now offsets)) ⌝ }
-    ensures { λ r. ⌜ WroteTwo (automaton (now (words .entry))) (on first) (on second) reported earlier later (now (ids .entry)) (now (offsets .entry)) (r .reports) (r .reported) (now (ids .exit)) (now (offsets .exit)) ⌝ }
+    requires { ⌜ (isTable (now words) ≡ true)
+        × (singles ≡ rulesWhere (automaton (now words)) (single (automaton (now words))))
+        × (first ≡ rulesWhere (automaton (now words)) (on first))
+        × (second ≡ rulesWhere (automaton (now words)) (on second))
+        × (length (twoReports (automaton (now words)) (on first) (on second) reported
+        (given (automaton (now words)) earlier) (given (automaton (now words)) later))
+        ≤ space (lists (now ids) (now offsets))) ⌝ }
+    ensures { λ r. ⌜ WroteTwo (automaton (now (words .entry))) (on first) (on second) reported (given (automaton (now (words .entry))) earlier) (given (automaton (now (words .entry))) later) (lists (now (ids .entry)) (now (offsets .entry))) (r .next) (r .reported) (lists (now (ids .exit)) (now (offsets .exit))) ⌝ }
 {
-    let one = write_run(first, reported, singles, words, earlier, ids, offsets);
-    let count = one.reports;
-    let two = write_run(
+    let one = write_run(first, reported, singles, words, earlier, 0, ids, offsets);
+    write_run(
         second,
         one.reported,
         singles,
         words,
         later,
-        &mut ids[count..],
-        &mut offsets[count..],
-    );
-    let reports = count + two.reports;
-    Run {
-        reports,
-        reported: two.reported,
-    }
+        one.next,
+        ids,
+        offsets,
+    )
 }
 
-// What one byte's runs come to: whether the free space is too small for their reports, how many were written, and the marks afterwards.
+// What one byte's runs come to: whether the free space is too small for their reports, how many
+// were written, and the marks afterwards.
 pub(super) struct Delivery {
     pub full: bool,
     pub reports: usize,
     pub reported: u64,
 }
 
-// Writes both runs of one byte, the late one at the offset before it, into what is free of both lists, if all their reports fit there. Both words have digits of
-// rules alone.
+// Writes both runs of one byte, the late one at the offset before it, into what is free of the
+// lists, if all their reports fit there. Both words have digits of rules alone.
 pub(super) fn deliver(
     late: u64,
     own: u64,
@@ -114,15 +121,8 @@ pub(super) fn deliver(
     offsets: &mut [u64],
 ) -> Delivery
     requires { ⌜ (isTable (now words) ≡ true) × (singles ≡ rulesWhere (automaton (now words)) (single (automaton (now words)))) × (late ≡ rulesWhere (automaton (now words)) (on late)) × (own ≡ rulesWhere (automaton (now words)) (on own)) × (before + 1 < 2 ^ 64) ⌝ }
-    ensures { λ r. ⌜ Delivered (automaton (now (words .entry))) (on late) (on own) reported before (suc before) (now (ids .entry)) (now (offsets .entry)) (r .full) (r .reports) (r .reported) (now (ids .exit)) (now (offsets .exit)) ⌝ }
+    ensures { λ r. ⌜ Delivered (automaton (now (words .entry))) (on late) (on own) reported (given (automaton (now (words .entry))) before) (given (automaton (now (words .entry))) (suc before)) (lists (now (ids .entry)) (now (offsets .entry))) (r .full) (r .reports) (r .reported) (lists (now (ids .exit)) (now (offsets .exit))) ⌝ }
 {
-    if late | own == 0 {
-        return Delivery {
-            full: false,
-            reports: 0,
-            reported,
-        };
-    }
     let marks = reported | late & singles;
     if least(ids.len(), offsets.len()) < due(late, reported) + due(own, marks) {
         return Delivery {
@@ -144,7 +144,7 @@ pub(super) fn deliver(
     );
     Delivery {
         full: false,
-        reports: run.reports,
+        reports: run.next,
         reported: run.reported,
     }
 }
@@ -156,10 +156,13 @@ fn before_last(taken: u64) -> u64
     if taken == 0 { 0 } else { taken - 1 }
 }
 
-// Writes both runs of a closing at the front of both lists: the held pairs, then those that need the stream's end. Gives how many reports there are.
+// Writes both runs of a closing at the front of the lists: the held pairs, then those that need the
+// stream's end. Gives how many reports there are.
 pub(super) fn write_closing(s: Stream, words: &[u64], ids: &mut [u32], offsets: &mut [u64]) -> usize
-    requires { ⌜ (isTable (now words) ≡ true) × (2 * rulesOf (now words) ≤ length (now ids)) × (2 * rulesOf (now words) ≤ length (now offsets)) ⌝ }
-    ensures { λ r. ⌜ Ended (automaton (now (words .entry))) s (now (ids .entry)) (now (offsets .entry)) r (now (ids .exit)) (now (offsets .exit)) ⌝ }
+    requires { ⌜ (isTable (now words) ≡ true)
+        × (pendingInside (automaton (now words)) s ≡ true)
+        × (2 * rulesOf (now words) ≤ space (lists (now ids) (now offsets))) ⌝ }
+    ensures { λ r. ⌜ Ended (automaton (now (words .entry))) s (lists (now (ids .entry)) (now (offsets .entry))) r (lists (now (ids .exit)) (now (offsets .exit))) ⌝ }
 {
     let live = s.live;
     let held = s.held;
@@ -176,5 +179,5 @@ pub(super) fn write_closing(s: Stream, words: &[u64], ids: &mut [u32], offsets: 
         ids,
         offsets,
     );
-    run.reports
+    run.next
 }

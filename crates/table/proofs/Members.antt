@@ -1,7 +1,7 @@
 -- Words given by their digits: what the laws of sets leave out. A word that gets one digit a turn is the word of the test below the turn.
 use mathlib.Core.Path.{_≡_, refl, sym, ap, ap₂, _∙_}
-use mathlib.Core.Bool.{Bool, true, false, not, _||_, _&&_, or-false, and-false}
-use Prim.Native.Nat.{ℕ, _+_, _-_, _^_, _<_, _≤_, min}
+use mathlib.Core.Bool.{Bool, true, false, not, _||_, _&&_, or-false}
+use Prim.Native.Nat.{ℕ, _+_, _-_, _^_, _<_, _≤_}
 use native.Mathlib.Nat.{add-zero, lt-of-le-of-lt}
 use native.Mathlib.Omega.{arith}
 use native.Mathlib.Decide.{decLt, ℕ-discrete}
@@ -71,17 +71,6 @@ module _ (f : ℕ → Bool) where
 
   pub places-small : (n : ℕ) → placesBelow n f < 2 ^ 64
   places-small n = wordOf-lt 64 (λ k. ltb k n && f k)
-
-  -- what does not hold from m on need not be asked there
-  pub places-capped : (n m : ℕ) → ((k : ℕ) → m ≤ k → f k ≡ false) → placesBelow (min n m) f ≡ placesBelow n f
-  places-capped n m e = wordOf-ext 64 (λ k. ltb k (min n m) && f k) (λ k. ltb k n && f k) (λ k h. digit k (decLt k m) (decLt k n))
-    where
-      digit : (k : ℕ) → Dec (k < m) → Dec (k < n) → (ltb k (min n m) && f k) ≡ (ltb k n && f k)
-      digit k (yes h) (yes l) = ap (λ (b : Bool). b && f k) (lt-ltb k (min n m) (omega arith) ∙ sym (lt-ltb k n l))
-      digit k (yes h) (no l) = ap (λ (b : Bool). b && f k) (le-ltb k (min n m) (omega arith) ∙ sym (le-ltb k n (omega arith)))
-      digit k (no h) d =
-          ap (λ (b : Bool). ltb k (min n m) && b) (e k (omega arith)) ∙ and-false (ltb k (min n m))
-          ∙ sym (ap (λ (b : Bool). ltb k n && b) (e k (omega arith)) ∙ and-false (ltb k n))
 
   -- a place below both bounds
   pub on-places : (n k : ℕ) → k < n → n ≤ 64 → on (placesBelow n f) k ≡ f k

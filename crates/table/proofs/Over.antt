@@ -2,13 +2,13 @@
 use mathlib.Core.Path.{_≡_, refl, sym, ap, ap₂, _∙_}
 use mathlib.Core.Bool.{Bool, true, false, cond, _&&_, and-false}
 use mathlib.Core.List.{List, [], _∷_}
-use Prim.Native.Nat.{ℕ, zero, suc, _+_, _-_, _≤_, _<_, min}
+use Prim.Native.Nat.{ℕ, zero, suc, _+_, _-_, _≤_, _<_}
 use native.Mathlib.Nat.{zero-add, add-zero, not-suc-le-zero, le-of-suc-le-suc}
 use native.Mathlib.Decide.{decLt}
 use native.Mathlib.Omega.{arith}
 use lib.Dec.{leb, ltb}
-use lib.ListN.{length, getD, set, take, drop, length-set, length-take, length-drop, List·getD-eq-default}
-use lib.Seq.{getD-set-same, getD-set-other, getD-take, getD-drop, ext-getD}
+use lib.ListN.{length, getD, set, drop, length-set, length-drop, List·getD-eq-default}
+use lib.Seq.{getD-set-same, getD-set-other, getD-drop, ext-getD}
 use borrow.Author.Tests.{lt-ltb, le-ltb, le-leb, lt-leb}
 use Rattle.table.specs.Layout.{from-to}
 use Rattle.table.specs.Invariants.{overFrom}
@@ -89,13 +89,6 @@ over-ext lo hi g h t e =
 
 -- ---- its first words, and its last
 
-pub take-over : (n lo hi : ℕ) (g : ℕ → ℕ) (t : List ℕ) → n ≤ lo → take n (over lo hi g t) ≡ take n t
-take-over n lo hi g t h =
-    ext-getD 0 (take n (over lo hi g t)) (take n t) (length-take n (over lo hi g t) ∙ ap (min n) (length-over lo hi g t) ∙ sym (length-take n t))
-    (λ w l.
-    let b : w < n = omega (arith, length-take n (over lo hi g t)) in
-    getD-take n (over lo hi g t) w 0 b ∙ over-below lo hi g t w (omega arith) ∙ sym (getD-take n t w 0 b))
-
 pub drop-over : (n lo hi : ℕ) (g : ℕ → ℕ) (t : List ℕ) → hi ≤ n → drop n (over lo hi g t) ≡ drop n t
 drop-over n lo hi g t h =
     ext-getD 0 (drop n (over lo hi g t)) (drop n t) (length-drop n (over lo hi g t) ∙ ap (λ (k : ℕ). k - n) (length-over lo hi g t) ∙ sym (length-drop n t))
@@ -114,31 +107,6 @@ over-join lo mid hi g t a b =
     inside : (w : ℕ) → lo ≤ w → w < hi → w < length t → Dec (w < mid) → getD (over mid hi g (over lo mid g t)) w 0 ≡ g w
     inside w c d l (yes p) = over-below mid hi g (over lo mid g t) w p ∙ over-in lo mid g t w c p l
     inside w c d l (no p) = over-in mid hi g (over lo mid g t) w (omega arith) d (omega (arith, length-over lo mid g t))
-
--- the later of two writes to one range stays
-pub over-again : (lo hi : ℕ) (g h : ℕ → ℕ) (t : List ℕ) → over lo hi h (over lo hi g t) ≡ over lo hi h t
-over-again lo hi g h t =
-    over-is lo hi h t (over lo hi h (over lo hi g t)) (length-over lo hi h (over lo hi g t) ∙ length-over lo hi g t)
-    (λ w a b l. over-in lo hi h (over lo hi g t) w a b (omega (arith, length-over lo hi g t)))
-    (λ w a. over-below lo hi h (over lo hi g t) w a ∙ over-below lo hi g t w a)
-    (λ w a. over-above lo hi h (over lo hi g t) w a ∙ over-above lo hi g t w a)
-
--- writes to ranges that are apart may change places
-pub over-swap : (lo hi lo' hi' : ℕ) (g h : ℕ → ℕ) (t : List ℕ) → hi ≤ lo' → over lo' hi' h (over lo hi g t) ≡ over lo hi g (over lo' hi' h t)
-over-swap lo hi lo' hi' g h t a =
-    over-is lo hi g (over lo' hi' h t) (over lo' hi' h (over lo hi g t))
-    (length-over lo' hi' h (over lo hi g t) ∙ length-over lo hi g t ∙ sym (length-over lo' hi' h t))
-    (λ w b c l. over-below lo' hi' h (over lo hi g t) w (omega arith) ∙ over-in lo hi g t w b c (omega (arith, length-over lo' hi' h t)))
-    (λ w b. same w (over-below lo hi g t w b) (decLt w (length t)))
-    (λ w b. same w (over-above lo hi g t w b) (decLt w (length t)))
-  where
-    same : (w : ℕ) → getD (over lo hi g t) w 0 ≡ getD t w 0 → Dec (w < length t) → getD (over lo' hi' h (over lo hi g t)) w 0 ≡ getD (over lo' hi' h t) w 0
-    same w e (yes l) =
-        getD-over lo' hi' h (over lo hi g t) w (omega (arith, length-over lo hi g t))
-        ∙ ap (λ (x : ℕ). cond (from-to lo' hi' w) (h w) x) e ∙ sym (getD-over lo' hi' h t w l)
-    same w e (no l) =
-        List·getD-eq-default (over lo' hi' h (over lo hi g t)) 0 (omega (arith, length-over lo' hi' h (over lo hi g t), length-over lo hi g t))
-        ∙ sym (List·getD-eq-default (over lo' hi' h t) 0 (omega (arith, length-over lo' hi' h t)))
 
 -- one word more, at the upper end and at the lower
 pub over-up : (lo k : ℕ) (g : ℕ → ℕ) (t : List ℕ) → lo ≤ k → k < length t → set (over lo k g t) k (g k) ≡ over lo (k + 1) g t
@@ -213,10 +181,6 @@ written-block {lo} {k} {k'} {g} {h} {t} {s} r a b e =
       is = over-ext k k' h g s (λ w c d l. e w c d (omega (arith, r .long))) ∙ ap (over k k' g) (r .is) ∙ over-join lo k k' g t a b;
       long = length-over k k' h s ∙ r .long;
     }
-
--- a word that is read inside the range is the new one; above and below it is the old one
-pub written-in : {lo hi : ℕ} {g : ℕ → ℕ} {t s : List ℕ} → Written lo hi g t s → (w : ℕ) → lo ≤ w → w < hi → w < length t → getD s w 0 ≡ g w
-written-in {lo} {hi} {g} {t} r w a b h = ap (λ (l : List ℕ). getD l w 0) (r .is) ∙ over-in lo hi g t w a b h
 
 pub written-above : {lo hi : ℕ} {g : ℕ → ℕ} {t s : List ℕ} → Written lo hi g t s → (w : ℕ) → hi ≤ w → getD s w 0 ≡ getD t w 0
 written-above {lo} {hi} {g} {t} r w h = ap (λ (l : List ℕ). getD l w 0) (r .is) ∙ over-above lo hi g t w h

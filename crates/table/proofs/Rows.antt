@@ -1,21 +1,20 @@
 -- Sets in a list of words: each depends on its own words alone, so a write elsewhere leaves it (`row-below`, `row-above`), and a write to its own words is read back digit by digit.
 use mathlib.Core.Path.{_≡_, refl, sym, ap, _∙_}
-use mathlib.Core.Bool.{Bool, true, false, _&&_, _||_}
+use mathlib.Core.Bool.{Bool, true, false, _&&_}
 use mathlib.Core.List.{List, [], _∷_}
 use Prim.Native.Nat.{ℕ, _+_, _/_, _%_, _≤_, _<_}
-use native.Mathlib.Nat.{zero-add, add-zero}
+use native.Mathlib.Nat.{add-zero}
 use native.Mathlib.Decide.{decLt}
 use native.Mathlib.Omega.{arith}
-use lib.Bits.{bitOr}
 use lib.Dec.{ltb}
 use lib.ListN.{length, getD, List·getD-eq-default}
 use borrow.Author.Tests.{lt-ltb, le-ltb, ltb-true}
 use mir.Syntax.{w64}
 use mir.Val.{Fits}
 use Rattle.sets.specs.Set.{on, has, setOf, emptySet}
-use Rattle.sets.proofs.Laws.{fourOf, getD-fourOf, on-zero, on-or, words-fourOf, by-members, setOf-ext}
+use Rattle.sets.proofs.Laws.{fourOf, getD-fourOf, on-zero, words-fourOf, by-members, setOf-ext}
 use Rattle.table.specs.Layout.{maxPositions, rowHas}
-use Rattle.table.proofs.Over.{over, over-in, over-below, over-above}
+use Rattle.table.proofs.Over.{over, over-below, over-above}
 
 -- what is asked below a limit only is settled there
 pub under : {A : Type 0} (n k : ℕ) (f g : Bool → A) → (k < n → f true ≡ g true) → f false ≡ g false → f (ltb k n) ≡ g (ltb k n)
@@ -80,19 +79,6 @@ pub row-cut : (t : List ℕ) (at b c : ℕ) → ((i : ℕ) → Fits w64 (getD t 
 row-cut t at b c small h eb ec =
     (λ i. getD t at 0 ∷ eb i ∷ ec i ∷ sym (List·getD-eq-default t 0 h) i ∷ []) ∙ row-words t at small
 
--- a list of four words is the set in its front
-pub row-whole : (s : List ℕ) (q : ℕ) → q < maxPositions → rowHas s 0 q ≡ has s q
-unfolding has
-row-whole s q h = row-member s 0 q h ∙ ap (λ (i : ℕ). on (getD s i 0) (q % 64)) (zero-add (q / 64))
-
--- words or-ed with those of s: the set gains the members of s
-pub row-or : (t u s : List ℕ) (at : ℕ) → ((i : ℕ) → i < 4 → getD u (at + i) 0 ≡ bitOr (getD t (at + i) 0) (getD s i 0))
-    → (q : ℕ) → q < maxPositions → rowHas u at q ≡ (rowHas t at q || has s q)
-unfolding has
-row-or t u s at e q h =
-    row-member u at q h ∙ ap (λ (x : ℕ). on x (q % 64)) (e (q / 64) (omega arith)) ∙ on-or (getD t (at + q / 64) 0) (getD s (q / 64) 0) (q % 64)
-    ∙ ap (λ (b : Bool). b || has s q) (sym (row-member t at q h))
-
 -- ---- after a write
 
 module _ (lo hi : ℕ) (g : ℕ → ℕ) (t : List ℕ) where
@@ -102,8 +88,3 @@ module _ (lo hi : ℕ) (g : ℕ → ℕ) (t : List ℕ) where
 
   pub row-above : (at : ℕ) → hi ≤ at → (q : ℕ) → rowHas (over lo hi g t) at q ≡ rowHas t at q
   row-above at h = row-same (over lo hi g t) t at at (λ i l. over-above lo hi g t (at + i) (omega arith))
-
-  -- inside, its members are the digits of the new words
-  pub row-in : (at : ℕ) → lo ≤ at → at + 4 ≤ hi → at + 4 ≤ length t → (q : ℕ) → q < maxPositions → rowHas (over lo hi g t) at q ≡ on (g (at + q / 64)) (q % 64)
-  row-in at a b l q h =
-      row-member (over lo hi g t) at q h ∙ ap (λ (x : ℕ). on x (q % 64)) (over-in lo hi g t (at + q / 64) (omega arith) (omega arith) (omega arith))

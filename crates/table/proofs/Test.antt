@@ -70,14 +70,14 @@ pub record Passes (t : List ℕ) : Type 0 where
   pub small : (a : ℕ) → a < rulesOf t → idWord t a < 2 ^ 32
 
 -- ids that rise from each to the next rise from each to every later one
-rise : (t : List ℕ) (n : ℕ) → ((a : ℕ) → a < n → Fine t a) → (a b : ℕ) → a < b → b < n → idWord t a < idWord t b
+pub rise : (t : List ℕ) (n : ℕ) → ((a : ℕ) → a < n → leastId t a ≤ idWord t a) → (a b : ℕ) → a < b → b < n → idWord t a < idWord t b
 rise t n f a zero h l = absurd (not-suc-le-zero h)
 rise t n f a (suc b) h l =
     ⊎-elim (λ e. subst (λ (c : ℕ). idWord t c < idWord t (suc b)) (sym e) next)
     (λ m. lt-trans (rise t n f a b m (omega arith)) next) (eq-or-lt-of-le (le-of-suc-le-suc h))
   where
     next : idWord t b < idWord t (suc b)
-    next = f (suc b) l .least
+    next = f (suc b) l
 
 pub passes : (t : List ℕ) → isTable t ≡ true → Passes t
 unfolding isTable
@@ -92,7 +92,7 @@ passes t e =
       marked = eqb-true (getD t 0 0) format (q .0);
       rules = leb-true (rulesOf t) maxRules (r .0);
       positions = leb-true (positionsOf t) maxPositions (s .0);
-      rising = rise t (rulesOf t) each;
+      rising = rise t (rulesOf t) (λ a h. each a h .least);
       small = λ a h. each a h .small;
     }
 

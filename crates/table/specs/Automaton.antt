@@ -1,5 +1,6 @@
--- The automaton that the words of a table describe, as sets of positions. "Any other words that pass are scanned as the automaton they describe."
--- It looks at the first 16,384 words only. Assumes nothing: these are definitions.
+-- The automaton that the words of a table describe, as sets of positions. "Any other words that
+-- pass are scanned as the automaton they describe." It looks at the first 16,384 words only.
+-- Assumes nothing: these are definitions.
 use mathlib.Core.Bool.{Bool, cond, not, _&&_, _||_}
 use mathlib.Core.List.{List}
 use Prim.Native.Nat.{ℕ}
@@ -49,7 +50,8 @@ automaton t = record {
 abbrev pub last : Automaton → (gap a p : ℕ) → Bool
 last w g a p = w .ending g p && eqb (w .owner p) a
 
--- position q can take byte x, the first of a match after a gap: inside a stream, only where a match can begin with x
+-- position q can take byte x, the first of a match after a gap: inside a stream, only where a match
+-- can begin with x
 abbrev pub starts : Automaton → (gap x q : ℕ) → Bool
 starts w g x q = w .first g q && (leb innerGaps g || w .opens x)
 

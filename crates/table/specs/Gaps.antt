@@ -1,5 +1,6 @@
--- The gaps of a stream by number: a table has a set for each. A gap's number says what its two sides are to the assertions, and no more: where neither side is a
--- newline, it counts only whether the two sides are alike. Assumes nothing: these are definitions.
+-- The gaps of a stream by number: a table has a set for each. A gap's number says what its two
+-- sides are to the assertions, and no more: where neither side is a newline, it counts only whether
+-- the two sides are alike. Assumes nothing: these are definitions.
 use mathlib.Core.Bool.{Bool, cond}
 use Prim.Native.Nat.{ℕ}
 use lib.Dec.{eqb}
@@ -43,8 +44,9 @@ atStart Newline = 15
 abbrev pub startOfLast : ℕ
 startOfLast = 16
 
--- For how many gaps, from number 0 on, there are follow sets, last sets and first sets: positions follow one another between two bytes, a match ends after a byte, and the first
--- sets of gaps 10 to 12 are not used.
+-- For how many gaps, from number 0 on, there are follow sets, last sets and first sets: positions
+-- follow one another between two bytes, a match ends after a byte, and the first sets of gaps 10 to
+-- 12 are not used.
 abbrev pub followGaps : ℕ
 followGaps = 10
 

@@ -1,11 +1,13 @@
--- What the private functions that write a table promise, those of the crate rules too: a list with some words given by their index. No public contract cites it.
+-- What the private functions that write a table promise, those of the crate rules too: a list with
+-- some words given by their index. No public contract cites it.
 use mathlib.Core.Bool.{cond}
 use mathlib.Core.List.{List, [], _∷_}
 use Prim.Native.Nat.{ℕ, suc, _+_, _-_}
 use lib.ListN.{getD}
 use Rattle.table.specs.Layout.{from-to}
 
--- t with g w at each place w from lo on and below hi, where t is the part of a list that begins at place i
+-- t with g w at each place w from lo on and below hi, where t is the part of a list that begins at
+-- place i
 unfoldable pub overFrom : (i lo hi : ℕ) → (ℕ → ℕ) → List ℕ → List ℕ
 overFrom i lo hi g [] = []
 overFrom i lo hi g (x ∷ t) = cond (from-to lo hi i) (g i) x ∷ overFrom (suc i) lo hi g t

@@ -1,4 +1,5 @@
--- The words of a rule table, by name; docs/TABLE.md lists them. Assumes nothing: these are definitions.
+-- The words of a rule table, by name; docs/TABLE.md lists them. Assumes nothing: these are
+-- definitions.
 use mathlib.Core.Bool.{Bool, _&&_}
 use mathlib.Core.List.{List}
 use Prim.Native.Nat.{ℕ, _+_, _*_, _/_, _%_}
@@ -6,7 +7,8 @@ use lib.Dec.{leb, ltb}
 use lib.ListN.{getD}
 use Rattle.sets.specs.Set.{on}
 
--- "The table becomes 16,384 words"; "words beyond are never touched." "Raise the rules in a table to 64"; "Positions in a table: 256."
+-- "The table becomes 16,384 words"; "words beyond are never touched." "Raise the rules in a table
+-- to 64"; "Positions in a table: 256."
 abbrev pub tableWords : ℕ
 tableWords = 16384
 
@@ -62,7 +64,8 @@ openerAt x = 192 + x
 abbrev pub ownerAt : ℕ → ℕ
 ownerAt p = 448 + p
 
--- for each byte the set of positions that take it; for each gap between two bytes and each position the set of those that can follow it there
+-- for each byte the set of positions that take it; for each gap between two bytes and each position
+-- the set of those that can follow it there
 abbrev pub takersAt : ℕ → ℕ
 takersAt x = 4096 + x * 4
 

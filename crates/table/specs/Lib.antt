@@ -1,5 +1,5 @@
--- The rule table: its words by name, the gaps that its sets go by, the test, the automaton that its words describe. Apart from these, Invariants has what private
--- functions promise.
+-- The rule table: its words by name, the gaps that its sets go by, the test, the automaton that its
+-- words describe. Apart from these, Invariants has what private functions promise.
 pub mod Layout
 pub mod Gaps
 pub mod Table

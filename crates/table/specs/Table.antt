@@ -6,11 +6,13 @@ use lib.Dec.{eqb, leb, ltb}
 use lib.ListN.{length, getD, drop, replicate}
 use Rattle.table.specs.Layout.{tableWords, maxRules, maxPositions, format, rulesOf, positionsOf, idWord}
 
--- "Flags, values from Hyperscan's API reference: 1 caseless, 2 dot matches all, 8 single match." "Add flag 4"
+-- "Flags, values from Hyperscan's API reference: 1 caseless, 2 dot matches all, 8 single match."
+-- "Add flag 4"
 abbrev pub knownFlags : ℕ
 knownFlags = 15
 
--- the least id that the rule in place a may have: "Ids: any 32-bit number, each once", and the ids rise
+-- the least id that the rule in place a may have: "Ids: any 32-bit number, each once", and the ids
+-- rise
 abbrev pub leastId : List ℕ → ℕ → ℕ
 leastId t zero = 0
 leastId t (suc a) = suc (idWord t a)
@@ -24,8 +26,8 @@ unfoldable pub all : ℕ → (ℕ → Bool) → Bool
 all zero f = true
 all (suc n) f = all n f && f n
 
--- "The table's layout is the team's, written in docs/, with a yes-or-no test for any words": enough words, the format, counts within the limits, ids in
--- order
+-- "The table's layout is the team's, written in docs/, with a yes-or-no test for any words": enough
+-- words, the format, counts within the limits, ids in order
 unfoldable pub isTable : List ℕ → Bool
 isTable t =
     leb tableWords (length t)

@@ -1,4 +1,5 @@
-// The gaps of a stream by number, as specs/Gaps.antt has them: which of a table's sets are meant at a gap.
+// The gaps of a stream by number, as specs/Gaps.antt has them: which of a table's sets are meant at
+// a gap.
 use kinds::Side;
 ghost use mathlib.Core.Path.{_≡_};
 ghost use Rattle.table.specs.Gaps.{between, beforeLast, atEnd, atStart, gapOf, firstGap};
@@ -8,7 +9,8 @@ pub const UNSETTLED: usize = 10;
 
 pub const START_OF_LAST: usize = 16;
 
-// How many gaps positions follow one another at, matches end at, and matches start at; and how many lie between two bytes where no newline is the last byte.
+// How many gaps positions follow one another at, matches end at, and matches start at; and how many
+// lie between two bytes where no newline is the last byte.
 pub const FOLLOW_GAPS: usize = 10;
 
 pub const LAST_GAPS: usize = 13;

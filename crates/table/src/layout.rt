@@ -1,4 +1,5 @@
-// The words of a rule table by name, as specs/Layout.antt has them and docs/TABLE.md lists them. Every crate that reads or writes a table takes them from here.
+// The words of a rule table by name, as specs/Layout.antt has them and docs/TABLE.md lists them.
+// Every crate that reads or writes a table takes them from here.
 
 // How many words a table has, and the limits.
 pub const TABLE_WORDS: usize = 16384;
@@ -10,7 +11,8 @@ pub const MAX_POSITIONS: u64 = 256;
 // The format word, at FORMAT_AT: the bytes `watcher4` as a number.
 pub const FORMAT: u64 = 0x7761_7463_6865_7234;
 
-// The header: the format, the two counts, and the single-match rules, a digit for each rule's place.
+// The header: the format, the two counts, and the single-match rules, a digit for each rule's
+// place.
 pub const FORMAT_AT: usize = 0;
 
 pub const RULES_AT: usize = 1;
@@ -19,22 +21,25 @@ pub const POSITIONS_AT: usize = 2;
 
 pub const SINGLES_AT: usize = 3;
 
-// For each gap the set of positions that can end a match there; the set of those that can only where the next byte allows it; for each gap the set of those that can
-// take the first byte of a match after it.
+// For each gap the set of positions that can end a match there; the set of those that can only
+// where the next byte allows it; for each gap the set of those that can take the first byte of a
+// match after it.
 pub const LAST_AT: usize = 4;
 
 pub const LATES_AT: usize = 56;
 
 pub const FIRST_AT: usize = 60;
 
-// The rules' ids, rising; for each byte a word that is not 0 where a match can begin with it inside a stream; for each position the place of its rule.
+// The rules' ids, rising; for each byte a word that is not 0 where a match can begin with it inside
+// a stream; for each position the place of its rule.
 pub const IDS_AT: usize = 128;
 
 pub const OPENERS_AT: usize = 192;
 
 pub const OWNERS_AT: usize = 448;
 
-// Sets of positions, of four words each: for each byte those that take it; for each gap between two bytes, and for each position, those that can follow it there.
+// Sets of positions, of four words each: for each byte those that take it; for each gap between two
+// bytes, and for each position, those that can follow it there.
 pub const SET_WORDS: usize = 4;
 
 pub const TAKERS_AT: usize = 4096;
@@ -43,7 +48,8 @@ pub const FOLLOW_AT: usize = 5120;
 
 pub const FOLLOW_WORDS: usize = 1024;
 
-// An id has 32 bits. The flags are 1, 2, 4 and 8: caseless, dot matches all, line mode, single match.
+// An id has 32 bits. The flags are 1, 2, 4 and 8: caseless, dot matches all, line mode, single
+// match.
 pub const ID_LIMIT: u64 = 0x1_0000_0000;
 
 pub const KNOWN_FLAGS: u64 = 15;

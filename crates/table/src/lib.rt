@@ -1,7 +1,8 @@
-// The rule table: 16,384 words that the caller lends. This crate has its layout, the gaps that its sets go by, the yes-or-no test for any words, emptying, and the
-// reading of a word and of a set.
-// Nothing is required of a caller. docs/TABLE.md lists the words; specs/Layout.antt names them, specs/Gaps.antt the gaps, specs/Table.antt is the test,
-// specs/Automaton.antt says what passing words describe.
+// The rule table: 16,384 words that the caller lends. This crate has its layout, the gaps that its
+// sets go by, the yes-or-no test for any words, emptying, and the reading of a word and of a set.
+// Nothing is required of a caller. docs/TABLE.md lists the words; specs/Layout.antt names them,
+// specs/Gaps.antt the gaps, specs/Table.antt is the test, specs/Automaton.antt says what passing
+// words describe.
 pub mod gaps;
 pub mod layout;
 
@@ -55,23 +56,23 @@ pub fn row(words: &[u64], at: usize) -> [u64; 4]
     [words[at], words[at + 1], words[at + 2], words[at + 3]]
 }
 
-// Whether each of the ids is in order: of 32 bits, and above the one before.
+// Whether each of the ids is in order: of 32 bits, and above the one before. The loop has no way
+// out but its end, which is quicker where the ids are in order.
 fn ids_ok(words: &[u64], rules: usize) -> bool
     requires { ⌜ (tableWords ≤ length (now words)) × (rules ≤ maxRules) ⌝ }
     ensures { λ r. ⌜ r ≡ all rules (idOk (now (words .entry))) ⌝ }
 {
-    let mut least: u64 = 0;
-    let mut a: usize = 0;
-    while a < rules {
-        let id = words[IDS_AT + a];
-        if (least <= id) & (id < ID_LIMIT) {
-            least = id + 1;
-            a += 1;
-        } else {
-            return false;
-        }
+    if rules == 0 {
+        return true;
     }
-    true
+    let last = rules - 1;
+    let mut rise = true;
+    let mut a: usize = 0;
+    while a < last {
+        rise = rise & (words[IDS_AT + a] < words[IDS_AT + a + 1]);
+        a += 1;
+    }
+    rise & (words[IDS_AT + last] < ID_LIMIT)
 }
 
 // Whether the words are a table. It reads the header and the ids only, since it runs at every call.
@@ -95,7 +96,8 @@ pub fn is_table(words: &[u64]) -> bool
     ids_ok(words, rules as usize)
 }
 
-// Writes the empty table over the first 16,384 words; fewer words are left as they are, and refused.
+// Writes the empty table over the first 16,384 words; fewer words are left as they are, and
+// refused.
 pub fn empty(words: &mut [u64]) -> u32
     ensures { λ r. ⌜ (r ≡ emptyNumber (now (words .entry))) × (now (words .exit) ≡ emptied (now (words .entry))) ⌝ }
 {

@@ -16,17 +16,18 @@ use Rattle.table.specs.Table.{isTable, emptied}
 use Rattle.table.specs.Automaton.{automaton}
 use Rattle.table.proofs.Test.{passes}
 use Rattle.rules.specs.declared.Added.{Added}
-use Rattle.rules.specs.Add.{answer, addAnswer, addWords}
-use Rattle.rules.specs.Additions.{Addition}
+use Rattle.rules.specs.Add.{Addition, addition, answer, addAnswer, addWords}
+use Rattle.rules.specs.Additions.{Narrow}
 use Rattle.rules.specs.Encoded.{addAll}
 use Rattle.rules.proofs.Additions.{words-pass}
 use Rattle.stream.specs.declared.Stream.{Stream}
 use Rattle.stream.specs.declared.Scanned.{Scanned}
-use Rattle.stream.specs.Byte.{stateAfter}
+use Rattle.stream.specs.Byte.{after, plain, stateAfter}
 use Rattle.stream.specs.Valid.{streamLimit}
-use Rattle.stream.specs.Calls.{opened, space, scanned}
+use Rattle.stream.specs.Calls.{Call, lists, call, opened, space, scanned}
 use Rattle.stream.proofs.Accepting.{fitting, fitted, not-refused}
-use Rattle.stream.proofs.Blocks.{taken-after, closed-after, state-later}
+use Rattle.stream.proofs.Machines.{after-later}
+use Rattle.stream.proofs.Blocks.{taken-after, closed-after}
 use Rattle.stream.proofs.Results.{opened-stream, opened-valid, fitting-after, scan-number, taken-within, progress, scan-state}
 use Rattle.watcher.specs.Lines.{lineAnswer, lineWords}
 use Rattle.watcher.specs.Invariants.{FromEmpty, Running, Roomy}
@@ -46,28 +47,33 @@ module _ (t line : List ℕ) (r : RuleLine) (e : r ≡ ruleLineOf line) where
   malformed-line bad = rw (← e, bad) (refl, refl)
 
   pub rule-line-adds : r .good ≡ true → (a : Added) (u pattern : List ℕ) → pattern ≡ drop (r .pattern) line
-      → (a ≡ addAnswer t (r .id) (r .flags) pattern) × (u ≡ addWords t (r .id) (r .flags) pattern) → (a ≡ lineAnswer t line) × (u ≡ lineWords t line)
+      → (a ≡ addAnswer t (addition (r .id) (r .flags) pattern)) × (u ≡ addWords t (addition (r .id) (r .flags) pattern)) → (a ≡ lineAnswer t line) × (u ≡ lineWords t line)
   unfolding lineAnswer lineWords
   rule-line-adds good a u pattern p h = rw (← e, good, ← p) h
 
 -- one addition more
-all-more : (t : List ℕ) (l : List Addition) (a : Addition) → addAll t (l ++ (a ∷ [])) ≡ addWords (addAll t l) (a .id) (a .flags) (a .pattern)
+all-more : (t : List ℕ) (l : List Addition) (a : Addition) → addAll t (l ++ (a ∷ [])) ≡ addWords (addAll t l) a
 unfolding addAll
 all-more t [] a = refl
-all-more t (b ∷ l) a = all-more (addWords t (b .id) (b .flags) (b .pattern)) l a
+all-more t (b ∷ l) a = all-more (addWords t b) l a
+
+narrow-more : (l : List Addition) (a : Addition) → Narrow l → a .id < 2 ^ 32 → Narrow (l ++ (a ∷ []))
+unfolding Narrow
+narrow-more [] a h small = (small, tt)
+narrow-more (b ∷ l) a h small = (h .0, narrow-more l a (h .1) small)
 
 pub emptied-from : (t u : List ℕ) → tableWords ≤ length u → t ≡ emptied u → FromEmpty t
-unfolding addAll
-emptied-from t u h e = record { words = u; long = h; additions = []; same = e }
+unfolding addAll Narrow
+emptied-from t u h e = record { words = u; long = h; additions = []; narrow = tt; same = e }
 
-pub added-from : (t : List ℕ) → FromEmpty t → (id flags : ℕ) (pattern : List ℕ) → id < 2 ^ 32 → FromEmpty (addWords t id flags pattern)
-added-from t h id flags pattern small =
-    let a : Addition = record { id = id; narrow = small; flags = flags; pattern = pattern } in
+pub added-from : (t : List ℕ) → FromEmpty t → (a : Addition) → a .id < 2 ^ 32 → FromEmpty (addWords t a)
+added-from t h a small =
     record {
       words = h .words;
       long = h .long;
       additions = h .additions ++ (a ∷ []);
-      same = ap (λ (t : List ℕ). addWords t id flags pattern) (h .same) ∙ sym (all-more (emptied (h .words)) (h .additions) a);
+      narrow = narrow-more (h .additions) a (h .narrow) small;
+      same = ap (λ (t : List ℕ). addWords t a) (h .same) ∙ sym (all-more (emptied (h .words)) (h .additions) a);
     }
 
 -- what a line's words keep
@@ -75,12 +81,15 @@ pub line-kept : (t line : List ℕ) → FromEmpty t → FromEmpty (lineWords t l
 unfolding lineWords
 line-kept t line h = go (ruleLineOf line .good) refl
   where
-    go : (good : Bool) → ruleLineOf line .good ≡ good → FromEmpty (cond good (addWords t (ruleLineOf line .id) (ruleLineOf line .flags) (drop (ruleLineOf line .pattern) line)) t)
-    go true e = added-from t h (ruleLineOf line .id) (ruleLineOf line .flags) (drop (ruleLineOf line .pattern) line) (good-id line)
+    new : Addition
+    new = addition (ruleLineOf line .id) (ruleLineOf line .flags) (drop (ruleLineOf line .pattern) line)
+
+    go : (good : Bool) → ruleLineOf line .good ≡ good → FromEmpty (cond good (addWords t new) t)
+    go true e = added-from t h new (good-id line)
     go false e = h
 
 pub is-table : (t : List ℕ) → FromEmpty t → isTable t ≡ true
-is-table t h = ap isTable (h .same) ∙ words-pass (h .words) (h .additions) (h .long)
+is-table t h = ap isTable (h .same) ∙ words-pass (h .words) (h .additions) (h .long) (h .narrow)
 
 -- the loop over the lines: the words are a table's, and there are no more lines than bytes passed
 pub record Passed (words₀ text out₀ words out : List ℕ) (from line at : ℕ) : Type 0 where
@@ -108,24 +117,27 @@ runs-after t s block k h l =
     }
 
 -- the program sets no limit to the work of a scan
-abbrev noLimit : ℕ
-noLimit = 0xffff_ffff_ffff_ffff
+abbrev unlimited : (block ids offsets : List ℕ) → Call
+unlimited block ids offsets = call 0xffff_ffff_ffff_ffff block (lists ids offsets)
 
 -- a scan of a running stream is accepted: it takes a byte, and its state is that after the bytes taken
 module _ (t : List ℕ) (s : Stream) (block ids offsets : List ℕ) (h : Running t s) (short : s .taken + length block ≤ streamLimit) (room : Roomy ids offsets) where
+  abbrev c : Call
+  c = unlimited block ids offsets
+
   abbrev r : Scanned
-  r = scanned t s noLimit block ids offsets
+  r = scanned t s c
 
   number : r .number ≡ 0
   number =
-      scan-number t s noLimit block ids offsets
-      ∙ sym (not-refused t s (length block) (space ids offsets) (h .table) (h .fits) (h .going) (omega arith) (omega (arith, passes t (h .table) .rules)))
+      scan-number t s c
+      ∙ sym (not-refused t s (length block) (space (c .slots)) (h .table) (h .fits) (h .going) (omega arith) (omega (arith, passes t (h .table) .rules)))
 
   takes-some : 0 < length block → 0 < r .taken
-  takes-some = progress t s noLimit block ids offsets number (omega arith)
+  takes-some = progress t s c number (omega arith)
 
   state-after : r .stream ≡ stateAfter (automaton t) s block (r .taken)
-  state-after = scan-state t s noLimit block ids offsets number
+  state-after = scan-state t s c number
 
 -- the loop over a block: the bytes passed are taken
 pub record Half (t block : List ℕ) (s now : Stream) (from : ℕ) : Type 0 where
@@ -147,13 +159,13 @@ module _ (t block : List ℕ) (s now : Stream) (from : ℕ) (ids offsets : List 
   fits = omega (arith, left, taken-now, half .passed)
 
   abbrev next : Scanned
-  next = scanned t now noLimit (drop from block) ids offsets
+  next = scanned t now (unlimited (drop from block) ids offsets)
 
   pub next-some : from < length block → 0 < next .taken
   next-some l = takes-some t now (drop from block) ids offsets runs fits room (omega (arith, left))
 
   pub next-within : from + next .taken ≤ length block
-  next-within = omega (arith, left, half .passed, taken-within t now noLimit (drop from block) ids offsets)
+  next-within = omega (arith, left, half .passed, taken-within t now (unlimited (drop from block) ids offsets))
 
   pub next-half : Half t block s (next .stream) (from + next .taken)
   next-half =
@@ -162,7 +174,7 @@ module _ (t block : List ℕ) (s now : Stream) (from : ℕ) (ids offsets : List 
         state =
             state-after t now (drop from block) ids offsets runs fits room
             ∙ ap (λ (x : Stream). stateAfter (automaton t) x (drop from block) (next .taken)) (half .state)
-            ∙ sym (state-later (automaton t) s block from (next .taken));
+            ∙ sym (after-later (plain (automaton t)) s block from (next .taken));
       }
 
 -- what the loop keeps besides: the lists and the buffer keep their lengths
@@ -173,7 +185,7 @@ pub record Block (t block ids₀ offsets₀ out₀ : List ℕ) (s : Stream) (ids
   pub out-same : length out ≡ length out₀
 
 pub begins : (t block ids offsets out : List ℕ) (s : Stream) → Block t block ids offsets out s ids offsets out s 0
-unfolding stateAfter
+unfolding after
 begins t block ids offsets out s =
     record { half = record { passed = omega arith; state = refl }; ids-same = refl; offsets-same = refl; out-same = refl }
 
@@ -185,9 +197,9 @@ whole t block s now from h end = let n : from ≡ length block = omega (arith, h
 -- the next scan, of the rest as a part of the block
 module _ (t block : List ℕ) (s now : Stream) (from : ℕ) (h : Running t s × (s .taken + length block ≤ streamLimit)) (half : Half t block s now from)
     (l : from < length block) (ids offsets : List ℕ) (room : Roomy ids offsets) (r : Scanned)
-    (e : r ≡ scanned t now noLimit (take (length block - from) (drop from block)) ids offsets) where
-  answer-is : r ≡ scanned t now noLimit (drop from block) ids offsets
-  answer-is = e ∙ ap (λ (rest : List ℕ). scanned t now noLimit rest ids offsets) (rest-is block from)
+    (e : r ≡ scanned t now (unlimited (take (length block - from) (drop from block)) ids offsets)) where
+  answer-is : r ≡ scanned t now (unlimited (drop from block) ids offsets)
+  answer-is = e ∙ ap (λ (rest : List ℕ). scanned t now (unlimited rest ids offsets)) (rest-is block from)
 
   pub scan-takes : (0 < r .taken) × (from + r .taken ≤ length block)
   scan-takes = rw answer-is (next-some t block s now from ids offsets (h .0) (h .1) half room l, next-within t block s now from ids offsets (h .0) (h .1) half room)

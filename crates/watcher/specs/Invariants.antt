@@ -1,5 +1,6 @@
--- What the private functions keep, so that no call of the library is refused but for a rule: the words are an emptied table with additions, the stream fits
--- them, and every byte of a block is taken.
+-- What the private functions keep, so that no call of the library is refused but for a rule: the
+-- words are an emptied table with additions, the stream fits them, and every byte of a block is
+-- taken.
 use mathlib.Core.Path.{_≡_}
 use mathlib.Core.Bool.{Bool, true, false}
 use mathlib.Core.List.{List}
@@ -8,7 +9,8 @@ use lib.ListN.{length}
 use Rattle.table.specs.Layout.{tableWords, maxRules}
 use Rattle.table.specs.Table.{isTable, emptied}
 use Rattle.table.specs.Automaton.{automaton}
-use Rattle.rules.specs.Additions.{Addition}
+use Rattle.rules.specs.Add.{Addition}
+use Rattle.rules.specs.Additions.{Narrow}
 use Rattle.rules.specs.Encoded.{addAll}
 use Rattle.stream.specs.declared.Stream.{Stream}
 use Rattle.stream.specs.Byte.{stateAfter}
@@ -19,6 +21,7 @@ pub record FromEmpty (t : List ℕ) : Type 0 where
   pub words : List ℕ
   pub long : tableWords ≤ length words
   pub additions : List Addition
+  pub narrow : Narrow additions
   pub same : t ≡ addAll (emptied words) additions
 
 -- a stream that no scan refuses for its words or its state

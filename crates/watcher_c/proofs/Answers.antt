@@ -11,9 +11,9 @@ use Rattle.stream.specs.declared.Opened.{Opened}
 use Rattle.stream.specs.declared.Scanned.{Scanned}
 use Rattle.stream.specs.declared.Closed.{Closed}
 use Rattle.stream.specs.Byte.{busyOf}
-use Rattle.stream.specs.Calls.{opened, scanned, scannedIds, scannedOffsets, closed, closedIds, closedOffsets}
+use Rattle.stream.specs.Calls.{Lists, Call, opened, scanned, scannedLists, closed, closedLists}
 use Rattle.watcher_c.specs.State.{stateWords, short, stateOf, stored}
-use Rattle.watcher_c.specs.Interface.{shortState, openNumber, openState, scanAnswer, scanState, scanIds, scanOffsets, closeAnswer, closeState, closeIds, closeOffsets, busyFigure}
+use Rattle.watcher_c.specs.Interface.{shortState, openNumber, openState, scanAnswer, scanState, scanLists, closeAnswer, closeState, closeLists, busyFigure}
 
 is-short : (state : List ℕ) → length state < stateWords → short state ≡ true
 is-short state h = lt-ltb (length state) stateWords h
@@ -47,74 +47,63 @@ busy-long state s r h e f = f ∙ ap busyOf e ∙ sym (ap (λ (b : Bool). cond b
 
 -- ---- scanning
 
-module _ (t state : List ℕ) (allowance : ℕ) (block ids offsets : List ℕ) where
-  -- what a scan leaves: the number, the state, both lists, the bytes taken, the count of reports, the units used
-  abbrev pub ScanLeaves : (number : ℕ) → (state′ ids′ offsets′ : List ℕ) → (taken reports used : ℕ) → Type 0
-  ScanLeaves number state′ ids′ offsets′ taken reports used =
-      (number ≡ scanAnswer t state allowance block ids offsets .number)
-      × ((state′ ≡ scanState t state allowance block ids offsets)
-      × ((ids′ ≡ scanIds t state allowance block ids offsets)
-      × ((offsets′ ≡ scanOffsets t state allowance block ids offsets)
-      × ((taken ≡ scanAnswer t state allowance block ids offsets .taken)
-      × ((reports ≡ scanAnswer t state allowance block ids offsets .reports) × (used ≡ scanAnswer t state allowance block ids offsets .used))))))
+module _ (t state : List ℕ) (c : Call) where
+  -- what a scan leaves: the number, the state, the lists, the bytes taken, the count of reports, the units used
+  abbrev pub ScanLeaves : (number : ℕ) → (state′ : List ℕ) → (l′ : Lists) → (taken reports used : ℕ) → Type 0
+  ScanLeaves number state′ l′ taken reports used =
+      (number ≡ scanAnswer t state c .number)
+      × ((state′ ≡ scanState t state c)
+      × ((l′ ≡ scanLists t state c)
+      × ((taken ≡ scanAnswer t state c .taken)
+      × ((reports ≡ scanAnswer t state c .reports) × (used ≡ scanAnswer t state c .used)))))
 
   abbrev none-scan : Scanned
   none-scan = record { number = shortState; taken = 0; reports = 0; used = 0; stream = stateOf state }
 
   module _ (h : length state < stateWords) where
-    scan-none : none-scan ≡ scanAnswer t state allowance block ids offsets
+    scan-none : none-scan ≡ scanAnswer t state c
     unfolding scanAnswer
-    scan-none = sym (ap (λ (b : Bool). cond b none-scan (scanned t (stateOf state) allowance block ids offsets)) (is-short state h))
+    scan-none = sym (ap (λ (b : Bool). cond b none-scan (scanned t (stateOf state) c)) (is-short state h))
 
-    scan-none-state : state ≡ scanState t state allowance block ids offsets
+    scan-none-state : state ≡ scanState t state c
     unfolding scanState
     scan-none-state = ap (λ (a : Scanned). cond (eqb (a .number) 0) (stored (a .stream) state) state) scan-none
 
-    scan-none-ids : ids ≡ scanIds t state allowance block ids offsets
-    unfolding scanIds
-    scan-none-ids = rw (is-short state h)
+    scan-none-lists : c .slots ≡ scanLists t state c
+    unfolding scanLists
+    scan-none-lists = rw (is-short state h)
 
-    scan-none-offsets : offsets ≡ scanOffsets t state allowance block ids offsets
-    unfolding scanOffsets
-    scan-none-offsets = rw (is-short state h)
-
-    pub scan-short : ScanLeaves shortState state ids offsets 0 0 0
-    scan-short = (ap (λ (a : Scanned). a .number) scan-none, (scan-none-state, (scan-none-ids, (scan-none-offsets, (ap (λ (a : Scanned). a .taken) scan-none, (ap (λ (a : Scanned). a .reports) scan-none, ap (λ (a : Scanned). a .used) scan-none))))))
+    pub scan-short : ScanLeaves shortState state (c .slots) 0 0 0
+    scan-short = (ap (λ (a : Scanned). a .number) scan-none, (scan-none-state, (scan-none-lists, (ap (λ (a : Scanned). a .taken) scan-none, (ap (λ (a : Scanned). a .reports) scan-none, ap (λ (a : Scanned). a .used) scan-none)))))
 
   -- a call on the state in the words
-  module _ {s : Stream} {r : Scanned} {ids′ offsets′ : List ℕ} (h : stateWords ≤ length state) (e : s ≡ stateOf state)
-      (answer : r ≡ scanned t s allowance block ids offsets) (ids-are : ids′ ≡ scannedIds t s allowance block ids offsets) (offsets-are : offsets′ ≡ scannedOffsets t s allowance block ids offsets) where
-    scan-is : r ≡ scanAnswer t state allowance block ids offsets
+  module _ {s : Stream} {r : Scanned} {l′ : Lists} (h : stateWords ≤ length state) (e : s ≡ stateOf state)
+      (answer : r ≡ scanned t s c) (lists-are : l′ ≡ scannedLists t s c) where
+    scan-is : r ≡ scanAnswer t state c
     unfolding scanAnswer
     scan-is =
-        answer ∙ ap (λ (s : Stream). scanned t s allowance block ids offsets) e
-        ∙ sym (ap (λ (b : Bool). cond b none-scan (scanned t (stateOf state) allowance block ids offsets)) (is-long state h))
+        answer ∙ ap (λ (s : Stream). scanned t s c) e
+        ∙ sym (ap (λ (b : Bool). cond b none-scan (scanned t (stateOf state) c)) (is-long state h))
 
-    scan-ids : ids′ ≡ scanIds t state allowance block ids offsets
-    unfolding scanIds
-    scan-ids =
-        ids-are ∙ ap (λ (s : Stream). scannedIds t s allowance block ids offsets) e
-        ∙ sym (ap (λ (b : Bool). cond b ids (scannedIds t (stateOf state) allowance block ids offsets)) (is-long state h))
+    scan-lists : l′ ≡ scanLists t state c
+    unfolding scanLists
+    scan-lists =
+        lists-are ∙ ap (λ (s : Stream). scannedLists t s c) e
+        ∙ sym (ap (λ (b : Bool). cond b (c .slots) (scannedLists t (stateOf state) c)) (is-long state h))
 
-    scan-offsets : offsets′ ≡ scanOffsets t state allowance block ids offsets
-    unfolding scanOffsets
-    scan-offsets =
-        offsets-are ∙ ap (λ (s : Stream). scannedOffsets t s allowance block ids offsets) e
-        ∙ sym (ap (λ (b : Bool). cond b offsets (scannedOffsets t (stateOf state) allowance block ids offsets)) (is-long state h))
-
-    scan-left : {state′ : List ℕ} → state′ ≡ scanState t state allowance block ids offsets → ScanLeaves (r .number) state′ ids′ offsets′ (r .taken) (r .reports) (r .used)
-    scan-left f = (ap (λ (a : Scanned). a .number) scan-is, (f, (scan-ids, (scan-offsets, (ap (λ (a : Scanned). a .taken) scan-is, (ap (λ (a : Scanned). a .reports) scan-is, ap (λ (a : Scanned). a .used) scan-is))))))
+    scan-left : {state′ : List ℕ} → state′ ≡ scanState t state c → ScanLeaves (r .number) state′ l′ (r .taken) (r .reports) (r .used)
+    scan-left f = (ap (λ (a : Scanned). a .number) scan-is, (f, (scan-lists, (ap (λ (a : Scanned). a .taken) scan-is, (ap (λ (a : Scanned). a .reports) scan-is, ap (λ (a : Scanned). a .used) scan-is)))))
 
     -- accepted, the state is stored
     pub scan-accepted : {state′ : List ℕ} → r .number ≡ 0 → state′ ≡ stored (r .stream) state
-        → ScanLeaves (r .number) state′ ids′ offsets′ (r .taken) (r .reports) (r .used)
+        → ScanLeaves (r .number) state′ l′ (r .taken) (r .reports) (r .used)
     unfolding scanState
     scan-accepted z f =
         scan-left (f ∙ sym (ap (λ (b : Bool). cond b (stored (r .stream) state) state) (eq-eqb (r .number) 0 z))
         ∙ ap (λ (a : Scanned). cond (eqb (a .number) 0) (stored (a .stream) state) state) scan-is)
 
     -- refused, it is kept
-    pub scan-refused : (r .number ≡ 0 → ⊥) → ScanLeaves (r .number) state ids′ offsets′ (r .taken) (r .reports) (r .used)
+    pub scan-refused : (r .number ≡ 0 → ⊥) → ScanLeaves (r .number) state l′ (r .taken) (r .reports) (r .used)
     unfolding scanState
     scan-refused z =
         scan-left (sym (ap (λ (b : Bool). cond b (stored (r .stream) state) state) (ne-eqb (r .number) 0 z))
@@ -122,73 +111,62 @@ module _ (t state : List ℕ) (allowance : ℕ) (block ids offsets : List ℕ) w
 
 -- ---- closing
 
-module _ (t state ids offsets : List ℕ) where
-  -- what a closing leaves: the number, the state, both lists, the count of reports
-  abbrev pub CloseLeaves : (number : ℕ) → (state′ ids′ offsets′ : List ℕ) → (reports : ℕ) → Type 0
-  CloseLeaves number state′ ids′ offsets′ reports =
-      (number ≡ closeAnswer t state ids offsets .number)
-      × ((state′ ≡ closeState t state ids offsets)
-      × ((ids′ ≡ closeIds t state ids offsets)
-      × ((offsets′ ≡ closeOffsets t state ids offsets)
-      × (reports ≡ closeAnswer t state ids offsets .reports))))
+module _ (t state : List ℕ) (l : Lists) where
+  -- what a closing leaves: the number, the state, the lists, the count of reports
+  abbrev pub CloseLeaves : (number : ℕ) → (state′ : List ℕ) → (l′ : Lists) → (reports : ℕ) → Type 0
+  CloseLeaves number state′ l′ reports =
+      (number ≡ closeAnswer t state l .number)
+      × ((state′ ≡ closeState t state l)
+      × ((l′ ≡ closeLists t state l)
+      × (reports ≡ closeAnswer t state l .reports)))
 
   abbrev none-close : Closed
   none-close = record { number = shortState; reports = 0; stream = stateOf state }
 
   module _ (h : length state < stateWords) where
-    close-none : none-close ≡ closeAnswer t state ids offsets
+    close-none : none-close ≡ closeAnswer t state l
     unfolding closeAnswer
-    close-none = sym (ap (λ (b : Bool). cond b none-close (closed t (stateOf state) ids offsets)) (is-short state h))
+    close-none = sym (ap (λ (b : Bool). cond b none-close (closed t (stateOf state) l)) (is-short state h))
 
-    close-none-state : state ≡ closeState t state ids offsets
+    close-none-state : state ≡ closeState t state l
     unfolding closeState
     close-none-state = ap (λ (a : Closed). cond (eqb (a .number) 0) (stored (a .stream) state) state) close-none
 
-    close-none-ids : ids ≡ closeIds t state ids offsets
-    unfolding closeIds
-    close-none-ids = rw (is-short state h)
+    close-none-lists : l ≡ closeLists t state l
+    unfolding closeLists
+    close-none-lists = rw (is-short state h)
 
-    close-none-offsets : offsets ≡ closeOffsets t state ids offsets
-    unfolding closeOffsets
-    close-none-offsets = rw (is-short state h)
-
-    pub close-short : CloseLeaves shortState state ids offsets 0
-    close-short = (ap (λ (a : Closed). a .number) close-none, (close-none-state, (close-none-ids, (close-none-offsets, ap (λ (a : Closed). a .reports) close-none))))
+    pub close-short : CloseLeaves shortState state l 0
+    close-short = (ap (λ (a : Closed). a .number) close-none, (close-none-state, (close-none-lists, ap (λ (a : Closed). a .reports) close-none)))
 
   -- a call on the state in the words
-  module _ {s : Stream} {r : Closed} {ids′ offsets′ : List ℕ} (h : stateWords ≤ length state) (e : s ≡ stateOf state)
-      (answer : r ≡ closed t s ids offsets) (ids-are : ids′ ≡ closedIds t s ids offsets) (offsets-are : offsets′ ≡ closedOffsets t s ids offsets) where
-    close-is : r ≡ closeAnswer t state ids offsets
+  module _ {s : Stream} {r : Closed} {l′ : Lists} (h : stateWords ≤ length state) (e : s ≡ stateOf state)
+      (answer : r ≡ closed t s l) (lists-are : l′ ≡ closedLists t s l) where
+    close-is : r ≡ closeAnswer t state l
     unfolding closeAnswer
     close-is =
-        answer ∙ ap (λ (s : Stream). closed t s ids offsets) e
-        ∙ sym (ap (λ (b : Bool). cond b none-close (closed t (stateOf state) ids offsets)) (is-long state h))
+        answer ∙ ap (λ (s : Stream). closed t s l) e
+        ∙ sym (ap (λ (b : Bool). cond b none-close (closed t (stateOf state) l)) (is-long state h))
 
-    close-ids : ids′ ≡ closeIds t state ids offsets
-    unfolding closeIds
-    close-ids =
-        ids-are ∙ ap (λ (s : Stream). closedIds t s ids offsets) e
-        ∙ sym (ap (λ (b : Bool). cond b ids (closedIds t (stateOf state) ids offsets)) (is-long state h))
+    close-lists : l′ ≡ closeLists t state l
+    unfolding closeLists
+    close-lists =
+        lists-are ∙ ap (λ (s : Stream). closedLists t s l) e
+        ∙ sym (ap (λ (b : Bool). cond b l (closedLists t (stateOf state) l)) (is-long state h))
 
-    close-offsets : offsets′ ≡ closeOffsets t state ids offsets
-    unfolding closeOffsets
-    close-offsets =
-        offsets-are ∙ ap (λ (s : Stream). closedOffsets t s ids offsets) e
-        ∙ sym (ap (λ (b : Bool). cond b offsets (closedOffsets t (stateOf state) ids offsets)) (is-long state h))
-
-    close-left : {state′ : List ℕ} → state′ ≡ closeState t state ids offsets → CloseLeaves (r .number) state′ ids′ offsets′ (r .reports)
-    close-left f = (ap (λ (a : Closed). a .number) close-is, (f, (close-ids, (close-offsets, ap (λ (a : Closed). a .reports) close-is))))
+    close-left : {state′ : List ℕ} → state′ ≡ closeState t state l → CloseLeaves (r .number) state′ l′ (r .reports)
+    close-left f = (ap (λ (a : Closed). a .number) close-is, (f, (close-lists, ap (λ (a : Closed). a .reports) close-is)))
 
     -- accepted, the state is stored
     pub close-accepted : {state′ : List ℕ} → r .number ≡ 0 → state′ ≡ stored (r .stream) state
-        → CloseLeaves (r .number) state′ ids′ offsets′ (r .reports)
+        → CloseLeaves (r .number) state′ l′ (r .reports)
     unfolding closeState
     close-accepted z f =
         close-left (f ∙ sym (ap (λ (b : Bool). cond b (stored (r .stream) state) state) (eq-eqb (r .number) 0 z))
         ∙ ap (λ (a : Closed). cond (eqb (a .number) 0) (stored (a .stream) state) state) close-is)
 
     -- refused, it is kept
-    pub close-refused : (r .number ≡ 0 → ⊥) → CloseLeaves (r .number) state ids′ offsets′ (r .reports)
+    pub close-refused : (r .number ≡ 0 → ⊥) → CloseLeaves (r .number) state l′ (r .reports)
     unfolding closeState
     close-refused z =
         close-left (sym (ap (λ (b : Bool). cond b (stored (r .stream) state) state) (ne-eqb (r .number) 0 z))

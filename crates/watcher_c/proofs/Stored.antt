@@ -20,8 +20,8 @@ use Rattle.stream.specs.declared.Stream.{Stream}
 use Rattle.stream.specs.declared.Opened.{Opened}
 use Rattle.stream.specs.declared.Scanned.{Scanned}
 use Rattle.stream.specs.declared.Closed.{Closed}
-use Rattle.stream.specs.Byte.{nextHeld, byteState, stateAfter, idsOf, costOf, closeIds}
-use Rattle.stream.specs.Calls.{fresh, space, opened, takenBy, scanNumber, scanned, closeNumber, closed, shut}
+use Rattle.stream.specs.Byte.{after, nextHeld, byteState, stateAfter, reportsOf, costOf, closeReports}
+use Rattle.stream.specs.Calls.{Lists, Call, fresh, space, opened, callNumber, takenBy, scanned, closeNumber, closed, shut}
 use Rattle.watcher_c.specs.State.{stateWords, short, sideIn, sideWord, stateOf, wordsOf, stored}
 use Rattle.watcher_c.specs.Interface.{shortState, openState, scanAnswer, scanState, closeAnswer, closeState}
 use Rattle.watcher_c.proofs.Words.{length-words}
@@ -71,7 +71,7 @@ module _ (s : Stream) (t : List ℕ) where
 
 -- both sets after some bytes are four words again
 after-four : (w : Automaton) (s : Stream) (block : List ℕ) (k : ℕ) → FourWords s → FourWords (stateAfter w s block k)
-unfolding stateAfter byteState nextHeld stepped emptySet
+unfolding after byteState nextHeld stepped emptySet
 after-four w s block zero e = e
 after-four w s block (suc k) e = (words-setOf _ .four, go (eqb (getD block k 0) 10))
   where
@@ -96,43 +96,43 @@ open-back t state e =
 
 -- ---- any scan and any closing: accepted, the new state was stored; refused, the old one stays and is what was handed back
 
-module _ (t state : List ℕ) (allowance : ℕ) (block ids offsets : List ℕ) where
-  pub scan-back : stateOf (scanState t state allowance block ids offsets) ≡ scanAnswer t state allowance block ids offsets .stream
+module _ (t state : List ℕ) (c : Call) where
+  pub scan-back : stateOf (scanState t state c) ≡ scanAnswer t state c .stream
   unfolding scanState scanAnswer scanned
   scan-back = go (short state) (eqb number 0) refl
     where
       number : ℕ
-      number = scanNumber t (stateOf state) (length block) (space ids offsets)
+      number = callNumber t (stateOf state) c
 
       k : ℕ
-      k = takenBy t (stateOf state) allowance block (space ids offsets)
+      k = takenBy t (stateOf state) c
 
-      after : Stream
-      after = stateAfter (automaton t) (stateOf state) block k
+      moved : Stream
+      moved = stateAfter (automaton t) (stateOf state) (c .block) k
 
       answer : (a b : Bool) → Scanned
       answer a b =
           cond a (record { number = shortState; taken = 0; reports = 0; used = 0; stream = stateOf state })
-          (cond b (record { number = 0; taken = k; reports = length (idsOf (automaton t) (stateOf state) block k); used = costOf (automaton t) (stateOf state) block k; stream = after })
+          (cond b (record { number = 0; taken = k; reports = length (reportsOf (automaton t) (stateOf state) (c .block) k); used = costOf (automaton t) (stateOf state) (c .block) k; stream = moved })
           (record { number = number; taken = 0; reports = 0; used = 0; stream = stateOf state }))
 
       go : (a b : Bool) → eqb number 0 ≡ b → stateOf (cond (eqb (answer a b .number) 0) (stored (answer a b .stream) state) state) ≡ answer a b .stream
       go true b z = refl
-      go false true z = read-back after state (after-four (automaton t) (stateOf state) block k (words-four state))
+      go false true z = read-back moved state (after-four (automaton t) (stateOf state) (c .block) k (words-four state))
       go false false z = ap (λ (c : Bool). stateOf (cond c (stored (stateOf state) state) state)) z
 
-module _ (t state ids offsets : List ℕ) where
-  pub close-back : stateOf (closeState t state ids offsets) ≡ closeAnswer t state ids offsets .stream
+module _ (t state : List ℕ) (l : Lists) where
+  pub close-back : stateOf (closeState t state l) ≡ closeAnswer t state l .stream
   unfolding closeState closeAnswer closed
   close-back = go (short state) (eqb number 0) refl
     where
       number : ℕ
-      number = closeNumber t (stateOf state) (space ids offsets)
+      number = closeNumber t (stateOf state) (space l)
 
       answer : (a b : Bool) → Closed
       answer a b =
           cond a (record { number = shortState; reports = 0; stream = stateOf state })
-          (cond b (record { number = 0; reports = length (closeIds (automaton t) (stateOf state)); stream = shut (stateOf state) })
+          (cond b (record { number = 0; reports = length (closeReports (automaton t) (stateOf state)); stream = shut (stateOf state) })
           (record { number = number; reports = 0; stream = stateOf state }))
 
       go : (a b : Bool) → eqb number 0 ≡ b → stateOf (cond (eqb (answer a b .number) 0) (stored (answer a b .stream) state) state) ≡ answer a b .stream

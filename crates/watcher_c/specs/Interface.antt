@@ -1,5 +1,7 @@
--- Each function for C: its number, and every lent word afterwards, for any words. The calls themselves are those of the crates table and stream; this adds
--- the state as words, and number 100 for a state of fewer than fifteen words, which changes nothing. Assumes nothing: these are definitions.
+-- Each function for C: its number, and every lent word afterwards, for any words. The calls
+-- themselves are those of the crates table and stream; this adds the state as words, and number 100
+-- for a state of fewer than fifteen words, which changes nothing. Assumes nothing: these are
+-- definitions.
 use mathlib.Core.Bool.{cond}
 use mathlib.Core.List.{List}
 use Prim.Native.Nat.{ℕ}
@@ -8,10 +10,11 @@ use Rattle.table.specs.Table.{isTable}
 use Rattle.stream.specs.declared.Scanned.{Scanned}
 use Rattle.stream.specs.declared.Closed.{Closed}
 use Rattle.stream.specs.Byte.{busyOf}
-use Rattle.stream.specs.Calls.{opened, scanned, scannedIds, scannedOffsets, closed, closedIds, closedOffsets}
+use Rattle.stream.specs.Calls.{Lists, Call, opened, scanned, scannedLists, closed, closedLists}
 use Rattle.watcher_c.specs.State.{short, stateOf, stored}
 
--- fewer than fifteen words lent for the state; numbers from 100 on are the interface's own, not the rules'
+-- fewer than fifteen words lent for the state; numbers from 100 on are the interface's own, not the
+-- rules'
 abbrev pub shortState : ℕ
 shortState = 100
 
@@ -26,34 +29,28 @@ openNumber t state = cond (short state) shortState (opened t .number)
 unfoldable pub openState : (t state : List ℕ) → List ℕ
 openState t state = cond (short state) state (stored (opened t .stream) state)
 
-module _ (t state : List ℕ) (allowance : ℕ) (block ids offsets : List ℕ) where
+module _ (t state : List ℕ) (c : Call) where
   -- what a scan of the state in these words answers
   unfoldable pub scanAnswer : Scanned
   scanAnswer =
-      cond (short state) (record { number = shortState; taken = 0; reports = 0; used = 0; stream = stateOf state }) (scanned t (stateOf state) allowance block ids offsets)
+      cond (short state) (record { number = shortState; taken = 0; reports = 0; used = 0; stream = stateOf state }) (scanned t (stateOf state) c)
 
   unfoldable pub scanState : List ℕ
   scanState = cond (eqb (scanAnswer .number) 0) (stored (scanAnswer .stream) state) state
 
-  unfoldable pub scanIds : List ℕ
-  scanIds = cond (short state) ids (scannedIds t (stateOf state) allowance block ids offsets)
+  unfoldable pub scanLists : Lists
+  scanLists = cond (short state) (c .slots) (scannedLists t (stateOf state) c)
 
-  unfoldable pub scanOffsets : List ℕ
-  scanOffsets = cond (short state) offsets (scannedOffsets t (stateOf state) allowance block ids offsets)
-
-module _ (t state ids offsets : List ℕ) where
+module _ (t state : List ℕ) (l : Lists) where
   -- what closing the state in these words answers
   unfoldable pub closeAnswer : Closed
-  closeAnswer = cond (short state) (record { number = shortState; reports = 0; stream = stateOf state }) (closed t (stateOf state) ids offsets)
+  closeAnswer = cond (short state) (record { number = shortState; reports = 0; stream = stateOf state }) (closed t (stateOf state) l)
 
   unfoldable pub closeState : List ℕ
   closeState = cond (eqb (closeAnswer .number) 0) (stored (closeAnswer .stream) state) state
 
-  unfoldable pub closeIds : List ℕ
-  closeIds = cond (short state) ids (closedIds t (stateOf state) ids offsets)
-
-  unfoldable pub closeOffsets : List ℕ
-  closeOffsets = cond (short state) offsets (closedOffsets t (stateOf state) ids offsets)
+  unfoldable pub closeLists : Lists
+  closeLists = cond (short state) l (closedLists t (stateOf state) l)
 
 -- the busy figure; fewer than fifteen words have none live
 unfoldable pub busyFigure : List ℕ → ℕ

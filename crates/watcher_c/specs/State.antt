@@ -1,5 +1,6 @@
--- The stream state as fifteen words that the caller owns: the live set's four, those of what is held, the marks, the held pairs, the last byte's side, the bytes taken,
--- the two counts, the closed word. Every fifteen words are some state. Assumes nothing: these are definitions.
+-- The stream state as fifteen words that the caller owns: the live set's four, those of what is
+-- held, the marks, the held pairs, the last byte's side, the bytes taken, the two counts, the
+-- closed word. Every fifteen words are some state. Assumes nothing: these are definitions.
 use mathlib.Core.Bool.{Bool, cond, not}
 use mathlib.Core.List.{List, [], _∷_, _++_}
 use Prim.Native.Nat.{ℕ}

@@ -1,5 +1,7 @@
-// The functions for C and Rust, over numbers and slices only: a slice is a pointer and a length there. The state is fifteen words that the caller owns. Nothing
-// is required of a caller but that its slices are what they say. specs/Interface.antt has each answer and every lent word afterwards.
+// The functions for C and Rust, over numbers and slices only: a slice is a pointer and a length
+// there. The state is fifteen words that the caller owns. Nothing is required of a caller but that
+// its slices are what they say. specs/Interface.antt has each answer and every lent word
+// afterwards.
 mod state;
 
 use state::STATE_WORDS;
@@ -8,11 +10,13 @@ use state::store;
 use stream::Stream;
 ghost use mathlib.Core.Path.{_≡_};
 ghost use Rattle.table.specs.Table.{emptyNumber, emptied};
-ghost use Rattle.rules.specs.Add.{addAnswer, addWords};
+ghost use Rattle.rules.specs.Add.{addition, addAnswer, addWords};
 ghost use Rattle.card.specs.Calls.{writeAnswer, writtenBlock, readAnswer, readWords};
-ghost use Rattle.watcher_c.specs.Interface.{testNumber, openNumber, openState, scanAnswer, scanState, scanIds, scanOffsets, closeAnswer, closeState, closeIds, closeOffsets, busyFigure};
+ghost use Rattle.stream.specs.Calls.{lists, call};
+ghost use Rattle.watcher_c.specs.Interface.{testNumber, openNumber, openState, scanAnswer, scanState, scanLists, closeAnswer, closeState, closeLists, busyFigure};
 
-// The number for a state of fewer than fifteen words. Numbers from 100 on are the interface's own, not the rules'.
+// The number for a state of fewer than fifteen words. Numbers from 100 on are the interface's own,
+// not the rules'.
 const SHORT_STATE: u32 = 100;
 
 // Writes the empty table.
@@ -41,9 +45,9 @@ pub extern "C" fn watcher_add(
     pattern: &[u8],
     place: &mut usize,
 ) -> u32
-    ensures answer { λ r. ⌜ r ≡ addAnswer (now (table .entry)) id flags (now (pattern .entry)) .number ⌝ }
-    ensures table { λ r. ⌜ now (table .exit) ≡ addWords (now (table .entry)) id flags (now (pattern .entry)) ⌝ }
-    ensures place { λ r. ⌜ now (place .exit) ≡ addAnswer (now (table .entry)) id flags (now (pattern .entry)) .place ⌝ }
+    ensures answer { λ r. ⌜ r ≡ addAnswer (now (table .entry)) (addition id flags (now (pattern .entry))) .number ⌝ }
+    ensures table { λ r. ⌜ now (table .exit) ≡ addWords (now (table .entry)) (addition id flags (now (pattern .entry))) ⌝ }
+    ensures place { λ r. ⌜ now (place .exit) ≡ addAnswer (now (table .entry)) (addition id flags (now (pattern .entry))) .place ⌝ }
 {
     let r = rules::add(table, id, flags, pattern);
     *place = r.place;
@@ -65,7 +69,8 @@ pub extern "C" fn watcher_open(table: &[u64], state: &mut [u64]) -> u32
     r.number
 }
 
-// Scans a block within an allowance of work, and says how many bytes it took, how many reports it wrote and how many units it used.
+// Scans a block within an allowance of work, and says how many bytes it took, how many reports it
+// wrote and how many units it used.
 #[no_mangle]
 pub extern "C" fn watcher_scan(
     table: &[u64],
@@ -78,13 +83,12 @@ pub extern "C" fn watcher_scan(
     reports: &mut usize,
     used: &mut u64,
 ) -> u32
-    ensures answer { λ r. ⌜ r ≡ scanAnswer (now (table .entry)) (now (state .entry)) allowance (now (block .entry)) (now (ids .entry)) (now (offsets .entry)) .number ⌝ }
-    ensures state { λ r. ⌜ now (state .exit) ≡ scanState (now (table .entry)) (now (state .entry)) allowance (now (block .entry)) (now (ids .entry)) (now (offsets .entry)) ⌝ }
-    ensures ids { λ r. ⌜ now (ids .exit) ≡ scanIds (now (table .entry)) (now (state .entry)) allowance (now (block .entry)) (now (ids .entry)) (now (offsets .entry)) ⌝ }
-    ensures offsets { λ r. ⌜ now (offsets .exit) ≡ scanOffsets (now (table .entry)) (now (state .entry)) allowance (now (block .entry)) (now (ids .entry)) (now (offsets .entry)) ⌝ }
-    ensures taken { λ r. ⌜ now (taken .exit) ≡ scanAnswer (now (table .entry)) (now (state .entry)) allowance (now (block .entry)) (now (ids .entry)) (now (offsets .entry)) .taken ⌝ }
-    ensures reports { λ r. ⌜ now (reports .exit) ≡ scanAnswer (now (table .entry)) (now (state .entry)) allowance (now (block .entry)) (now (ids .entry)) (now (offsets .entry)) .reports ⌝ }
-    ensures used { λ r. ⌜ now (used .exit) ≡ scanAnswer (now (table .entry)) (now (state .entry)) allowance (now (block .entry)) (now (ids .entry)) (now (offsets .entry)) .used ⌝ }
+    ensures answer { λ r. ⌜ r ≡ scanAnswer (now (table .entry)) (now (state .entry)) (call allowance (now (block .entry)) (lists (now (ids .entry)) (now (offsets .entry)))) .number ⌝ }
+    ensures state { λ r. ⌜ now (state .exit) ≡ scanState (now (table .entry)) (now (state .entry)) (call allowance (now (block .entry)) (lists (now (ids .entry)) (now (offsets .entry)))) ⌝ }
+    ensures lists { λ r. ⌜ lists (now (ids .exit)) (now (offsets .exit)) ≡ scanLists (now (table .entry)) (now (state .entry)) (call allowance (now (block .entry)) (lists (now (ids .entry)) (now (offsets .entry)))) ⌝ }
+    ensures taken { λ r. ⌜ now (taken .exit) ≡ scanAnswer (now (table .entry)) (now (state .entry)) (call allowance (now (block .entry)) (lists (now (ids .entry)) (now (offsets .entry)))) .taken ⌝ }
+    ensures reports { λ r. ⌜ now (reports .exit) ≡ scanAnswer (now (table .entry)) (now (state .entry)) (call allowance (now (block .entry)) (lists (now (ids .entry)) (now (offsets .entry)))) .reports ⌝ }
+    ensures used { λ r. ⌜ now (used .exit) ≡ scanAnswer (now (table .entry)) (now (state .entry)) (call allowance (now (block .entry)) (lists (now (ids .entry)) (now (offsets .entry)))) .used ⌝ }
 {
     if state.len() < STATE_WORDS {
         *taken = 0;
@@ -113,11 +117,10 @@ pub extern "C" fn watcher_close(
     offsets: &mut [u64],
     reports: &mut usize,
 ) -> u32
-    ensures answer { λ r. ⌜ r ≡ closeAnswer (now (table .entry)) (now (state .entry)) (now (ids .entry)) (now (offsets .entry)) .number ⌝ }
-    ensures state { λ r. ⌜ now (state .exit) ≡ closeState (now (table .entry)) (now (state .entry)) (now (ids .entry)) (now (offsets .entry)) ⌝ }
-    ensures ids { λ r. ⌜ now (ids .exit) ≡ closeIds (now (table .entry)) (now (state .entry)) (now (ids .entry)) (now (offsets .entry)) ⌝ }
-    ensures offsets { λ r. ⌜ now (offsets .exit) ≡ closeOffsets (now (table .entry)) (now (state .entry)) (now (ids .entry)) (now (offsets .entry)) ⌝ }
-    ensures reports { λ r. ⌜ now (reports .exit) ≡ closeAnswer (now (table .entry)) (now (state .entry)) (now (ids .entry)) (now (offsets .entry)) .reports ⌝ }
+    ensures answer { λ r. ⌜ r ≡ closeAnswer (now (table .entry)) (now (state .entry)) (lists (now (ids .entry)) (now (offsets .entry))) .number ⌝ }
+    ensures state { λ r. ⌜ now (state .exit) ≡ closeState (now (table .entry)) (now (state .entry)) (lists (now (ids .entry)) (now (offsets .entry))) ⌝ }
+    ensures lists { λ r. ⌜ lists (now (ids .exit)) (now (offsets .exit)) ≡ closeLists (now (table .entry)) (now (state .entry)) (lists (now (ids .entry)) (now (offsets .entry))) ⌝ }
+    ensures reports { λ r. ⌜ now (reports .exit) ≡ closeAnswer (now (table .entry)) (now (state .entry)) (lists (now (ids .entry)) (now (offsets .entry))) .reports ⌝ }
 {
     if state.len() < STATE_WORDS {
         *reports = 0;

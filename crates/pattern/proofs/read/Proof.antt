@@ -1,7 +1,9 @@
--- `read` meets its contract: a walk of its MIR, by hand. The reader that `Reader::new` makes is held in a local and passed to `Reader::read`. All that the proof
--- knows of the two is that each meets its contract.
--- The machine value that `Reader::new` returns is stored and passed on as it is. In a local of a body MIR erases the lifetime of the struct's type, so the value
--- is shown to have the type at `erased`: what the struct owns does not say the lifetime's name. Assumes nothing.
+-- `read` meets its contract: a walk of its MIR, by hand. The reader that `Reader::new` makes is
+-- held in a local and passed to `Reader::read`. All that the proof knows of the two is that each
+-- meets its contract. The machine value that `Reader::new` returns is stored and passed on as it
+-- is. In a local of a body MIR erases the lifetime of the struct's type, so the value is shown to
+-- have the type at `erased`: what the struct owns does not say the lifetime's name. Assumes
+-- nothing.
 use mathlib.Core.Path.{_≡_, refl, ap, _∙_}
 use Prim.Native.Nat.{ℕ, _<_, _^_}
 use mathlib.Core.List.{List, [], _∷_}
@@ -38,7 +40,7 @@ use denote.Triple.Table.{entered, cited}
 use denote.Triple.Walked.{says, Stays, stay-none, stay-none-slice, walkOf, goes-none, goes-none-slice, Walks, ends-at, walked, walk-meets}
 use denote.Exit.{yes}
 use denote.Triple.Clauses.{ensured, lasts}
-use Rattle.pattern.specs.Read.{readOf, optionsOf, answerOf}
+use Rattle.pattern.specs.Read.{limitedRead, optionsOf, answerOf}
 use Rattle.pattern.specs.declared.Reading.{Reading}
 use Rattle.pattern.specs.declared.reader.Reader.{Reader}
 use Rattle.pattern.proofs.reader.Reader as T
@@ -67,7 +69,7 @@ stayed = (stay-none-slice (0 ∷ []) tt (plain (λ _. u8)) yes, (stay-none (λ _
 
 -- what reading the bytes from a place on gives
 abbrev from-on : ℕ → List ℕ → ℕ → Reading
-from-on flags bytes at = answerOf (readOf (unread at bytes) (optionsOf flags))
+from-on flags bytes at = answerOf (limitedRead (unread at bytes) (optionsOf flags))
 
 module _ {M : Type 1} (𝓤 : URA M) (H : Heap 𝓤) (A : Atoms 𝓤) (mem : Memory → SProp 𝓤) (run : Routine → Fun 𝓤) where
   -- the contracts that the proof cites
@@ -83,7 +85,7 @@ module _ {M : Type 1} (𝓤 : URA M) (H : Heap 𝓤) (A : Atoms 𝓤) (W : Given
   v = sliceVal (s .ptr) (length (s .now))
 
   abbrev answer : Reading
-  answer = answerOf (readOf (now s) (optionsOf flags))
+  answer = answerOf (limitedRead (now s) (optionsOf flags))
 
   -- the struct's type as a local of a body has it
   abbrev αᵉ : NamedLft
@@ -138,7 +140,8 @@ module _ {M : Type 1} (𝓤 : URA M) (H : Heap 𝓤) (A : Atoms 𝓤) (W : Given
         calls-at ! fm (New 𝓤 H A mem run) known-new to-new (and-then ! (load ! (from ! (stop !)) (look ! 6 refl)) (no-more !)) (λ u.
         use1 W (later (some (λ (r : Reader). ((‵ (flft κ q) ⊛ ‵ ftrue) ⊛ ‵ (B (κ, tt) .own r (u ∷ []))) ⊛ raw (ensured 𝓤 H A new.ended (new.clauses 𝓤 H A mem run) (κ, tt) (s, tt) tt r)))) (id⊢ 𝓤 _) $ await ! tt $ pick ! (λ r.
         split ! $ move ! (1 ∷ []) $ use1 W (raw (fact 𝓤 ((r .bytes ≡ s) × (r .at ≡ 0)))) (new-said r) $ heard ! ((r .bytes ≡ s) × (r .at ≡ 0)) (λ e. split ! $ move ! (1 ∷ []) $
-        -- [what the struct owns; the token; what s owns; room for _3; …; _2; …; _1; …; room for _0; …]
+        -- [what the struct owns; the token; what s owns; room for _3; …; _2; …; _1; …; room for _0;
+        -- …]
         peeks ! (B (κ, tt)) (Is (B (κ, tt))) (shows 𝓤 H A (B (κ, tt))) r (u ∷ []) (λ is.
         land ! (from ! (stop !)) (init ! 3 refl (LL.lawful (T.the-type αᵉ) (T′.the-laws αᵉ) 𝓤 H A W .typed r _ is .0)) $
         use2 W (raw (Unread 𝓤 H A mem run .pre (to-read r u))) (goes-read r u) $

@@ -1,4 +1,5 @@
--- `read_at` meets its contract: it hands the bytes from the place on to `read_all`, and past the end there are none.
+-- `read_at` meets its contract: it hands the bytes from the place on to `read_all`, and past the
+-- end there are none.
 use mathlib.Core.Path.{_≡_, sym, ap, _∙_}
 use mathlib.Core.List.{List}
 use mathlib.Core.Logic.{_⊎_, inl, inr, ⊎-elim}
@@ -7,7 +8,7 @@ use native.Mathlib.Omega.{arith}
 use borrow.Author.Needs.{needs}
 use borrow.Rule.Slice.PartAt.{part-to-end}
 use lib.ListN.{length, drop, drop-of-length-le}
-use Rattle.pattern.specs.Read.{readOf, optionsOf, answerOf}
+use Rattle.pattern.specs.Read.{limitedRead, optionsOf, answerOf}
 use Rattle.pattern.proofs.read_at.Statement.{statement}
 use Rattle.pattern.proofs.read_at.Tie as tie
 
@@ -44,7 +45,7 @@ returns c =
     let s = c .before .before .before .before .before .args in
     let c-if1 = c .before .before .before .if1 in
     c .read-all .ensures ∙
-    ap (λ (l : List ℕ). answerOf (readOf l (optionsOf (s .flags))))
+    ap (λ (l : List ℕ). answerOf (limitedRead l (optionsOf (s .flags))))
     (part-to-end (s .s .now) (c-if1 .from) ∙ same (s .s .now) (s .at) (c-if1 .from) (⊎-elim (λ x. inl (x .0 .taken, x .1)) (λ x. inr (x .0 .left, x .1)) (c-if1 .came)))
 
 pub read-at-spec : {M : Type 1} → statement M

@@ -6,6 +6,7 @@ use borrow.Author.Needs.{needs}
 use Rattle.table.specs.Layout.{positionsOf}
 use Rattle.nodes.specs.Nodes.{treeAt}
 use Rattle.automaton.specs.Parts.{partsOf}
+use Rattle.rules.specs.Add.{addition}
 use Rattle.rules.proofs.Answer.{early, passed-table, passed-few, unread, too-many, fits-room, accepted}
 use Rattle.rules.proofs.add.Statement.{statement}
 use Rattle.rules.proofs.add.Tie as tie
@@ -22,8 +23,7 @@ returns c =
     let c-first-fault = c .before .first-fault in
     let c-if1 = c .if1 in
     let a = c-start .args in
-    early (now (a .words)) (a .id) (a .flags) (now (a .pattern)) (c-first-fault .result)
-    (c-first-fault .ensures) (c-if1 .taken)
+    early (now (a .words)) (addition (a .id) (a .flags) (now (a .pattern))) (c-first-fault .result) (c-first-fault .ensures) (c-if1 .taken)
 
 read-requires : tie.Need-read-requires
 read-requires c κs = tt
@@ -40,8 +40,7 @@ returns-2 c =
     let c-read = c .before .before .read in
     let c-if2 = c .if2 in
     let a = c-start .args in
-    unread (now (a .words)) (a .id) (a .flags) (now (a .pattern))
-    (sym (c-if1 .left) ∙ c-first-fault .ensures) (c-read .result) (c-read .ensures) (c-if2 .taken)
+    unread (now (a .words)) (addition (a .id) (a .flags) (now (a .pattern))) (sym (c-if1 .left) ∙ c-first-fault .ensures) (c-read .result) (c-read .ensures) (c-if2 .taken)
 
 slice-read-if3 : tie.Need-slice-read-if3
 slice-read-if3 c =
@@ -50,9 +49,7 @@ slice-read-if3 c =
     let c-if1 = c .before .before .before .before .before .if1 in
     let c-first-fault = c .before .before .before .before .before .before .first-fault in
     let a = c-start .args in
-    let p =
-    passed-table (now (a .words)) (a .id) (a .flags) (now (a .pattern))
-    (sym (c-if1 .left) ∙ c-first-fault .ensures) in
+    let p = passed-table (now (a .words)) (addition (a .id) (a .flags) (now (a .pattern))) (sym (c-if1 .left) ∙ c-first-fault .ensures) in
     omega arith
 
 cast-if3 : tie.Need-cast-if3
@@ -65,9 +62,7 @@ add-if3 c =
     let c-if1 = c .before .before .before .before .before .before .if1 in
     let c-first-fault = back .before .first-fault in
     let a = c-start .args in
-    let p =
-    passed-table (now (a .words)) (a .id) (a .flags) (now (a .pattern))
-    (sym (c-if1 .left) ∙ c-first-fault .ensures) in
+    let p = passed-table (now (a .words)) (addition (a .id) (a .flags) (now (a .pattern))) (sym (c-if1 .left) ∙ c-first-fault .ensures) in
     omega arith
 
 same-length-3 : tie.Need-same-length-3
@@ -83,9 +78,7 @@ returns-3 c =
     let c-if2 = c .before .before .before .before .if2 in
     let c-if3 = c .if3 in
     let a = c-start .args in
-    too-many (now (a .words)) (a .id) (a .flags) (now (a .pattern))
-    (sym (c-if1 .left) ∙ c-first-fault .ensures) (c-read .result) (c-read .ensures) (c-if2 .left)
-    (c-if3 .taken)
+    too-many (now (a .words)) (addition (a .id) (a .flags) (now (a .pattern))) (sym (c-if1 .left) ∙ c-first-fault .ensures) (c-read .result) (c-read .ensures) (c-if2 .left) (c-if3 .taken)
 
 slice-aggregate-build : tie.Need-slice-aggregate-build
 slice-aggregate-build c = search needs
@@ -98,9 +91,7 @@ slice-read-build c =
     let c-if1 = back .before .before .before .if1 in
     let c-first-fault = back .before .before .before .before .first-fault in
     let a = c-start .args in
-    let p =
-    passed-table (now (a .words)) (a .id) (a .flags) (now (a .pattern))
-    (sym (c-if1 .left) ∙ c-first-fault .ensures) in
+    let p = passed-table (now (a .words)) (addition (a .id) (a .flags) (now (a .pattern))) (sym (c-if1 .left) ∙ c-first-fault .ensures) in
     omega arith
 
 holding-requires : tie.Need-holding-requires
@@ -126,14 +117,13 @@ add-rule-requires c κs =
     let c-holding = c .before .before .before .holding in
     let a = c-start .args in
     let t = now (a .words) in
-    let s = now (a .pattern) in
+    let new = addition (a .id) (a .flags) (now (a .pattern)) in
     let r = c-read .result in
     let checked = sym (c-if1 .left) ∙ c-first-fault .ensures in (
-      passed-table t (a .id) (a .flags) s checked .long,
-      passed-few t (a .id) (a .flags) s checked,
-      fits-room t (a .id) (a .flags) s checked r (c-read .ensures) (c-if2 .left) (c-if3 .left),
-      c-build .ensures ∙ ap (partsOf (treeAt (r .nodes) (r .root)) (positionsOf t))
-          (c-holding .ensures),
+      passed-table t new checked .long,
+      passed-few t new checked,
+      fits-room t new checked r (c-read .ensures) (c-if2 .left) (c-if3 .left),
+      c-build .ensures ∙ ap (partsOf (treeAt (r .nodes) (r .root)) (positionsOf t)) (c-holding .ensures),
     )
 
 same-length-4 : tie.Need-same-length-4
@@ -152,9 +142,7 @@ returns-4 c =
     let c-if3 = back .before .before .before .if3 in
     let c-add-rule = c .before .before .add-rule in
     let a = c-start .args in
-    accepted (now (a .words)) (a .id) (a .flags) (now (a .pattern))
-    (sym (c-if1 .left) ∙ c-first-fault .ensures) (c-read .result) (c-read .ensures) (c-if2 .left)
-    (c-if3 .left)
+    accepted (now (a .words)) (addition (a .id) (a .flags) (now (a .pattern))) (sym (c-if1 .left) ∙ c-first-fault .ensures) (c-read .result) (c-read .ensures) (c-if2 .left) (c-if3 .left)
     (c-add-rule .last .0) (c-add-rule .ensures)
 
 pub add-spec : {M : Type 1} → statement M

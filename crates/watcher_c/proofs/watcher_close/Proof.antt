@@ -1,5 +1,6 @@
 -- `watcher_c::watcher_close` meets its contract: too few words, a refused closing, an accepted one, whose state is stored.
 use denote.Ref.{now}
+use Rattle.stream.specs.Calls.{lists}
 use Rattle.watcher_c.proofs.Answers.{close-short, close-accepted, close-refused}
 use borrow.Author.Needs.{needs}
 use Rattle.watcher_c.proofs.watcher_close.Statement.{statement}
@@ -8,7 +9,7 @@ use Rattle.watcher_c.proofs.watcher_close.Tie as tie
 returns : tie.Need-returns
 returns c =
     let a = c .before .before .before .before .before .args in
-    close-short (now (a .table)) (now (a .state)) (now (a .ids)) (now (a .offsets)) (c .if1 .taken)
+    close-short (now (a .table)) (now (a .state)) (lists (now (a .ids)) (now (a .offsets))) (c .if1 .taken)
 
 load-requires : tie.Need-load-requires
 load-requires c κs = search needs
@@ -37,7 +38,7 @@ returns-2 c =
     let at-if1 = at-load .before .before in
     let a = at-if1 .before .before .before .before .before .args in
     let e = at-close .close .ensures in
-    close-accepted (now (a .table)) (now (a .state)) (now (a .ids)) (now (a .offsets)) (at-if1 .if1 .left) (at-load .load .ensures) (e .0) (e .1 .0) (e .1 .1) (at-if2 .if2 .taken) (at-store .store .ensures)
+    close-accepted (now (a .table)) (now (a .state)) (lists (now (a .ids)) (now (a .offsets))) (at-if1 .if1 .left) (at-load .load .ensures) (e .0) (e .1) (at-if2 .if2 .taken) (at-store .store .ensures)
 
 same-length-4 : tie.Need-same-length-4
 same-length-4 c = search needs
@@ -55,7 +56,7 @@ returns-3 c =
     let at-if1 = at-load .before .before in
     let a = at-if1 .before .before .before .before .before .args in
     let e = at-close .close .ensures in
-    close-refused (now (a .table)) (now (a .state)) (now (a .ids)) (now (a .offsets)) (at-if1 .if1 .left) (at-load .load .ensures) (e .0) (e .1 .0) (e .1 .1) (c .if2 .left)
+    close-refused (now (a .table)) (now (a .state)) (lists (now (a .ids)) (now (a .offsets))) (at-if1 .if1 .left) (at-load .load .ensures) (e .0) (e .1) (c .if2 .left)
 
 pub watcher-close-spec : {M : Type 1} → statement M
 watcher-close-spec =

@@ -1,5 +1,6 @@
 -- `watcher_c::watcher_scan` meets its contract: too few words, a refused scan, an accepted one, whose state is stored.
 use denote.Ref.{now}
+use Rattle.stream.specs.Calls.{lists, call}
 use Rattle.watcher_c.proofs.Answers.{scan-short, scan-accepted, scan-refused}
 use borrow.Author.Needs.{needs}
 use Rattle.watcher_c.proofs.watcher_scan.Statement.{statement}
@@ -8,7 +9,7 @@ use Rattle.watcher_c.proofs.watcher_scan.Tie as tie
 returns : tie.Need-returns
 returns c =
     let a = c .before .before .before .before .before .before .args in
-    scan-short (now (a .table)) (now (a .state)) (a .allowance) (now (a .block)) (now (a .ids)) (now (a .offsets)) (c .if1 .taken)
+    scan-short (now (a .table)) (now (a .state)) (call (a .allowance) (now (a .block)) (lists (now (a .ids)) (now (a .offsets)))) (c .if1 .taken)
 
 load-requires : tie.Need-load-requires
 load-requires c κs = search needs
@@ -37,7 +38,7 @@ returns-2 c =
     let at-if1 = at-load .before .before in
     let a = at-if1 .before .before .before .before .before .before .args in
     let e = at-scan .scan .ensures in
-    scan-accepted (now (a .table)) (now (a .state)) (a .allowance) (now (a .block)) (now (a .ids)) (now (a .offsets)) (at-if1 .if1 .left) (at-load .load .ensures) (e .0) (e .1 .0) (e .1 .1) (at-if2 .if2 .taken) (at-store .store .ensures)
+    scan-accepted (now (a .table)) (now (a .state)) (call (a .allowance) (now (a .block)) (lists (now (a .ids)) (now (a .offsets)))) (at-if1 .if1 .left) (at-load .load .ensures) (e .0) (e .1) (at-if2 .if2 .taken) (at-store .store .ensures)
 
 same-length-4 : tie.Need-same-length-4
 same-length-4 c = search needs
@@ -55,7 +56,7 @@ returns-3 c =
     let at-if1 = at-load .before .before in
     let a = at-if1 .before .before .before .before .before .before .args in
     let e = at-scan .scan .ensures in
-    scan-refused (now (a .table)) (now (a .state)) (a .allowance) (now (a .block)) (now (a .ids)) (now (a .offsets)) (at-if1 .if1 .left) (at-load .load .ensures) (e .0) (e .1 .0) (e .1 .1) (c .if2 .left)
+    scan-refused (now (a .table)) (now (a .state)) (call (a .allowance) (now (a .block)) (lists (now (a .ids)) (now (a .offsets)))) (at-if1 .if1 .left) (at-load .load .ensures) (e .0) (e .1) (c .if2 .left)
 
 pub watcher-scan-spec : {M : Type 1} → statement M
 watcher-scan-spec =

@@ -3,7 +3,7 @@ use mathlib.Core.Path.{ap, _∙_}
 use Prim.Native.Nat.{_+_, _*_}
 use native.Mathlib.Omega.{arith}
 use denote.Ref.{now}
-use Rattle.table.proofs.Writes.{copied}
+use Rattle.table.specs.Invariants.{copied}
 use Rattle.rules.specs.Invariants.{followPut}
 use Rattle.rules.proofs.write.put_follow.Statement.{statement}
 use Rattle.rules.proofs.write.put_follow.Tie as tie

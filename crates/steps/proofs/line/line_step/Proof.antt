@@ -10,7 +10,7 @@ use Rattle.table.specs.Automaton.{automaton, starts}
 use Rattle.table.proofs.GapBounds.{gapOf-follow, firstGap-first}
 use Rattle.steps.specs.Step.{stepped}
 use Rattle.steps.proofs.Bounds.{followRows, follow-offset-fits, follow-fits, follow-inside}
-use Rattle.steps.proofs.Steps.{next-words}
+use Rattle.steps.proofs.Steps.{met-words, stepped-below}
 use Rattle.steps.proofs.TableSets.{set-on, set-off}
 use Rattle.steps.proofs.line.line_step.Statement.{statement}
 use Rattle.steps.proofs.line.line_step.Tie as tie
@@ -90,7 +90,9 @@ returns-2 c =
     let first = c-firsts .ensures ∙ ap (λ (g : ℕ). setOf (starts w g (a .byte))) (c-first-gap .ensures) in
     let met = c-intersection .ensures ∙ ap₂ intersectionOf (c-walk .ensures) (c-takers .ensures ∙ set-on t (setOf (w .takes (a .byte))) (c-if1 .left)) in
     c-below .ensures ∙ ap (λ (s : List ℕ). keptBelow s (a .positions)) met
-    ∙ next-words t true (a .before) (a .after) (a .live) (a .taken) (c-firsts .result) _ (a .positions) (a .byte) first (ap followRows (c-gap-of .ensures))
+    ∙ ap (λ (s : List ℕ). keptBelow s (a .positions))
+    (met-words t true (a .before) (a .after) (a .live) (a .taken) (c-firsts .result) _ (a .byte) first (ap followRows (c-gap-of .ensures)))
+    ∙ stepped-below w true (a .before) (a .after) (a .positions) (a .live) (a .taken) (a .byte)
     ∙ sym (set-on t (stepped w true (a .before) (a .after) (a .positions) (a .live) (a .taken) (a .byte)) (c-if1 .left))
 
 pub line-step-spec : {M : Type 1} → statement M

@@ -1,12 +1,17 @@
--- `stream::checks::is_valid` meets its contract: it joins the tests in the order of `valid`.
-use mathlib.Core.Bool.{_&&_}
+-- `stream::checks::is_valid` meets its contract: it joins the tests of `valid`, both sets' in one.
+use mathlib.Core.Path.{ap, _∙_}
+use mathlib.Core.Bool.{not, _&&_, _||_}
+use mathlib.Core.List.{List}
+use Prim.Native.Nat.{ℕ}
 use lib.Dec.{eqb, leb}
 use lib.ListN.{length}
 use denote.Ref.{now}
-use Rattle.table.specs.Layout.{rulesOf, positionsOf}
+use Rattle.sets.specs.Set.{has, any}
+use Rattle.table.specs.Layout.{maxPositions, rulesOf, positionsOf}
 use Rattle.table.specs.Automaton.{automaton}
-use Rattle.stream.specs.Valid.{streamLimit, sameCounts, liveInside, marksSingle, underLimit, heldInside, pendingInside, pendingLate, valid}
+use Rattle.stream.specs.Valid.{streamLimit, sameCounts, marksSingle, underLimit, pendingInside, pendingLate}
 use Rattle.stream.proofs.Bounds.{rules-word, positions-word}
+use Rattle.stream.proofs.Accepting.{valid-order}
 use Rattle.stream.proofs.checks.is_valid.Statement.{statement}
 use Rattle.stream.proofs.checks.is_valid.Tie as tie
 
@@ -20,27 +25,42 @@ shared-slice-read-positions c =
     let c-start = c .before .before .before in
     positions-word (length (now (c-start .args .words))) (c-start .pre)
 
+union-requires : tie.Need-union-requires
+union-requires c κs = tt
+
 inside-requires : tie.Need-inside-requires
 inside-requires c κs = tt
 
-marks-single-requires : tie.Need-marks-single-requires
-marks-single-requires c κs =
-    let c-start = c .before .before .before .before .before .before .before in
-    c-start .pre
+-- from the union back to the start
+abbrev sets : tie.After-union → tie.After-live
+sets c = c .before .before .before .before
 
-waits-inside-requires : tie.Need-waits-inside-requires
-waits-inside-requires c κs = tt
+abbrev start : tie.After-union → tie.Start
+start c = sets c .before .before .before .before
+
+marks-single-requires : tie.Need-marks-single-requires
+marks-single-requires c κs = start (c .before) .pre
+
+pending-inside-requires : tie.Need-pending-inside-requires
+pending-inside-requires c κs = tt
 
 returns : tie.Need-returns
-unfolding valid sameCounts liveInside marksSingle underLimit heldInside pendingInside pendingLate automaton
+unfolding sameCounts marksSingle underLimit pendingInside pendingLate automaton
 returns c =
-    let c-start = c .before .before .before .before .before .before .before .before .before .before in
-    let c-inside = c .before .before .before .inside in
-    let c-marks-single = c .before .before .marks-single in
-    let c-waits-inside = c .before .waits-inside in
-    let s = c-start .args .s in
-    let t = now (c-start .args .words) in
-    λ i. (eqb (s .rules) (rulesOf t) && eqb (s .positions) (positionsOf t)) && (c-inside .ensures i && (c-marks-single .ensures i && (leb (s .taken) streamLimit && c-waits-inside .ensures i)))
+    let c-pending = c .before .before .before .pending-inside in
+    let c-marks = c .before .before .before .before .marks-single in
+    let c-inside = c .before .before .before .before .before .inside in
+    let c-union = c .before .before .before .before .before .before in
+    let s = start c-union .args .s in
+    let t = now (start c-union .args .words) in
+    let inside =
+    c-inside .ensures
+    ∙ ap (λ (x : List ℕ). not (any maxPositions (λ q. has x q && leb (positionsOf t) q)))
+    (c-union .union .ensures) in
+    (λ i. (eqb (s .rules) (rulesOf t) && eqb (s .positions) (positionsOf t))
+    && (inside i && (c-marks .ensures i && (leb (s .taken) streamLimit
+    && (c-pending .ensures i && (eqb (s .pending) 0 || leb 2 (s .taken)))))))
+    ∙ valid-order (automaton t) s
 
 pub is-valid-spec : {M : Type 1} → statement M
 is-valid-spec =
@@ -48,7 +68,8 @@ is-valid-spec =
     (tie.spec
     shared-slice-read-rules
     shared-slice-read-positions
+    union-requires
     inside-requires
     marks-single-requires
-    waits-inside-requires
+    pending-inside-requires
     returns)

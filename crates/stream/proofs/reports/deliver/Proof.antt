@@ -1,29 +1,58 @@
--- `stream::reports::deliver` meets its contract: each of its three ways has one law, and the runs are written where the count of what is due fits.
-use mathlib.Core.Path.{sym}
+-- `stream::reports::deliver` meets its contract: as many reports are due as both runs have, and
+-- they are written where they fit.
+use mathlib.Core.Path.{_≡_}
 use mathlib.Core.Bool.{not, _&&_}
-use native.Mathlib.Nat.{le-of-eq}
+use Prim.Native.Nat.{ℕ, suc, _+_, _≤_, _<_}
 use native.Mathlib.Numerals.{add-one}
 use native.Mathlib.Omega.{arith}
 use denote.Ref.{now}
 use lib.Bits.{bitAnd, bitOr}
 use lib.ListN.{length}
-use Prim.Native.Nat.{_+_}
 use Rattle.sets.specs.Set.{on}
 use Rattle.sets.proofs.Laws.{count-le}
 use Rattle.table.specs.Automaton.{automaton}
 use Rattle.table.proofs.Test.{passes}
-use Rattle.stream.specs.Byte.{twoIds}
-use Rattle.stream.proofs.Bounds.{rules-few, dues-fit, enough-left, enough-right}
-use Rattle.stream.proofs.TwoRuns.{delivered-none, due-two, delivered-full, delivered-runs}
+use Rattle.stream.specs.Byte.{given, twoReports}
+use Rattle.stream.specs.Calls.{Lists, lists, space}
+use Rattle.stream.proofs.Bounds.{rules-few, dues-fit}
+use Rattle.stream.proofs.TwoRuns.{due-two, delivered-full, delivered-runs}
 use Rattle.stream.proofs.reports.deliver.Statement.{statement}
 use Rattle.stream.proofs.reports.deliver.Tie as tie
 
-returns : tie.Need-returns
-returns c =
-    let c-start = c .before .before .before .before in
-    let c-if1 = c .if1 in
-    let a = c-start .args in
-    delivered-none (automaton (now (a .words))) (a .late) (a .own) (a .reported) (a .before) (now (a .ids)) (now (a .offsets)) (c-start .fits .reported .fits) (c-if1 .taken)
+-- where the reports that are due are counted
+abbrev start : tie.After-due2 → tie.Start
+start c = c .before .before .before .before .before .before
+
+abbrev lent : tie.Start → Lists
+lent c = lists (now (c .args .ids)) (now (c .args .offsets))
+
+abbrev reports : tie.Start → ℕ → ℕ
+reports c later =
+    let a = c .args in
+    let w = automaton (now (a .words)) in
+    length (twoReports w (on (a .late)) (on (a .own)) (a .reported) (given w (a .before))
+    (given w later))
+
+counted : (c : tie.After-due2) (later : ℕ)
+    → c .before .due .result + c .due2 .result ≡ reports (start c) later
+counted c later =
+    let a = start c .args in
+    let p = start c .pre in
+    let t = now (a .words) in
+    let w = automaton t in
+    due-two w (a .late) (a .own) (a .reported) (given w (a .before)) (given w later)
+    (start c .fits .reported .fits) (rules-few t (passes t (p .0) .rules)) (p .2) (p .3)
+    (a .singles) (p .1) (c .before .due .ensures) (c .due2 .ensures)
+
+-- as many as are due, and the space as it was measured
+few : {n m : ℕ} → n ≡ m → m ≤ 64 → n ≤ 64
+few e h = omega arith
+
+over : {n m room space : ℕ} → n ≡ m → room ≡ space → room < n → space < m
+over e f h = omega arith
+
+within : {n m room space : ℕ} → n ≡ m → room ≡ space → n ≤ room → m ≤ space
+within e f h = omega arith
 
 least-requires : tie.Need-least-requires
 least-requires c κs = tt
@@ -34,90 +63,60 @@ due-requires c κs = tt
 due-requires-2 : tie.Need-due-requires-2
 due-requires-2 c κs = tt
 
-add-if2 : tie.Need-add-if2
-add-if2 c =
-    let c-start = c .before .before .before .before .before .before .before in
-    let c-due = c .before .due in
-    let c-due2 = c .due2 in
-    let a = c-start .args in
-    dues-fit (c-due .result) (c-due2 .result) (omega (arith, c-due .ensures, count-le 64 (λ k. on (a .late) k && not (on (a .reported) k))))
-    (omega (arith, c-due2 .ensures, count-le 64 (λ k. on (a .own) k && not (on (bitOr (a .reported) (bitAnd (a .late) (a .singles))) k))))
+add-if1 : tie.Need-add-if1
+add-if1 c =
+    let a = start c .args in
+    let marks = bitOr (a .reported) (bitAnd (a .late) (a .singles)) in
+    dues-fit (c .before .due .result) (c .due2 .result)
+    (few (c .before .due .ensures) (count-le 64 (λ k. on (a .late) k && not (on (a .reported) k))))
+    (few (c .due2 .ensures) (count-le 64 (λ k. on (a .own) k && not (on marks k))))
 
-returns-2 : tie.Need-returns-2
-returns-2 c =
-    let c-start = c .before .before .before .before .before .before .before .before in
-    let c-due = c .before .before .due in
-    let c-due2 = c .before .due2 in
-    let c-least = c .before .before .before .least in
-    let c-if2 = c .if2 in
-    let a = c-start .args in
-    let t = now (a .words) in
-    let p = c-start .pre in
-    delivered-full (automaton t) (a .late) (a .own) (a .reported) (a .before) (now (a .ids)) (now (a .offsets)) (c-start .fits .reported .fits) (rules-few t (passes t (p .0) .rules))
-    (p .2) (p .3) (a .singles) (p .1) (c-due .result) (c-due2 .result) (c-least .result) (c-due .ensures) (c-due2 .ensures) (c-least .ensures) (c-if2 .taken)
+returns : tie.Need-returns
+returns c =
+    delivered-full
+    (over (counted (c .before) (suc (start (c .before) .args .before)))
+    (c .before .before .before .least .ensures) (c .if1 .taken))
 
 add-write-two : tie.Need-add-write-two
-add-write-two c =
-    let c-start = c .before .before .before .before .before .before .before .before in
-    record { fits = c-start .pre .4 }
+add-write-two c = record { fits = start (c .before) .pre .4 }
+
+-- they fit
+fit : (c : tie.Else1) (later : ℕ)
+    → reports (start (c .before)) later ≤ space (lent (start (c .before)))
+fit c later =
+    within (counted (c .before) later) (c .before .before .before .least .ensures) (c .if1 .left)
 
 write-two-requires : tie.Need-write-two-requires
 write-two-requires c κs =
-    let c-start = c .before .before .before .before .before .before .before .before .before .before in
-    let c-due = c .before .before .before .before .due in
-    let c-due2 = c .before .before .before .due2 in
-    let c-least = c .before .before .before .before .before .least in
-    let c-if2 = c .before .before .if2 in
-    let a = c-start .args in
-    let t = now (a .words) in
+    let c-if1 = c .before .before in
+    let c-start = start (c-if1 .before) in
     let p = c-start .pre in
-    let n = due-two (automaton t) (a .late) (a .own) (a .reported) (a .before) (now (a .ids)) (now (a .offsets)) (c-start .fits .reported .fits) (rules-few t (passes t (p .0) .rules))
-    (p .2) (p .3) (a .singles) (p .1) (c-due .result) (c-due2 .result) (c-least .result) (c-due .ensures) (c-due2 .ensures) (c-least .ensures) in
-    let runs = length (twoIds (automaton t) (on (a .late)) (on (a .own)) (a .reported)) in (
-      p .0,
-      p .1,
-      enough-left runs (c-due .result + c-due2 .result) (c-least .result) (length (now (a .ids))) (length (now (a .offsets))) (le-of-eq (sym n)) (c-if2 .left) (c-least .ensures),
-      enough-right runs (c-due .result + c-due2 .result) (c-least .result) (length (now (a .ids))) (length (now (a .offsets))) (le-of-eq (sym n)) (c-if2 .left) (c-least .ensures),
-    )
+    (p .0, p .1, p .2, p .3, fit c-if1 (c-start .args .before + 1))
 
 same-length : tie.Need-same-length
-same-length c =
-    let c-ids = c .before .before .before .ids in
-    c-ids .given
+same-length c = c .before .before .before .ids .given
 
 same-length-2 : tie.Need-same-length-2
-same-length-2 c =
-    let c-offsets = c .before .offsets in
-    c-offsets .given
+same-length-2 c = c .before .offsets .given
 
-returns-3 : tie.Need-returns-3
-returns-3 c =
-    let c-start = c .before .before .before .before .before .before .before .before .before .before .before .before .before .before .before in
-    let c-write-two = c .before .before .before .before .write-two in
-    let c-due = c .before .before .before .before .before .before .before .before .before .due in
-    let c-due2 = c .before .before .before .before .before .before .before .before .due2 in
-    let c-least = c .before .before .before .before .before .before .before .before .before .before .least in
-    let c-if2 = c .before .before .before .before .before .before .before .if2 in
-    let a = c-start .args in
-    let t = now (a .words) in
-    let p = c-start .pre in
-    let r = c-write-two .result in
-    delivered-runs (automaton t) (a .late) (a .own) (a .reported) (a .before) (now (a .ids)) (now (a .offsets)) (c-start .fits .reported .fits) (rules-few t (passes t (p .0) .rules))
-    (p .2) (p .3) (a .singles) (p .1) (c-due .result) (c-due2 .result) (c-least .result) (c-due .ensures) (c-due2 .ensures) (c-least .ensures) (c-if2 .left)
-    (a .before + 1) (add-one (a .before)) (r .reports) (r .reported) (c-write-two .last .1 .1 .1 .1 .1 .1 .1 .0) (c-write-two .last .1 .1 .1 .1 .1 .1 .1 .1 .0) (c-write-two .ensures)
+returns-2 : tie.Need-returns-2
+returns-2 c =
+    let c-write-two = c .before .before .before .before in
+    let c-if1 = c-write-two .before .before .before in
+    let later = start (c-if1 .before) .args .before in
+    delivered-runs (fit c-if1 (suc later)) (rw (add-one later) at (c-write-two .write-two .ensures))
 
 pub deliver-spec : {M : Type 1} → statement M
 deliver-spec =
     tie.close
     (tie.spec
-    returns
     least-requires
     due-requires
     due-requires-2
-    add-if2
-    returns-2
+    add-if1
+    returns
     add-write-two
     write-two-requires
     same-length
     same-length-2
-    returns-3)
+    returns-2)

@@ -1,9 +1,10 @@
 -- `stream::reports::write_closing` meets its contract: the held pairs, then the rules that need the stream's end. There is room for two reports of each rule.
-use mathlib.Core.Path.{_∙_}
+use mathlib.Core.Path.{_≡_, _∙_}
 use mathlib.Core.Bool.{Bool}
 use mathlib.Core.List.{List}
-use Prim.Native.Nat.{ℕ, _*_, _≤_}
+use Prim.Native.Nat.{ℕ, _*_, _^_, _<_, _≤_}
 use native.Mathlib.Nat.{le-trans}
+use native.Mathlib.Omega.{arith}
 use denote.Ref.{now}
 use lib.ListN.{length}
 use Rattle.sets.specs.Set.{on}
@@ -12,15 +13,17 @@ use Rattle.table.specs.Automaton.{automaton, single}
 use Rattle.table.proofs.Test.{passes}
 use Rattle.steps.specs.Step.{rulesWhere}
 use Rattle.steps.proofs.TableSets.{number-on}
-use Rattle.stream.specs.Byte.{twoIds, endTest}
+use Rattle.stream.specs.Byte.{Report, given, twoReports, endTest}
 use Rattle.stream.proofs.Bounds.{rules-few}
+use Rattle.stream.proofs.Accepting.{pending-rules}
+use Rattle.stream.proofs.Runs.{alone}
 use Rattle.stream.proofs.TwoRuns.{two-few, ended}
 use Rattle.stream.proofs.reports.write_closing.Statement.{statement}
 use Rattle.stream.proofs.reports.write_closing.Tie as tie
 
-at-most : (t : List ℕ) (one two : ℕ → Bool) (marks : ℕ) → length (twoIds (automaton t) one two marks) ≤ 2 * rulesOf t
+at-most : (t : List ℕ) (one two : ℕ → Bool) (marks : ℕ) (first second : ℕ → Report) → length (twoReports (automaton t) one two marks first second) ≤ 2 * rulesOf t
 unfolding automaton
-at-most t one two marks = two-few (automaton t) one two marks
+at-most t one two marks first second = two-few (automaton t) one two marks first second
 
 closing-requires : tie.Need-closing-requires
 closing-requires c κs = tt
@@ -31,15 +34,46 @@ singles-requires c κs = tt
 before-last-requires : tie.Need-before-last-requires
 before-last-requires c κs = tt
 
+-- where the rules that need the end are found, and where both runs are about to be written
+abbrev start : tie.After-closing → tie.Start
+start c = c .before .before .before .before .before .before
+
+abbrev found : tie.After-write-two-arg2 → tie.After-closing
+found c = c .before .before .before .before
+
+-- they are rules of the table
+abbrev table : tie.After-closing → List ℕ
+table c = now (start c .args .words)
+
+abbrev needEnd : tie.After-closing → ℕ → Bool
+needEnd c = endTest (automaton (table c)) (start c .args .s)
+
+found-is : (c : tie.After-closing)
+    → c .closing .result ≡ rulesWhere (automaton (table c)) (needEnd c)
+found-is c =
+    c .closing .ensures
+    ∙ number-on (table c) (rulesWhere (automaton (table c)) (needEnd c))
+    (passes (table c) (start c .pre .0) .long)
+
+pending-small : (c : tie.Start) → c .args .s .pending < 2 ^ 64
+pending-small c = omega arith
+
 write-two-requires : tie.Need-write-two-requires
 write-two-requires c κs =
-    let c-start = c .before .before .before .before .before .before .before .before .before .before in
-    let c-closing = c .before .before .before .before .closing in
-    let c-singles = c .before .before .before .singles in
-    let a = c-start .args in
-    let t = now (a .words) in
-    let few = at-most t (on (a .s .pending)) (on (c-closing .result)) (a .s .reported) in
-    (c-start .pre .0, c-singles .ensures ∙ number-on t (rulesWhere (automaton t) (single (automaton t))) (passes t (c-start .pre .0) .long), le-trans few (c-start .pre .1), le-trans few (c-start .pre .2))
+    let s = start (found c) .args .s in
+    let p = start (found c) .pre in
+    let t = table (found c) in
+    let w = automaton t in (
+      p .0,
+      c .before .before .before .singles .ensures
+          ∙ number-on t (rulesWhere w (single w)) (passes t (p .0) .long),
+      pending-rules w s (p .1) (pending-small (start (found c))),
+      alone w (needEnd (found c)) (found-is (found c)),
+      le-trans
+          (at-most t (on (s .pending)) (on (found c .closing .result)) (s .reported)
+          (given w (c .before .before .before-last .result)) (given w (s .taken)))
+          (p .2),
+    )
 
 same-length : tie.Need-same-length
 same-length c =
@@ -53,18 +87,11 @@ same-length-2 c =
 
 returns : tie.Need-returns
 returns c =
-    let c-start = c .before .before .before .before .before .before .before .before .before .before .before .before .before .before .before in
-    let c-write-two = c .before .before .before .before .write-two in
-    let c-before-last = c .before .before .before .before .before .before .before .before-last in
-    let c-closing = c .before .before .before .before .before .before .before .before .before .closing in
-    let a = c-start .args in
-    let t = now (a .words) in
-    let w = automaton t in
-    let p = passes t (c-start .pre .0) in
-    let r = c-write-two .result in
-    ended w (a .s) (rules-few t (p .rules)) (now (a .ids)) (now (a .offsets)) (c-before-last .result) (c-before-last .ensures)
-    (c-closing .result) (c-closing .ensures ∙ number-on t (rulesWhere w (endTest w (a .s))) (p .long))
-    (r .reports) (r .reported) (c-write-two .last .1 .1 .1 .1 .1 .1 .1 .0) (c-write-two .last .1 .1 .1 .1 .1 .1 .1 .1 .0) (c-write-two .ensures)
+    let c-write-two = c .before .before .before .before in
+    let c-found = found (c-write-two .before) in
+    let few = rules-few (table c-found) (passes (table c-found) (start c-found .pre .0) .rules) in
+    ended few (c-write-two .before .before .before .before-last .ensures) (found-is c-found)
+    (c-write-two .write-two .ensures)
 
 pub write-closing-spec : {M : Type 1} → statement M
 write-closing-spec =

@@ -1,156 +1,125 @@
--- `stream::reports::write_run` meets its contract: each turn asks one rule and writes its report where it is due (`Writing`).
-use mathlib.Core.Path.{_≡_, refl, sym, ap, _∙_, subst}
-use mathlib.Core.Logic.{⊎-elim}
-use Prim.Native.Nat.{ℕ, _-_, _^_, _<_}
-use native.Mathlib.Nat.{le-refl, lt-of-lt-of-le}
+-- `stream::reports::write_run` meets its contract: each turn writes the report of the lowest rule
+-- that is left, and clears its digit (`Writing`).
+use mathlib.Core.Path.{sym, ap, _∙_, subst}
+use Prim.Native.Nat.{ℕ, _^_, _<_}
 use denote.Ref.{now}
 use lib.Bits.{bitAnd, bitOr}
-use lib.ListN.{length, set}
-use Rattle.table.specs.Layout.{rulesOf}
+use lib.ListN.{set}
 use Rattle.table.specs.Automaton.{automaton}
 use Rattle.table.proofs.Test.{Passes, passes}
-use Rattle.steps.proofs.Bounds.{less-left, place-digit, next-place-fits}
 use Rattle.steps.proofs.TableSets.{id-word}
-use Rattle.stream.proofs.Bounds.{rules-word, rules-few, few-fit, few-ids-fit, few-offsets-fit}
-use Rattle.stream.proofs.Runs.{Writing, writing-start, writing-room, writing-hit, writing-miss, writing-done, marks-words}
+use Rattle.stream.specs.Byte.{given}
+use Rattle.stream.specs.Calls.{Lists, lists}
+use Rattle.stream.specs.Invariants.{AsLong}
+use Rattle.stream.proofs.Bounds.{rules-few}
+use Rattle.stream.proofs.Lists.{place-ids, place-offsets}
+use Rattle.stream.proofs.Runs.{lowest, without-less, marks-words, Writing, Turn, writing-start, writing-long, writing-turn, writing-again, writing-done}
 use Rattle.stream.proofs.reports.write_run.Statement.{statement}
 use Rattle.stream.proofs.reports.write_run.Tie as tie
 
 abbrev Inv-loop : tie.InvT-loop
-Inv-loop ending reported singles words end ids₀ offsets₀ rules due n₀ a₀ ids offsets n a = Passes words × (due ≡ bitAnd ending (2 ^ 64 - 1 - reported)) × Writing (automaton words) ending reported end ids₀ offsets₀ ids offsets n a
+Inv-loop ending reported singles words end from ids₀ offsets₀ due₀ n₀ ids offsets due n =
+    Writing (automaton words) ending reported (given (automaton words) end) from
+    (lists ids₀ offsets₀) (lists ids offsets) due n
 
 abbrev μ-loop : tie.MeasureT-loop
-μ-loop ending reported singles words end ids₀ offsets₀ rules due n₀ a₀ ids offsets n a = rules - a
+μ-loop ending reported singles words end from ids₀ offsets₀ due₀ n₀ ids offsets due n = due
 
-shared-slice-read-rules : tie.Need-shared-slice-read-rules Inv-loop μ-loop
-shared-slice-read-rules c =
-    let c-start = c .before .before .before .before in
-    let t = now (c-start .args .words) in
-    rules-word (length t) (passes t (c-start .pre .0) .long)
+-- ---- the start, seen from a turn, and what a turn's writes need
+
+abbrev Start : Type 0
+Start = tie.Start Inv-loop μ-loop
+
+abbrev start : tie.At-loop Inv-loop μ-loop → Start
+start c = c .before .before .before .before
+
+table : (c : Start) → Passes (now (c .args .words))
+table c = passes (now (c .args .words)) (c .pre .0)
+
+abbrev lent : Start → Lists
+lent c = lists (now (c .args .ids)) (now (c .args .offsets))
+
+long : (c : tie.At-loop Inv-loop μ-loop)
+    → AsLong (lists (c .loop .ids) (c .loop .offsets)) (lent (start c))
+long c = writing-long (c .loop .inv) (start c .pre .3)
+
+turn : (c : tie.In-loop Inv-loop μ-loop)
+    → Turn (automaton (now (start (c .before) .args .words))) (lent (start (c .before)))
+    (c .before .loop .due) (c .before .loop .n)
+turn c = writing-turn (c .before .loop .inv) (start (c .before) .pre .3) (c .loop-test .taken)
+
+-- ---- the needs
 
 loop-holds : tie.Need-loop-holds Inv-loop μ-loop
 loop-holds c =
-    let c-start = c .before .before .before .before in
+    let c-start = c .before .before .before in
     let a = c-start .args in
-    (passes (now (a .words)) (c-start .pre .0), refl, writing-start (automaton (now (a .words))) (a .ending) (a .reported) (a .end) (now (a .ids)) (now (a .offsets)))
+    let w = automaton (now (a .words)) in
+    writing-start w (a .ending) (a .reported) (given w (a .end)) (a .from) (lent c-start)
+    (c-start .fits .ending .fits) (c-start .fits .reported .fits) (c-start .pre .2)
+    (rules-few (now (a .words)) (table c-start .rules))
 
-loop-again : tie.Need-loop-again Inv-loop μ-loop
-unfolding automaton
-loop-again c =
-    let c-start = c .before .before .before .before .before .before .before in
-    let c-loop = c .before .before .loop in
-    let c-loop-test = c .before .loop-test in
-    let c-if1 = c .if1 in
-    let a = c-start .args in
-    let l = c-loop in
-    let t = now (a .words) in
-    let room = writing-room (automaton t) (a .ending) (a .reported) (a .end) (now (a .ids)) (now (a .offsets)) (l .ids) (l .offsets) (l .n) (l .a) (l .inv .2) (c-loop-test .taken) (rules-few t (l .inv .0 .rules)) (c-start .fits .reported .fits) (bitAnd (a .ending) (2 ^ 64 - 1 - a .reported)) refl in (
-      l .inv .0,
-      l .inv .1,
-      ⊎-elim
-          (λ w. writing-hit (automaton t) (a .ending) (a .reported) (a .end) (now (a .ids)) (now (a .offsets)) (l .ids) (l .offsets) (l .n) (l .a) (l .inv .2) (c-loop-test .taken) (rules-few t (l .inv .0 .rules)) (c-start .fits .reported .fits) (bitAnd (a .ending) (2 ^ 64 - 1 - a .reported)) refl (c-if1 .ids) (c-if1 .offsets) (c-if1 .n) (w .0 .taken) (room (length (now (a .ids))) (w .0 .taken) (c-start .pre .2)) (room (length (now (a .offsets))) (w .0 .taken) (c-start .pre .3))
-          (w .2 ∙ ap (set (l .ids) (l .n)) (w .1 .ensures)) (w .3) (w .4))
-          (λ w. writing-miss (automaton t) (a .ending) (a .reported) (a .end) (now (a .ids)) (now (a .offsets)) (l .ids) (l .offsets) (l .n) (l .a) (l .inv .2) (c-loop-test .taken) (rules-few t (l .inv .0 .rules)) (c-start .fits .reported .fits) (bitAnd (a .ending) (2 ^ 64 - 1 - a .reported)) refl (c-if1 .ids) (c-if1 .offsets) (c-if1 .n) (w .0 .left) (w .1) (w .2) (w .3))
-          (c-if1 .came),
-    )
-
-shr-if1 : tie.Need-shr-if1 Inv-loop μ-loop
-shr-if1 c =
-    let c-loop = c .before .loop in
-    let c-loop-test = c .loop-test in
-    place-digit (c-loop .a) (lt-of-lt-of-le (c-loop-test .taken) (c-loop .inv .0 .rules))
+cast-rule-id : tie.Need-cast-rule-id Inv-loop μ-loop
+cast-rule-id c = turn c .fits
 
 rule-id-requires : tie.Need-rule-id-requires Inv-loop μ-loop
 rule-id-requires c κs = tt
 
 cast-ids : tie.Need-cast-ids Inv-loop μ-loop
+unfolding automaton
 cast-ids c =
-    let c-rule-id = c .rule-id in
-    let c-start = c .before .before .before .before .before .before .before .before in
-    let c-loop = c .before .before .before .loop in
-    let c-loop-test = c .before .before .loop-test in
-    let id = c-rule-id .ensures ∙ sym (id-word (now (c-start .args .words)) (c-loop .a) (lt-of-lt-of-le (c-loop-test .taken) (c-loop .inv .0 .rules))) in
-    record { fits = subst (λ (x : ℕ). x < 2 ^ 32) (sym id) (c-loop .inv .0 .small (c-loop .a) (c-loop-test .taken)) }
+    let c-start = start (c .before .before) in
+    let z = lowest (c .before .before .loop .due) in
+    let t = turn (c .before) in
+    let id = c .rule-id .ensures ∙ sym (id-word (now (c-start .args .words)) z (t .digit)) in
+    record { fits = subst (λ (x : ℕ). x < 2 ^ 32) (sym id) (table c-start .small z (t .ruled)) }
 
 mul-ids : tie.Need-mul-ids Inv-loop μ-loop
-mul-ids c =
-    let c-loop = c .before .before .before .loop in
-    let c-loop-test = c .before .before .loop-test in
-    few-ids-fit (c-loop .a) (lt-of-lt-of-le (c-loop-test .taken) (c-loop .inv .0 .rules)) (c-loop .n) (c-loop .inv .2 .few)
+mul-ids c = turn (c .before) .ids-fit (start (c .before .before) .good .1 .1 .1 .1 .1 .1 .0 .1)
 
 slice-write-ids : tie.Need-slice-write-ids Inv-loop μ-loop
-unfolding automaton
-slice-write-ids c =
-    let c-start = c .before .before .before .before .before .before .before .before in
-    let c-loop = c .before .before .before .loop in
-    let c-loop-test = c .before .before .loop-test in
-    let c-if1 = c .before .if1 in
-    let a = c-start .args in
-    let l = c-loop in
-    let t = now (a .words) in
-    let room = writing-room (automaton t) (a .ending) (a .reported) (a .end) (now (a .ids)) (now (a .offsets)) (l .ids) (l .offsets) (l .n) (l .a) (l .inv .2) (c-loop-test .taken) (rules-few t (l .inv .0 .rules)) (c-start .fits .reported .fits) (bitAnd (a .ending) (2 ^ 64 - 1 - a .reported)) refl in
-    subst (λ (x : ℕ). l .n < x) (sym (l .inv .2 .ids-long)) (room (length (now (a .ids))) (c-if1 .taken) (c-start .pre .2))
+slice-write-ids c = place-ids (long (c .before .before)) (turn (c .before) .room)
 
 mul-offsets : tie.Need-mul-offsets Inv-loop μ-loop
 mul-offsets c =
-    let c-loop = c .before .before .before .loop in
-    let c-loop-test = c .before .before .loop-test in
-    few-offsets-fit (c-loop .a) (lt-of-lt-of-le (c-loop-test .taken) (c-loop .inv .0 .rules)) (c-loop .n) (c-loop .inv .2 .few)
+    turn (c .before) .offsets-fit (start (c .before .before) .good .1 .1 .1 .1 .1 .1 .1 .0 .1)
 
 slice-write-offsets : tie.Need-slice-write-offsets Inv-loop μ-loop
-unfolding automaton
-slice-write-offsets c =
-    let c-start = c .before .before .before .before .before .before .before .before in
-    let c-loop = c .before .before .before .loop in
-    let c-loop-test = c .before .before .loop-test in
-    let c-if1 = c .before .if1 in
-    let a = c-start .args in
-    let l = c-loop in
-    let t = now (a .words) in
-    let room = writing-room (automaton t) (a .ending) (a .reported) (a .end) (now (a .ids)) (now (a .offsets)) (l .ids) (l .offsets) (l .n) (l .a) (l .inv .2) (c-loop-test .taken) (rules-few t (l .inv .0 .rules)) (c-start .fits .reported .fits) (bitAnd (a .ending) (2 ^ 64 - 1 - a .reported)) refl in
-    subst (λ (x : ℕ). l .n < x) (sym (l .inv .2 .offsets-long)) (room (length (now (a .offsets))) (c-if1 .taken) (c-start .pre .3))
+slice-write-offsets c = place-offsets (long (c .before .before)) (turn (c .before) .room)
 
 add-n : tie.Need-add-n Inv-loop μ-loop
-add-n c =
-    let c-loop = c .before .before .before .loop in
-    let c-loop-test = c .before .before .loop-test in
-    few-fit (c-loop .a) (lt-of-lt-of-le (c-loop-test .taken) (c-loop .inv .0 .rules)) (c-loop .n) (c-loop .inv .2 .few)
+add-n c = turn (c .before) .next-fits (start (c .before .before) .good .1 .1 .1 .1 .1 .1 .0 .1)
 
-add-a : tie.Need-add-a Inv-loop μ-loop
-add-a c =
-    let c-loop = c .before .before .loop in
-    let c-loop-test = c .before .loop-test in
-    next-place-fits (c-loop .a) (lt-of-lt-of-le (c-loop-test .taken) (c-loop .inv .0 .rules))
+sub-due : tie.Need-sub-due Inv-loop μ-loop
+sub-due c = turn (c .before) .some
 
 loop-less : tie.Need-loop-less Inv-loop μ-loop
 loop-less c =
-    let c-start = c .before .before .before .before .before .before .before in
-    let c-loop = c .before .before .loop in
-    let c-loop-test = c .before .loop-test in
-    less-left (rulesOf (now (c-start .args .words))) (c-loop .a) (c-loop .a) (le-refl (c-loop .a)) (c-loop-test .taken)
+    without-less (c .before .before .loop .due) (c .before .before .loop .inv .small)
+    (c .before .loop-test .taken)
+
+loop-again : tie.Need-loop-again Inv-loop μ-loop
+loop-again c =
+    let l = c .before .before .loop in
+    let c-start = start (c .before .before) in
+    writing-again (l .inv) (c-start .pre .3) (c .before .loop-test .taken)
+    (ap (λ (x : ℕ). lists (set (l .ids) (l .n) x) (set (l .offsets) (l .n) (c-start .args .end)))
+    (c .rule-id .ensures))
 
 same-length : tie.Need-same-length Inv-loop μ-loop
-same-length c =
-    let c-loop = c .before .loop in
-    c-loop .inv .2 .ids-long
+same-length c = long (c .before) .ids
 
 same-length-2 : tie.Need-same-length-2 Inv-loop μ-loop
-same-length-2 c =
-    let c-loop = c .before .loop in
-    c-loop .inv .2 .offsets-long
+same-length-2 c = long (c .before) .offsets
 
 returns : tie.Need-returns Inv-loop μ-loop
-unfolding automaton
 returns c =
-    let c-start = c .before .before .before .before .before .before in
-    let c-loop = c .before .loop in
-    let c-loop-test = c .loop-test in
+    let c-start = start (c .before) in
     let a = c-start .args in
-    let l = c-loop in
-    let t = now (a .words) in
-    writing-done (automaton t) (a .ending) (a .reported) (a .end) (now (a .ids)) (now (a .offsets)) (l .ids) (l .offsets) (l .n) (l .a) (l .inv .2) (c-loop-test .left)
-    (bitOr (a .reported) (bitAnd (a .ending) (a .singles)))
-    (ap (λ (x : ℕ). bitOr (a .reported) (bitAnd (a .ending) x)) (c-start .pre .1) ∙ marks-words (automaton t) (a .ending) (a .reported) (c-start .fits .reported .fits))
+    let w = automaton (now (a .words)) in
+    writing-done (c .before .loop .inv) (c-start .pre .3) (c .loop-test .left)
+    (ap (λ (x : ℕ). bitOr (a .reported) (bitAnd (a .ending) x)) (c-start .pre .1)
+    ∙ marks-words w (a .ending) (a .reported) (c-start .fits .reported .fits))
 
 pub write-run-spec : {M : Type 1} → statement M
 write-run-spec =
@@ -158,9 +127,8 @@ write-run-spec =
     (tie.spec
     Inv-loop
     μ-loop
-    shared-slice-read-rules
     loop-holds
-    shr-if1
+    cast-rule-id
     rule-id-requires
     cast-ids
     mul-ids
@@ -168,7 +136,7 @@ write-run-spec =
     mul-offsets
     slice-write-offsets
     add-n
-    add-a
+    sub-due
     loop-less
     loop-again
     same-length

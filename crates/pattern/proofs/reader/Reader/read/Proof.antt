@@ -1,6 +1,7 @@
--- `Reader::read` meets its contract: a walk of its MIR, by hand. The struct is taken apart, and `read_at` is called on the slice, the place and the flags. All
--- that the proof knows of `read_at` is that it meets its contract.
--- The struct is Copy: what it owns is had twice, one copy is kept whole for the exit, and of the other what the slice owns goes to the callee, beside the
+-- `Reader::read` meets its contract: a walk of its MIR, by hand. The struct is taken apart, and
+-- `read_at` is called on the slice, the place and the flags. All that the proof knows of `read_at`
+-- is that it meets its contract. The struct is Copy: what it owns is had twice, one copy is kept
+-- whole for the exit, and of the other what the slice owns goes to the callee, beside the
 -- lifetime's token, which comes back. Assumes nothing.
 use mathlib.Core.Path.{_≡_, refl}
 use Prim.Native.Nat.{ℕ, _<_, _^_}
@@ -43,7 +44,7 @@ use denote.Triple.Table.{entered, cited}
 use denote.Triple.Walked.{says, Stays, stay-none, walkOf, goes-none, Walks, ends-at, walked, walk-meets}
 use denote.Exit.{yes}
 use denote.Triple.Clauses.{ensured, lasts}
-use Rattle.pattern.specs.Read.{readOf, optionsOf, answerOf}
+use Rattle.pattern.specs.Read.{limitedRead, optionsOf, answerOf}
 use Rattle.pattern.specs.declared.Reading.{Reading}
 use Rattle.pattern.specs.declared.reader.Reader.{Reader}
 use Rattle.pattern.proofs.reader.Reader as T
@@ -80,7 +81,7 @@ module _ {M : Type 1} (𝓤 : URA M) (H : Heap 𝓤) (A : Atoms 𝓤) (W : Given
   v = sliceVal (d .bytes .ptr) (length (d .bytes .now))
 
   abbrev answer : Reading
-  answer = answerOf (readOf (unread (d .at) (now (d .bytes))) (optionsOf flags))
+  answer = answerOf (limitedRead (unread (d .at) (now (d .bytes))) (optionsOf flags))
 
   abbrev at : Vals read.signature (κ, tt)
   at = (mach ∷ [], (vint w32 flags ∷ [], tt))
@@ -121,7 +122,8 @@ module _ {M : Type 1} (𝓤 : URA M) (H : Heap 𝓤) (A : Atoms 𝓤) (W : Given
       move ! (1 ∷ []) $ drop ! $ nothing ! $ owned ! u32 (Is u32) (uint-makes 𝓤 H A W w32) flags _ (refl, ok) $ fjoin ! $ owned ! usize (Is usize) (uint-makes 𝓤 H A W w64) (d .at) _ (refl, fits) $ fjoin ! $ move ! (1 ∷ 0 ∷ []) $ fjoin ! $
       move ! (2 ∷ 0 ∷ []) $ use2 W (raw (ReadAt 𝓤 H A mem run .pre to)) asked $ frame ! $ done !)
 
-  -- of the callee's `ensured`, the clause alone: it has no `&mut`, so what is said of last values is dropped
+  -- of the callee's `ensured`, the clause alone: it has no `&mut`, so what is said of last values
+  -- is dropped
   said : (r : Reading) → ent 𝓤 (ensured 𝓤 H A read-at.ended (read-at.clauses 𝓤 H A mem run) (κ, tt) (d .bytes, (d .at, (flags, tt))) tt r) (fact 𝓤 (r ≡ answer))
   said r = exE 𝓤 _ (λ ws. snd∗ 𝓤 (sem 𝓤 H A (lasts read-at.ended (κ, tt) (d .bytes, (d .at, (flags, tt))) ws)) (fact 𝓤 (r ≡ answer)))
 
