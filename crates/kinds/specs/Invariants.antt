@@ -1,9 +1,10 @@
 -- What the private functions promise one another. No public contract cites it.
 use mathlib.Core.Path.{_≡_}
 use mathlib.Core.List.{List}
-use Prim.Native.Nat.{ℕ, _<_}
+use Prim.Native.Nat.{ℕ, _+_, _*_, _/_, _<_}
 use lib.ListN.{getD}
-use Rattle.kinds.specs.Kind.{kindsOf}
+use Rattle.sets.specs.Set.{wordOf}
+use Rattle.kinds.specs.Kind.{isWord, kindsOf}
 use Rattle.kinds.specs.declared.Kind.{Kind}
 use Rattle.kinds.specs.declared.Kind.the-variants.{Digit, Word, Space, Horizontal, Vertical, Alpha, Lower, Upper, Alnum, Ascii, Blank, Cntrl, Graph, Print, Punct, Xdigit}
 
@@ -29,3 +30,7 @@ bitOf Graph = 4096
 bitOf Print = 8192
 bitOf Punct = 16384
 bitOf Xdigit = 32768
+
+-- the word bytes among the 64 bytes of which b is one, as a word
+unfoldable pub wordDigits : ℕ → ℕ
+wordDigits b = wordOf 64 (λ k. isWord (b / 64 * 64 + k))

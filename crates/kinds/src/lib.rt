@@ -1,9 +1,9 @@
 // What each byte is: a digit, a word byte, white space of a sort, a letter of either case. One
 // table has it, a bit for each kind; the sets of the types `\d \w \s \h \v` and of the classes by
 // name such as `[:alpha:]`, their complements, and the other case of a letter are read from the
-// table. What a byte is beside a gap is asked for each byte of a stream, so `side_of` has it by
-// ranges. Nothing is required of a caller. specs/Kind.antt, specs/Case.antt and specs/Side.antt say
-// what each function gives.
+// table. What a byte is beside a gap is asked for each byte of a stream, so `side_of` has it by two
+// words of digits. Nothing is required of a caller. specs/Kind.antt, specs/Case.antt and
+// specs/Side.antt say what each function gives.
 mod table;
 
 ghost use mathlib.Core.Path.{_≡_};
@@ -11,7 +11,7 @@ ghost use Rattle.sets.specs.Set.{setOf};
 ghost use Rattle.kinds.specs.Kind.{isKind, isNotKind, kindsOf};
 ghost use Rattle.kinds.specs.Case.{otherCase, caseClosed, uncased};
 ghost use Rattle.kinds.specs.Side.{sideOf};
-ghost use Rattle.kinds.specs.Invariants.{Ruled, bitOf};
+ghost use Rattle.kinds.specs.Invariants.{Ruled, bitOf, wordDigits};
 
 // The bit of each kind in an entry of the table, in the order of specs/Kind.antt's list of kinds.
 pub const DIGIT: u32 = 1;
@@ -203,13 +203,34 @@ pub enum Side {
     Newline,
 }
 
+// The word bytes below 64, and those from 64 up to 127, a binary digit for each byte.
+const LOW_WORDS: u64 = 0x03ff_0000_0000_0000;
+
+const HIGH_WORDS: u64 = 0x07ff_fffe_87ff_fffe;
+
+// The word bytes among the 64 bytes of which b is one, a binary digit for each.
+fn word_digits(b: u8) -> u64
+    ensures { λ r. ⌜ r ≡ wordDigits b ⌝ }
+{
+    if b < 64 {
+        return LOW_WORDS;
+    }
+    if b < 128 {
+        return HIGH_WORDS;
+    }
+    0
+}
+
 // What this byte is, seen from a gap before or after it.
 pub fn side_of(b: u8) -> Side
     ensures { λ r. ⌜ r ≡ sideOf b ⌝ }
 {
-    match b {
-        b'\n' => Side::Newline,
-        b'0'..=b'9' | b'A'..=b'Z' | b'_' | b'a'..=b'z' => Side::Word,
-        _ => Side::Other,
+    if b == b'\n' {
+        return Side::Newline;
+    }
+    if word_digits(b) >> (b % 64) & 1 == 1 {
+        Side::Word
+    } else {
+        Side::Other
     }
 }

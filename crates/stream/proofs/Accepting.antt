@@ -11,7 +11,7 @@ use lib.Dec.{eqb, leb, ltb}
 use borrow.Author.Tests.{not-true, eq-eqb, ne-eqb, lt-ltb, le-ltb, ltb-false, le-leb, leb-true, eqb-true}
 use Rattle.sets.specs.Set.{on, has, wordOf, any, fullSet, unionOf, intersectionOf, complementOf, keptBelow, isEmpty}
 use Rattle.sets.proofs.Digits.{on-zero, on-shr, on-bound, on-wordOf, wordOf-lt, off-zero}
-use Rattle.sets.proofs.Laws.{has-full, has-union, has-intersection, has-complement, has-below, any-none, any-some, any-never, any-ext}
+use Rattle.sets.proofs.Laws.{has-full, has-union, has-intersection, has-complement, has-below, any-none, any-some, any-never, any-ext, empty-none}
 use Rattle.table.specs.Layout.{maxPositions, rulesOf}
 use Rattle.table.specs.Table.{isTable}
 use Rattle.table.specs.Automaton.{Automaton, automaton}
@@ -22,6 +22,9 @@ use Rattle.stream.specs.Valid.{streamLimit, sameCounts, liveInside, mark
 use Rattle.stream.specs.Calls.{spaceNumber, scanNumber, closeNumber}
 
 -- ---- the tests in words
+
+pub inside-empty : (live : List ℕ) (n : ℕ) → isEmpty live ≡ true → not (any maxPositions (λ q. has live q && leb n q)) ≡ true
+inside-empty live n e = ap not (any-never maxPositions (λ q. has live q && leb n q) (λ q h. ap (λ (b : Bool). b && leb n q) (empty-none live e q h)))
 
 pub inside-test : (live : List ℕ) (n : ℕ) → isEmpty (intersectionOf live (complementOf (keptBelow fullSet n))) ≡ not (any maxPositions (λ q. has live q && leb n q))
 unfolding isEmpty

@@ -11,14 +11,14 @@ use lib.Dec.{eqb}
 use lib.ListN.{getD}
 use Rattle.kinds.specs.declared.Side.{Side}
 use Rattle.kinds.specs.Side.{sideOf}
-use Rattle.sets.specs.Set.{has, any, emptySet, unionOf, intersectionOf, isEmpty, sizeOf}
+use Rattle.sets.specs.Set.{has, any, emptySet, unionOf, sizeOf}
 use Rattle.sets.proofs.Laws.{has-union, has-intersection, has-setOf, has-empty, any-none, any-never, count-never}
 use Rattle.table.specs.Layout.{maxPositions}
 use Rattle.table.specs.Gaps.{between, unsettled}
 use Rattle.table.specs.Automaton.{Automaton, last}
 use Rattle.steps.specs.Step.{ends, endsNewly, lastsOf, latesOf, lateIn, rulesWhere}
 use Rattle.steps.proofs.Steps.{next-quiet}
-use Rattle.stream.specs.Invariants.{NoOpener, Skipped}
+use Rattle.stream.specs.Invariants.{waitsIn, NoOpener, Skipped}
 use Rattle.stream.proofs.Runs.{rules-none}
 
 -- ---- the rules that end
@@ -36,7 +36,7 @@ gate w live a e =
     shut false y z f = refl
 
 -- where no live position waits for the next byte, none ends a match late
-pub late-gate : (w : Automaton) (live : List ℕ) (gap less a : ℕ) → any maxPositions (λ q. has live q && has (latesOf w) q) ≡ false
+pub late-gate : (w : Automaton) (live : List ℕ) (gap less a : ℕ) → waitsIn w live ≡ false
     → endsNewly w gap (lateIn w live) less live a ≡ false
 unfolding endsNewly ends
 late-gate w live gap less a e =
@@ -44,39 +44,34 @@ late-gate w live gap less a e =
     (any-never maxPositions (λ p. has (lateIn w live) p && last w gap a p)
     (λ p l. ap (λ (b : Bool). b && last w gap a p) (has-intersection live (latesOf w) p l ∙ any-none maxPositions (λ q. has live q && has (latesOf w) q) e p l)))
 
--- the joined gate: two pairs of sets, neither of which has a member in common
-pub apart : (s t u v : List ℕ) → isEmpty (unionOf (intersectionOf s t) (intersectionOf u v)) ≡ true
-    → (any maxPositions (λ q. has s q && has t q) ≡ false) × (any maxPositions (λ q. has u q && has v q) ≡ false)
-unfolding isEmpty
-apart s t u v e = (
-  any-never maxPositions (λ q. has s q && has t q) (λ q l. sym (has-intersection s t q l) ∙ left-off (has (intersectionOf s t) q) (has (intersectionOf u v) q) (neither q l)),
-  any-never maxPositions (λ q. has u q && has v q) (λ q l. sym (has-intersection u v q l) ∙ right-off (has (intersectionOf s t) q) (has (intersectionOf u v) q) (neither q l)),
+-- where no position of a set can end a match, none can whatever follows, and none waits for the next byte
+pub none-end : (w : Automaton) (next : List ℕ) → any maxPositions (λ q. has next q && has (unionOf (lastsOf w) (latesOf w)) q) ≡ false
+    → (any maxPositions (λ q. has next q && has (lastsOf w) q) ≡ false) × (waitsIn w next ≡ false)
+none-end w next e = (
+  any-never maxPositions (λ q. has next q && has (lastsOf w) q) (λ q l. left-off (has next q) (has (lastsOf w) q) (has (latesOf w) q) (neither q l)),
+  any-never maxPositions (λ q. has next q && has (latesOf w) q) (λ q l. right-off (has next q) (has (lastsOf w) q) (has (latesOf w) q) (neither q l)),
 )
   where
-    neither : (q : ℕ) → q < maxPositions → (has (intersectionOf s t) q || has (intersectionOf u v) q) ≡ false
+    neither : (q : ℕ) → q < maxPositions → (has next q && (has (lastsOf w) q || has (latesOf w) q)) ≡ false
     neither q l =
-        sym (has-union (intersectionOf s t) (intersectionOf u v) q l)
-        ∙ any-none maxPositions (has (unionOf (intersectionOf s t) (intersectionOf u v))) (not-true (any maxPositions (has (unionOf (intersectionOf s t) (intersectionOf u v)))) e) q l
-      where
-        not-true : (b : Bool) → not b ≡ true → b ≡ false
-        not-true true f = sym f
-        not-true false f = refl
+        sym (ap (λ (b : Bool). has next q && b) (has-union (lastsOf w) (latesOf w) q l))
+        ∙ any-none maxPositions (λ q. has next q && has (unionOf (lastsOf w) (latesOf w)) q) e q l
 
-    left-off : (x y : Bool) → (x || y) ≡ false → x ≡ false
-    left-off true y f = f
-    left-off false y f = refl
+    left-off : (x y z : Bool) → (x && (y || z)) ≡ false → (x && y) ≡ false
+    left-off true true z f = f
+    left-off true false z f = refl
+    left-off false y z f = refl
 
-    right-off : (x y : Bool) → (x || y) ≡ false → y ≡ false
-    right-off true y f = absurd (true≢false f)
-    right-off false y f = f
+    right-off : (x y z : Bool) → (x && (y || z)) ≡ false → (x && z) ≡ false
+    right-off true true z f = absurd (true≢false f)
+    right-off true false z f = f
+    right-off false y z f = refl
 
--- a set that keeps such a gate shut has no rule
-module _ (w : Automaton) (live : List ℕ) where
-  pub late-none : (late : List ℕ) → late ≡ latesOf w → any maxPositions (λ q. has live q && has late q) ≡ false → (before after : Side)
-      → 0 ≡ rulesWhere w (endsNewly w (between before after) (lateIn w live) unsettled live)
-  late-none late is e before after =
-      rules-none w (endsNewly w (between before after) (lateIn w live) unsettled live)
-      (λ a h. late-gate w live (between before after) unsettled a (ap (λ (x : List ℕ). any maxPositions (λ q. has live q && has x q)) (sym is) ∙ e))
+-- where none waits, no rule ends late
+pub late-none : (w : Automaton) (live : List ℕ) → waitsIn w live ≡ false → (before after : Side)
+    → 0 ≡ rulesWhere w (endsNewly w (between before after) (lateIn w live) unsettled live)
+late-none w live e before after =
+    rules-none w (endsNewly w (between before after) (lateIn w live) unsettled live) (λ a h. late-gate w live (between before after) unsettled a e)
 
 -- ---- nothing is live in the empty set
 

@@ -18,7 +18,7 @@ use Rattle.stream.specs.declared.Stream.{Stream}
 use Rattle.stream.specs.declared.scan.Turn.{Turn}
 use Rattle.stream.specs.Byte.{given, nextLive, lateTest, ownTest, byteReports, byteState}
 use Rattle.stream.specs.Calls.{Lists, space, written}
-use Rattle.stream.specs.Invariants.{writtenAt, free, back, hereAt, stopAt, Delivered, Offered}
+use Rattle.stream.specs.Invariants.{waitsIn, writtenAt, free, back, hereAt, stopAt, Delivered, Offered}
 use Rattle.stream.proofs.Lists.{written-part, written-at-none, free-space}
 
 module _ (w : Automaton) (taken : ℕ) (block : List ℕ) (z : Turn) (l : Lists) where
@@ -42,16 +42,18 @@ module _ (w : Automaton) (taken : ℕ) (block : List ℕ) (z : Turn) (l : Lists)
   pub offered-unpaid : (r : Turn) → r ≡ stopAt z → (turns : ℕ) → turns ≡ sizeOf (z .live) → z .left < 1 + turns → Offered w here block z l r l
   offered-unpaid r is turns e h = offered-stop r l is refl (λ b. inr (omega (arith, e)))
 
--- what was written into the free part of the lists once a step was taken: the next live set, the side of the byte, and what the byte's runs came to
-pub record Told (w : Automaton) (taken : ℕ) (block : List ℕ) (z : Turn) (l : Lists) (next : List ℕ) (new : Side) (full : Bool) (reports marks : ℕ) (last : Lists) : Type 0 where
+-- what was written into the free part of the lists once a step was taken: the next live set, the side of the byte, what the byte's runs came to, and whether a position waits for
+-- the next byte
+pub record Told (w : Automaton) (taken : ℕ) (block : List ℕ) (z : Turn) (l : Lists) (next : List ℕ) (new : Side) (full : Bool) (reports marks : ℕ) (waits : Bool) (last : Lists) : Type 0 where
   pub step : next ≡ nextLive w (hereAt taken z) (getD block (z .at) 0)
   pub side : new ≡ sideOf (getD block (z .at) 0)
   pub room : z .count ≤ space l
+  pub wait : waits ≡ waitsIn w next
   pub delivered : Delivered w (endsNewly w (between (z .side) new) (lateIn w (z .live)) unsettled (z .live)) (ends w unsettled next) (z .reported)
       (given w (taken + z .at)) (given w (suc (taken + z .at))) (free (z .count) l) full reports marks last
 
-module _ {w : Automaton} {taken : ℕ} {block : List ℕ} {z : Turn} {l : Lists} {next : List ℕ} {new : Side} {full : Bool} {reports marks : ℕ} {last : Lists}
-    (h : Told w taken block z l next new full reports marks last) where
+module _ {w : Automaton} {taken : ℕ} {block : List ℕ} {z : Turn} {l : Lists} {next : List ℕ} {new : Side} {full : Bool} {reports marks : ℕ} {waits : Bool} {last : Lists}
+    (h : Told w taken block z l next new full reports marks waits last) where
   abbrev there : Stream
   there = hereAt taken z
 
@@ -100,7 +102,7 @@ module _ {w : Automaton} {taken : ℕ} {block : List ℕ} {z : Turn} {l : Lists}
 
   pub offered-taken : z .at < length block → full ≡ false → (turns : ℕ) → turns ≡ sizeOf (z .live) → 1 + turns ≤ z .left
       → Offered w there block z l
-      (record { live = next; before = z .live; reported = marks; side = new; at = z .at + 1; count = z .count + reports; left = z .left - (1 + turns); stopped = false })
+      (record { live = next; before = z .live; reported = marks; side = new; waits = waits; at = z .at + 1; count = z .count + reports; left = z .left - (1 + turns); stopped = false })
       (back (z .count) l last)
   offered-taken inside e turns size paid =
       let cost : 1 + turns ≡ suc (sizeOf (z .live)) = omega (arith, size) in
@@ -116,6 +118,7 @@ module _ {w : Automaton} {taken : ℕ} {block : List ℕ} {z : Turn} {l : Lists}
                 before = z .live;
                 reported = marks-are e i;
                 side = h .side i;
+                waits = (h .wait ∙ ap (waitsIn w) (h .step)) i;
                 at = z .at + 1;
                 count = z .count + reports-are e i;
                 left = z .left - cost i;

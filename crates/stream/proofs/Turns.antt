@@ -21,7 +21,7 @@ use Rattle.stream.specs.declared.Stream.{Stream}
 use Rattle.stream.specs.declared.scan.Turn.{Turn}
 use Rattle.stream.specs.Byte.{Report, after, reportsBy, costBy, given, nextLive, lateTest, ownTest, byteReports, byteState, plain, stateAfter, reportsOf, costOf}
 use Rattle.stream.specs.Calls.{Lists, space}
-use Rattle.stream.specs.Invariants.{stateOf, sideAt, hereAt, passedSide, skipTo, stopAt, Skipped, Passed, Stops, Takes, Offered, Running, Over, Ran}
+use Rattle.stream.specs.Invariants.{stateOf, sideAt, hereAt, waitsIn, passedSide, skipTo, stopAt, Skipped, Passed, Stops, Takes, Offered, Running, Over, Ran}
 use Rattle.stream.proofs.Lists.{filled-start, filled-space, filled-more, filled-same}
 use Rattle.stream.proofs.TwoRuns.{two-none, two-marks-none, two-marks-small}
 use Rattle.stream.proofs.Machines.{after-more, reports-more, cost-more}
@@ -38,18 +38,19 @@ unfolding sideAt
 side-next before block at = ap (sideAt before block) (sym (add-one at))
 
 -- where the loop begins
-abbrev pub startTurn : Stream → (allowance : ℕ) → Turn
-startTurn s allowance = record { live = s .live; before = s .live; reported = s .reported; side = s .last; at = 0; count = 0; left = allowance; stopped = false }
+abbrev pub startTurn : Stream → (waits : Bool) → (allowance : ℕ) → Turn
+startTurn s waits allowance = record { live = s .live; before = s .live; reported = s .reported; side = s .last; waits = waits; at = 0; count = 0; left = allowance; stopped = false }
 
 module _ (w : Automaton) (s : Stream) (allowance : ℕ) (block : List ℕ) (l₀ : Lists) where
-  pub running-start : s .reported < 2 ^ 64 → Running w s allowance block l₀ (startTurn s allowance) l₀
+  pub running-start : (waits : Bool) → waits ≡ waitsIn w (s .live) → s .reported < 2 ^ 64 → Running w s allowance block l₀ (startTurn s waits allowance) l₀
   unfolding after reportsBy costBy sideAt
-  running-start h = record {
+  running-start waits e h = record {
     inside = zero-le;
     live-is = refl;
     before-is = λ l. absurd (omega arith);
     marks-are = refl;
     side-is = refl;
+    waits-is = e;
     small = h;
     paid = add-zero allowance;
     filled = filled-start l₀;
@@ -99,6 +100,7 @@ module _ (w : Automaton) (s : Stream) (allowance : ℕ) (block : List ℕ) (l₀
           before-is = before-more;
           marks-are = marks-more;
           side-is = side-next (s .last) block (z .at);
+          waits-is = refl;
           small = two-marks-small w (lateTest w here x) (ownTest w here x) (z .reported);
           paid = omega (arith, h .paid, t .paid, cost-next);
           filled = filled-same (sym reports-next) (filled-more (h .filled) (byteReports w here x) l′ (t .lists-are) (t .room));
@@ -115,6 +117,7 @@ module _ (w : Automaton) (s : Stream) (allowance : ℕ) (block : List ℕ) (l₀
             before-is = h .before-is;
             marks-are = h .marks-are;
             side-is = h .side-is;
+            waits-is = h .waits-is;
             small = h .small;
             paid = h .paid;
             filled = h .filled;
@@ -132,7 +135,7 @@ module _ (w : Automaton) (s : Stream) (allowance : ℕ) (block : List ℕ) (l₀
 
     -- a byte that is passed over: nothing is live, and it leaves it so
     abbrev passOne : Turn
-    passOne = record { live = z .live; before = z .live; reported = z .reported; side = sideOf x; at = z .at + 1; count = z .count; left = z .left - 1; stopped = z .stopped }
+    passOne = record { live = z .live; before = z .live; reported = z .reported; side = sideOf x; waits = z .waits; at = z .at + 1; count = z .count; left = z .left - 1; stopped = z .stopped }
 
     running-pass : z .at < length block → 0 < z .left → z .live ≡ emptySet → nextLive w here x ≡ emptySet → Running w s allowance block l₀ passOne l
     unfolding byteReports byteState
@@ -152,6 +155,7 @@ module _ (w : Automaton) (s : Stream) (allowance : ℕ) (block : List ℕ) (l₀
           before-is = before-more;
           marks-are = sym (two-marks-none w (lateTest w here x) (ownTest w here x) (z .reported) one two (h .small)) ∙ marks-more;
           side-is = side-next (s .last) block (z .at);
+          waits-is = h .waits-is;
           small = h .small;
           paid = omega (arith, h .paid, cost-next, none);
           filled = filled-same (sym same) (h .filled);
@@ -175,6 +179,7 @@ module _ (w : Automaton) (s : Stream) (allowance : ℕ) (block : List ℕ) (l₀
           before = sym (ap (λ (c : Bool). cond c (z .live) (z .before)) passed) i;
           reported = z .reported;
           side = (ap (λ (m : ℕ). sideOf (getD block m 0)) (less-one n) ∙ sym (ap (λ (c : Bool). cond c (sideOf (getD block (n + 1 - 1) 0)) (z .side)) passed)) i;
+          waits = z .waits;
           at = n + 1;
           count = z .count;
           left = units i;
@@ -193,6 +198,7 @@ module _ (w : Automaton) (s : Stream) (allowance : ℕ) (block : List ℕ) (l₀
           before = sym (ap (λ (c : Bool). cond c (z .live) (z .before)) none) i;
           reported = z .reported;
           side = sym (ap (λ (c : Bool). cond c (sideOf (getD block (z .at + 0 - 1) 0)) (z .side)) none) i;
+          waits = z .waits;
           at = place i;
           count = z .count;
           left = units i;
@@ -218,10 +224,10 @@ pub record Turned (w : Automaton) (s : Stream) (allowance : ℕ) (block : List �
   pub goes : going ≡ true → z .stopped ≡ false
   pub rests : going ≡ false → z .stopped ≡ false → (pause ≡ true) × (isEmpty (z .live) ≡ true) × (0 < z .at)
 
-pub turned-start : (w : Automaton) (s : Stream) (allowance : ℕ) (block : List ℕ) (l₀ : Lists) (pause : Bool) → s .reported < 2 ^ 64
-    → Turned w s allowance block l₀ pause true (startTurn s allowance) l₀
-turned-start w s allowance block l₀ pause h = record {
-  running = running-start w s allowance block l₀ h;
+pub turned-start : (w : Automaton) (s : Stream) (allowance : ℕ) (block : List ℕ) (l₀ : Lists) (pause waits : Bool) → waits ≡ waitsIn w (s .live) → s .reported < 2 ^ 64
+    → Turned w s allowance block l₀ pause true (startTurn s waits allowance) l₀
+turned-start w s allowance block l₀ pause waits e h = record {
+  running = running-start w s allowance block l₀ waits e h;
   stops = λ e. absurd (true≢false (sym e));
   goes = λ e. refl;
   rests = λ e. absurd (true≢false e);

@@ -8,10 +8,10 @@ use Prim.Native.Nat.{ℕ, zero, suc, _+_, _-_, _^_, _<_, _≤_, min}
 use lib.Dec.{eqb, ltb}
 use lib.ListN.{length, getD, take, drop}
 use borrow.Rule.Slice.PartMut.{putMid}
-use Rattle.sets.specs.Set.{emptySet, fullSet, isEmpty, keptBelow, sizeOf}
+use Rattle.sets.specs.Set.{has, any, emptySet, fullSet, isEmpty, keptBelow, unionOf, sizeOf}
 use Rattle.kinds.specs.declared.Side.{Side}
 use Rattle.kinds.specs.Side.{sideOf}
-use Rattle.table.specs.Layout.{positionsOf}
+use Rattle.table.specs.Layout.{maxPositions, positionsOf}
 use Rattle.table.specs.Automaton.{Automaton, automaton, single}
 use Rattle.steps.specs.Step.{stepped, lastsOf, latesOf, rulesWhere}
 use Rattle.stream.specs.declared.Stream.{Stream}
@@ -120,9 +120,13 @@ pub record NoOpener (w : Automaton) (block : List ℕ) (from end to : ℕ) : Typ
 abbrev pub passedSide : (from to : ℕ) → Side → (block : List ℕ) → Side
 passedSide from to side block = cond (ltb from to) (sideOf (getD block (to - 1) 0)) side
 
+-- some position of a live set waits for the next byte: it may end a match once that is known
+abbrev pub waitsIn : Automaton → (live : List ℕ) → Bool
+waitsIn w live = any maxPositions (λ q. has live q && has (latesOf w) q)
+
 -- the sets of a table that a scan asks for once
 pub record SetsOf (t : List ℕ) (sets : Sets) : Type 0 where
-  pub last-is : sets .last ≡ lastsOf (automaton t)
+  pub enders-is : sets .enders ≡ unionOf (lastsOf (automaton t)) (latesOf (automaton t))
   pub late-is : sets .late ≡ latesOf (automaton t)
   pub single-is : sets .single ≡ rulesWhere (automaton t) (single (automaton t))
   pub positions-is : sets .positions ≡ keptBelow fullSet (positionsOf t)
@@ -135,6 +139,7 @@ skipTo block z to = record {
   before = cond (ltb (z .at) to) (z .live) (z .before);
   reported = z .reported;
   side = passedSide (z .at) to (z .side) block;
+  waits = z .waits;
   at = to;
   count = z .count;
   left = z .left - (to - z .at);
@@ -147,7 +152,7 @@ pub record Passed (w : Automaton) (taken : ℕ) (block : List ℕ) (z r : Turn) 
 
 -- a turn that stops, and one that takes byte x; s is the state before it, as far as it counts
 abbrev pub stopAt : Turn → Turn
-stopAt z = record { live = z .live; before = z .before; reported = z .reported; side = z .side; at = z .at; count = z .count; left = z .left; stopped = true }
+stopAt z = record { live = z .live; before = z .before; reported = z .reported; side = z .side; waits = z .waits; at = z .at; count = z .count; left = z .left; stopped = true }
 
 abbrev pub takeAt : Automaton → Stream → (x : ℕ) → Turn → Turn
 takeAt w s x z = record {
@@ -155,6 +160,7 @@ takeAt w s x z = record {
   before = z .live;
   reported = byteState w s x .reported;
   side = sideOf x;
+  waits = waitsIn w (nextLive w s x);
   at = z .at + 1;
   count = z .count + length (byteReports w s x);
   left = z .left - suc (sizeOf (z .live));
@@ -191,6 +197,7 @@ pub record Running (w : Automaton) (s : Stream) (allowance : ℕ) (block : List 
   pub before-is : 0 < z .at → z .before ≡ stateAfter w s block (z .at - 1) .live
   pub marks-are : z .reported ≡ stateAfter w s block (z .at) .reported
   pub side-is : z .side ≡ sideAt (s .last) block (z .at)
+  pub waits-is : z .waits ≡ waitsIn w (z .live)
   pub small : z .reported < 2 ^ 64
   pub paid : z .left + costOf w s block (z .at) ≡ allowance
   pub filled : Filled (reportsOf w s block (z .at)) l₀ (z .count) l

@@ -28,6 +28,9 @@ pub(super) fn least(a: usize, b: usize) -> usize
 fn inside(s: [u64; 4], positions: usize) -> bool
     ensures { λ r. ⌜ r ≡ not (any maxPositions (λ q. has s q && leb positions q)) ⌝ }
 {
+    if sets::is_empty(s) {
+        return true;
+    }
     let outside = sets::complement(sets::below(sets::full(), positions));
     sets::is_empty(sets::intersection(s, outside))
 }

@@ -1,7 +1,6 @@
 // The bytes of a block, one after the other: the bytes that change nothing, the loop, and what
 // waits for the stream's end.
 use super::Stream;
-use super::reports::Delivery;
 use super::reports::deliver;
 use kinds::Side;
 use kinds::side_of;
@@ -30,7 +29,7 @@ ghost use Rattle.sets.specs.Set.{isEmpty, any};
 ghost use Rattle.steps.specs.Step.{ends, endsNewly, latesOf, lateIn, rulesWhere};
 ghost use Rattle.stream.specs.Byte.{given, nextHeld, nextPending};
 ghost use Rattle.stream.specs.Calls.{lists, space};
-ghost use Rattle.stream.specs.Invariants.{stateOf, sideAt, passedSide, SetsOf, Delivered, NoOpener, Skipped, Passed, hereAt, stopAt, Offered, Ran, Left};
+ghost use Rattle.stream.specs.Invariants.{stateOf, sideAt, passedSide, waitsIn, SetsOf, Delivered, NoOpener, Skipped, Passed, hereAt, stopAt, Offered, Ran, Left};
 
 // The byte that ends a line.
 const NEWLINE: u8 = 10;
@@ -78,16 +77,30 @@ fn over_eights(words: &[u64], block: &[u8], from: usize, end: usize) -> usize
     at
 }
 
-// The place of the next byte before `end` that has to be looked at, or `end`. Where nothing is live
-// inside the stream, bytes that start nothing are passed over. That there are enough words is
-// tested once, before the loop, so that the compiler leaves out the test of each byte's word.
-fn ahead(live: [u64; 4], taken: u64, words: &[u64], block: &[u8], from: usize, end: usize) -> usize
-    requires { ⌜ (from ≤ end) × (end ≤ length (now block)) × (taken + length (now block) < 2 ^ 64) ⌝ }
-    ensures { λ r. ⌜ Skipped (automaton (now (words .entry))) live (now (block .entry)) taken from end r ⌝ }
+// How far a block can be paid for at a unit a byte, from a place of it on.
+fn payable(len: usize, from: usize, units: u64) -> usize
+    requires { ⌜ from ≤ len ⌝ }
+    ensures { λ r. ⌜ r ≡ min len (from + units) ⌝ }
+{
+    if (len - from) as u64 <= units {
+        len
+    } else {
+        from + units as usize
+    }
+}
+
+// The place of the next byte that has to be looked at, or the end of what can be paid for at a unit
+// a byte. Where nothing is live inside the stream, bytes that start nothing are passed over. That
+// there are enough words is tested once, before the loop, so that the compiler leaves out the test
+// of each byte's word.
+fn ahead(live: [u64; 4], taken: u64, words: &[u64], block: &[u8], from: usize, units: u64) -> usize
+    requires { ⌜ (from ≤ length (now block)) × (taken + length (now block) < 2 ^ 64) ⌝ }
+    ensures { λ r. ⌜ Skipped (automaton (now (words .entry))) live (now (block .entry)) taken from (min (length (now (block .entry))) (from + units)) r ⌝ }
 {
     if !sets::is_empty(live) | (taken + from as u64 == 0) | (words.len() < TABLE_WORDS) {
         return from;
     }
+    let end = payable(block.len(), from, units);
     let mut at = over_eights(words, block, from, end);
     while at < end {
         if opens(words, block[at]) {
@@ -119,22 +132,11 @@ fn passed_side(from: usize, to: usize, side: Side, block: &[u8]) -> Side
     }
 }
 
-// How far a block can be paid for at a unit a byte, from a place of it on.
-fn payable(len: usize, from: usize, units: u64) -> usize
-    requires { ⌜ from ≤ len ⌝ }
-    ensures { λ r. ⌜ r ≡ min len (from + units) ⌝ }
-{
-    if (len - from) as u64 <= units {
-        len
-    } else {
-        from + units as usize
-    }
-}
-
-// What a scan asks a table for once: the positions that can end a match, and those that can end one
-// only once the next byte is known; the single-match rules; and the positions that there are.
+// What a scan asks a table for once: the positions that can end a match, and those of them that can
+// end one only once the next byte is known; the single-match rules; and the positions that there
+// are.
 pub(super) struct Sets {
-    pub last: [u64; 4],
+    pub enders: [u64; 4],
     pub late: [u64; 4],
     pub single: u64,
     pub positions: [u64; 4],
@@ -146,10 +148,10 @@ pub(super) fn sets_of(words: &[u64]) -> Sets
     ensures { λ r. ⌜ SetsOf (now (words .entry)) r ⌝ }
 {
     let positions = sets::below(sets::full(), words[POSITIONS_AT] as usize);
-    let last = lasts(words);
     let late = lates(words);
+    let enders = sets::union(lasts(words), late);
     Sets {
-        last,
+        enders,
         late,
         single: singles(words),
         positions,
@@ -157,23 +159,34 @@ pub(super) fn sets_of(words: &[u64]) -> Sets
 }
 
 // The rules of which a match ends before a byte, now that it is known. A rule is looked at only if
-// a live position can end a match so.
-fn late_rules(live: [u64; 4], late: [u64; 4], before: Side, after: Side, words: &[u64]) -> u64
-    requires { ⌜ (isTable (now words) ≡ true) × (late ≡ latesOf (automaton (now words))) ⌝ }
+// a live position waits for it.
+fn late_rules(waits: bool, live: [u64; 4], before: Side, after: Side, words: &[u64]) -> u64
+    requires { ⌜ (isTable (now words) ≡ true) × (waits ≡ waitsIn (automaton (now words)) live) ⌝ }
     ensures { λ r. ⌜ r ≡ rulesWhere (automaton (now (words .entry))) (endsNewly (automaton (now (words .entry))) (between before after) (lateIn (automaton (now (words .entry))) live) unsettled live) ⌝ }
 {
-    if meets(live, late) {
+    if waits {
         late_ending(before, after, live, words)
     } else {
         0
     }
 }
 
+// What the reports of a byte come to: whether the free space is too small for them, how many were
+// written, and the marks afterwards; and whether a position that is live after it waits for the
+// next byte.
+struct Given {
+    pub full: bool,
+    pub reports: usize,
+    pub reported: u64,
+    pub waits: bool,
+}
+
 // The reports of a byte, `offset` bytes into the stream: `live` and `next` are the live sets before
 // it and after it, `old` and `new` the sides of the gap before it. No rule is looked at unless a
-// position waits for the byte or ends a match with it.
+// position waits for the byte, or can end a match with it.
 fn report(
     sets: Sets,
+    waits: bool,
     live: [u64; 4],
     next: [u64; 4],
     old: Side,
@@ -183,22 +196,22 @@ fn report(
     offset: u64,
     ids: &mut [u32],
     offsets: &mut [u64],
-) -> Delivery
-    requires { ⌜ (isTable (now words) ≡ true) × SetsOf (now words) sets × (offset + 1 < 2 ^ 64) ⌝ }
-    ensures { λ r. ⌜ Delivered (automaton (now (words .entry))) (endsNewly (automaton (now (words .entry))) (between old new) (lateIn (automaton (now (words .entry))) live) unsettled live) (ends (automaton (now (words .entry))) unsettled next) reported (given (automaton (now (words .entry))) offset) (given (automaton (now (words .entry))) (suc offset)) (lists (now (ids .entry)) (now (offsets .entry))) (r .full) (r .reports) (r .reported) (lists (now (ids .exit)) (now (offsets .exit))) ⌝ }
+) -> Given
+    requires { ⌜ (isTable (now words) ≡ true) × SetsOf (now words) sets × (waits ≡ waitsIn (automaton (now words)) live) × (offset + 1 < 2 ^ 64) ⌝ }
+    ensures waits { λ r. ⌜ r .waits ≡ waitsIn (automaton (now (words .entry))) next ⌝ }
+    ensures reports { λ r. ⌜ Delivered (automaton (now (words .entry))) (endsNewly (automaton (now (words .entry))) (between old new) (lateIn (automaton (now (words .entry))) live) unsettled live) (ends (automaton (now (words .entry))) unsettled next) reported (given (automaton (now (words .entry))) offset) (given (automaton (now (words .entry))) (suc offset)) (lists (now (ids .entry)) (now (offsets .entry))) (r .full) (r .reports) (r .reported) (lists (now (ids .exit)) (now (offsets .exit))) ⌝ }
 {
-    let last = sets.last;
-    let late = sets.late;
-    let waits = sets::intersection(live, late);
-    if sets::is_empty(sets::union(waits, sets::intersection(next, last))) {
-        return Delivery {
+    let enders = sets.enders;
+    if !(waits | meets(next, enders)) {
+        return Given {
             full: false,
             reports: 0,
             reported,
+            waits: false,
         };
     }
-    deliver(
-        late_rules(live, late, old, new, words),
+    let r = deliver(
+        late_rules(waits, live, old, new, words),
         ending(next, words),
         reported,
         sets.single,
@@ -206,18 +219,26 @@ fn report(
         offset,
         ids,
         offsets,
-    )
+    );
+    let late = sets.late;
+    Given {
+        full: r.full,
+        reports: r.reports,
+        reported: r.reported,
+        waits: meets(next, late),
+    }
 }
 
 // Where the loop over a block stands: the live set, the one before the last byte taken, the marks,
-// and what the last byte is to the assertions after it; how many bytes are taken, how many reports
-// are written, and the units that are left; and whether it stopped before a byte that is not there,
-// cannot be paid for or cannot be reported.
+// what the last byte is to the assertions after it, and whether a live position waits for the next;
+// how many bytes are taken, how many reports are written, and the units that are left; and whether
+// it stopped before a byte that is not there, cannot be paid for or cannot be reported.
 pub(super) struct Turn {
     pub live: [u64; 4],
     pub before: [u64; 4],
     pub reported: u64,
     pub side: Side,
+    pub waits: bool,
     pub at: usize,
     pub count: usize,
     pub left: u64,
@@ -232,8 +253,7 @@ fn pass_over(z: Turn, taken: u64, words: &[u64], block: &[u8]) -> Turn
     let at = z.at;
     let live = z.live;
     let before = z.before;
-    let end = payable(block.len(), at, z.left);
-    let to = ahead(live, taken, words, block, at, end);
+    let to = ahead(live, taken, words, block, at, z.left);
     let last_live = passed(at, to, live, before);
     let side = z.side;
     let last_side = passed_side(at, to, side, block);
@@ -244,6 +264,7 @@ fn pass_over(z: Turn, taken: u64, words: &[u64], block: &[u8]) -> Turn
         before: last_live,
         reported: z.reported,
         side: last_side,
+        waits: z.waits,
         at: to,
         count: z.count,
         left,
@@ -270,7 +291,7 @@ fn take_byte(
     ids: &mut [u32],
     offsets: &mut [u64],
 ) -> Turn
-    requires { ⌜ (isTable (now words) ≡ true) × SetsOf (now words) sets × (z .count ≤ space (lists (now ids) (now offsets))) × (taken + length (now block) < 2 ^ 64) ⌝ }
+    requires { ⌜ (isTable (now words) ≡ true) × SetsOf (now words) sets × (z .waits ≡ waitsIn (automaton (now words)) (z .live)) × (z .count ≤ space (lists (now ids) (now offsets))) × (taken + length (now block) < 2 ^ 64) ⌝ }
     ensures { λ r. ⌜ Offered (automaton (now (words .entry))) (hereAt taken z) (now (block .entry)) z (lists (now (ids .entry)) (now (offsets .entry))) r (lists (now (ids .exit)) (now (offsets .exit))) ⌝ }
 {
     let at = z.at;
@@ -292,6 +313,7 @@ fn take_byte(
     let count = z.count;
     let r = report(
         sets,
+        z.waits,
         live,
         next,
         old,
@@ -310,6 +332,7 @@ fn take_byte(
         before: live,
         reported: r.reported,
         side: new,
+        waits: r.waits,
         at: at + 1,
         count: count + r.reports,
         left: z.left - cost,
@@ -349,11 +372,13 @@ pub(super) fn run(
 {
     let live = s.live;
     let side = s.last;
+    let late = sets.late;
     let mut z = Turn {
         live,
         before: live,
         reported: s.reported,
         side,
+        waits: meets(live, late),
         at: 0,
         count: 0,
         left: allowance,

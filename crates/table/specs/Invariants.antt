@@ -1,10 +1,15 @@
--- What the private functions that write a table promise, those of the crate rules too: a list with
--- some words given by their index. No public contract cites it.
+-- What private functions promise: the test of the ids, and those that write a table, those of the
+-- crate rules too: a list with some words given by their index. No public contract cites it.
 use mathlib.Core.Bool.{cond}
 use mathlib.Core.List.{List, [], _∷_}
-use Prim.Native.Nat.{ℕ, suc, _+_, _-_}
+use Prim.Native.Nat.{ℕ, suc, _+_, _-_, _^_, _<_}
 use lib.ListN.{getD}
 use Rattle.table.specs.Layout.{from-to}
+
+-- r tells by its size whether an id is of 32 bits and below the next
+pub record Unordered (id next r : ℕ) : Type 0 where
+  pub told : r < 2 ^ 32 → (id < 2 ^ 32) × (id < next)
+  pub small : id < next → next < 2 ^ 32 → r < 2 ^ 32
 
 -- t with g w at each place w from lo on and below hi, where t is the part of a list that begins at
 -- place i

@@ -1,46 +1,45 @@
--- `kinds::side_of` meets its contract: each arm's ranges tell the side.
-use mathlib.Core.Path.{sym}
-use Rattle.kinds.proofs.Sides.{newline, digit, upper, low-line, lower, below, between, cases, above}
+-- `kinds::side_of` meets its contract: the digit of the byte tells whether it is a word byte.
+use mathlib.Core.Path.{_≡_, sym, ap, _∙_}
+use mathlib.Core.Bool.{Bool, true, false}
+use Prim.Native.Nat.{ℕ, _/_, _%_, _^_}
+use native.Mathlib.Omega.{arith}
+use lib.Bits.{bitAnd, and-mask}
+use lib.Dec.{eqb}
+use borrow.Author.Tests.{eq-eqb, ne-eqb}
+use Rattle.sets.specs.Set.{on}
+use Rattle.kinds.specs.Invariants.{wordDigits}
+use Rattle.kinds.proofs.Sides.{newline, by-digit}
 use Rattle.kinds.proofs.side_of.Statement.{statement}
 use Rattle.kinds.proofs.side_of.Tie as tie
 
+-- the code's test is that of the digit
+asked : (b w : ℕ) → w ≡ wordDigits b → eqb (bitAnd (w / 2 ^ (b % 64)) 1) 1 ≡ on (wordDigits b) (b % 64)
+unfolding on
+asked b w e = ap (λ (x : ℕ). eqb x 1) (and-mask (w / 2 ^ (b % 64)) 1) ∙ ap (λ (x : ℕ). eqb (x / 2 ^ (b % 64) % 2) 1) e
+
 returns : tie.Need-returns
-returns c = sym (newline _ (c .match .keys1))
+returns c = sym (newline _ (c .if1 .taken))
+
+word-digits-requires : tie.Need-word-digits-requires
+word-digits-requires c κs = tt
+
+cast-if2 : tie.Need-cast-if2
+cast-if2 c = omega arith
+
+shr-if2 : tie.Need-shr-if2
+shr-if2 c = omega arith
 
 returns-2 : tie.Need-returns-2
-returns-2 c = sym (below _ (c .before .match .rest .0 .1) (c .if1 .taken))
+returns-2 c =
+    let found = c .before .word-digits in
+    let b = c .before .before .before .args .b in
+    sym (by-digit b (c .before .before .if1 .left) true (sym (asked b (found .result) (found .ensures)) ∙ eq-eqb _ 1 (c .if2 .taken)))
 
 returns-3 : tie.Need-returns-3
-returns-3 c = sym (between _ (c .before .if2 .left) (c .if3 .taken))
-
-returns-4 : tie.Need-returns-4
-returns-4 c = sym (cases _ (c .before .before .before .before .before .match .rest .1) (c .before .if4 .left) (c .if5 .taken))
-
-returns-5 : tie.Need-returns-5
-returns-5 c = sym (above _ (c .if6 .left))
-
-returns-6 : tie.Need-returns-6
-returns-6 c = sym (low-line _ (c .match .keys2))
-
-returns-7 : tie.Need-returns-7
-returns-7 c = sym (digit _ (c .before .if1 .left) (c .if2 .taken))
-
-returns-8 : tie.Need-returns-8
-returns-8 c = sym (upper _ (c .before .if3 .left) (c .if4 .taken))
-
-returns-9 : tie.Need-returns-9
-returns-9 c = sym (lower _ (c .before .if5 .left) (c .if6 .taken))
+returns-3 c =
+    let found = c .before .word-digits in
+    let b = c .before .before .before .args .b in
+    sym (by-digit b (c .before .before .if1 .left) false (sym (asked b (found .result) (found .ensures)) ∙ ne-eqb _ 1 (c .if2 .left)))
 
 pub side-of-spec : {M : Type 1} → statement M
-side-of-spec =
-    tie.close
-    (tie.spec
-    returns
-    returns-2
-    returns-3
-    returns-4
-    returns-5
-    returns-6
-    returns-7
-    returns-8
-    returns-9)
+side-of-spec = tie.close (tie.spec returns word-digits-requires cast-if2 shr-if2 returns-2 returns-3)

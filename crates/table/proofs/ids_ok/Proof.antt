@@ -1,103 +1,69 @@
--- `table::ids_ok` meets its contract. The loop asks whether each id is above the one before; then all have 32 bits if the last has.
-use mathlib.Core.Path.{_≡_, refl, sym, ap, ap₂, _∙_}
-use mathlib.Core.Bool.{Bool, true, false, true≢false, _&&_, and-eq-true-iff}
-use mathlib.Core.List.{List}
-use mathlib.Core.Logic.{⊎-elim}
-use Prim.Native.Nat.{ℕ, suc, _+_, _-_, _^_, _≤_, _<_, zero-le}
-use native.Mathlib.Nat.{le-of-suc-le-suc, eq-or-lt-of-le}
-use native.Mathlib.Numerals.{add-one}
-use native.Mathlib.Decide.{decLt}
+-- `table::ids_ok` meets its contract: the loop joins what tells of each id and the next that they are in order (`Seen`).
+use mathlib.Core.Path.{_≡_, sym, ap, subst, _∙_}
+use Prim.Native.Nat.{ℕ, suc, _+_, _-_, _^_}
 use native.Mathlib.Omega.{arith}
 use denote.Ref.{now}
-use lib.Dec.{leb, ltb}
+use lib.Dec.{ltb}
 use lib.ListN.{getD}
-use borrow.Author.Tests.{lt-ltb, le-ltb, le-leb, lt-leb, leb-true, ltb-true}
 use Rattle.table.specs.Layout.{idAt, idWord}
-use Rattle.table.specs.Table.{leastId, idOk, all}
-use Rattle.table.proofs.Test.{all-none, all-at, at-all, fine, fine-ok, rise}
+use Rattle.table.specs.Table.{idOk, all}
+use Rattle.table.specs.Invariants.{Unordered}
+use Rattle.table.proofs.Test.{all-none}
+use Rattle.table.proofs.Ids.{Seen, seen-first, seen-more, seen-all}
 use Rattle.table.proofs.ids_ok.Statement.{statement}
 use Rattle.table.proofs.ids_ok.Tie as tie
 
--- the id in place a is above the one before
-abbrev rises : List ℕ → ℕ → Bool
-rises t a = leb (leastId t a) (idWord t a)
-
-one-rises : (t : List ℕ) → true ≡ all 1 (rises t)
-unfolding all
-one-rises t = sym (le-leb 0 (idWord t 0) zero-le)
-
--- one id more
-more-rise : (t : List ℕ) (a : ℕ) (r : Bool) → r ≡ all (suc a) (rises t) → (r && ltb (idWord t a) (getD t (idAt (suc a)) 0)) ≡ all (suc (suc a)) (rises t)
-unfolding all
-more-rise t a r e = ap₂ (λ (x y : Bool). x && y) e (go (decLt (idWord t a) (idWord t (suc a))))
-  where
-    go : Dec (idWord t a < idWord t (suc a)) → ltb (idWord t a) (idWord t (suc a)) ≡ leb (suc (idWord t a)) (idWord t (suc a))
-    go (yes h) = lt-ltb (idWord t a) (idWord t (suc a)) h ∙ sym (le-leb (suc (idWord t a)) (idWord t (suc a)) h)
-    go (no h) = le-ltb (idWord t a) (idWord t (suc a)) (omega arith) ∙ sym (lt-leb (suc (idWord t a)) (idWord t (suc a)) (omega arith))
-
--- where the ids rise, the last is the largest
-all-fine : (t : List ℕ) (n : ℕ) → (all (suc n) (rises t) && ltb (idWord t n) (2 ^ 32)) ≡ all (suc n) (idOk t)
-all-fine t n = go (all (suc n) (rises t) && ltb (idWord t n) (2 ^ 32)) (all (suc n) (idOk t)) refl refl
-  where
-    there : (all (suc n) (rises t) && ltb (idWord t n) (2 ^ 32)) ≡ true → all (suc n) (idOk t) ≡ true
-    there e =
-        let p = and-eq-true-iff (all (suc n) (rises t)) (ltb (idWord t n) (2 ^ 32)) .0 e in
-        let least : ((a : ℕ) → a < suc n → leastId t a ≤ idWord t a) = λ a h. leb-true (leastId t a) (idWord t a) (all-at (rises t) (suc n) (p .0) a h) in
-        let last : idWord t n < 2 ^ 32 = ltb-true (idWord t n) (2 ^ 32) (p .1) in
-        at-all (idOk t) (suc n) (λ a h. fine-ok t a (record {
-          least = least a h;
-          small = ⊎-elim (λ m. omega (arith, ap (idWord t) m)) (λ m. omega (arith, rise t (suc n) least a n m (omega arith))) (eq-or-lt-of-le (le-of-suc-le-suc h));
-        }))
-
-    back : all (suc n) (idOk t) ≡ true → (all (suc n) (rises t) && ltb (idWord t n) (2 ^ 32)) ≡ true
-    back e =
-        ap₂ (λ (x y : Bool). x && y)
-        (at-all (rises t) (suc n) (λ a h. le-leb (leastId t a) (idWord t a) (fine t a (all-at (idOk t) (suc n) e a h) .least)))
-        (lt-ltb (idWord t n) (2 ^ 32) (fine t n (all-at (idOk t) (suc n) e n (omega arith)) .small))
-
-    go : (b c : Bool) → (all (suc n) (rises t) && ltb (idWord t n) (2 ^ 32)) ≡ b → all (suc n) (idOk t) ≡ c
-        → (all (suc n) (rises t) && ltb (idWord t n) (2 ^ 32)) ≡ all (suc n) (idOk t)
-    go true c p q = p ∙ sym (there p)
-    go false true p q = absurd (true≢false (sym (back q) ∙ p))
-    go false false p q = p ∙ sym q
-
 abbrev Inv-loop : tie.InvT-loop
-Inv-loop words rules last rise₀ a₀ rise a = (a ≤ last) × (rise ≡ all (suc a) (rises words))
+Inv-loop words rules last joined₀ a₀ joined a = Seen words last a joined
 
 abbrev μ-loop : tie.MeasureT-loop
-μ-loop words rules last rise₀ a₀ rise a = last - a
+μ-loop words rules last joined₀ a₀ joined a = last - a
 
 returns : tie.Need-returns Inv-loop μ-loop
 returns c =
-    let a = c .before .args in
+    let a = c .before .before .args in
     sym (ap (λ (n : ℕ). all n (idOk (now (a .words)))) (c .if1 .taken) ∙ all-none (idOk (now (a .words))))
 
 sub-last : tie.Need-sub-last Inv-loop μ-loop
 sub-last c = omega arith
 
+add-joined : tie.Need-add-joined Inv-loop μ-loop
+add-joined c = omega arith
+
+mul-joined : tie.Need-mul-joined Inv-loop μ-loop
+mul-joined c = omega arith
+
+shared-slice-read-joined : tie.Need-shared-slice-read-joined Inv-loop μ-loop
+shared-slice-read-joined c = omega arith
+
 loop-holds : tie.Need-loop-holds Inv-loop μ-loop
-loop-holds c = (omega arith, one-rises (now (c .before .args .words)))
+loop-holds c =
+    let a = c .before .before .before .args in
+    seen-first (now (a .words)) (a .rules - 1)
 
-add-rise : tie.Need-add-rise Inv-loop μ-loop
-add-rise c = omega arith
+add-unordered : tie.Need-add-unordered Inv-loop μ-loop
+add-unordered c = let inside = c .before .loop .inv .inside in omega arith
 
-mul-rise : tie.Need-mul-rise Inv-loop μ-loop
-mul-rise c = omega arith
+mul-unordered : tie.Need-mul-unordered Inv-loop μ-loop
+mul-unordered c = let inside = c .before .loop .inv .inside in omega arith
 
-shared-slice-read-rise : tie.Need-shared-slice-read-rise Inv-loop μ-loop
-shared-slice-read-rise c = omega arith
+shared-slice-read-unordered : tie.Need-shared-slice-read-unordered Inv-loop μ-loop
+shared-slice-read-unordered c = omega arith
 
-add-rise-2 : tie.Need-add-rise-2 Inv-loop μ-loop
-add-rise-2 c = omega arith
+add-unordered-2 : tie.Need-add-unordered-2 Inv-loop μ-loop
+add-unordered-2 c = omega arith
 
-add-rise-3 : tie.Need-add-rise-3 Inv-loop μ-loop
-add-rise-3 c = omega arith
+add-unordered-3 : tie.Need-add-unordered-3 Inv-loop μ-loop
+add-unordered-3 c = omega arith
 
-mul-rise-2 : tie.Need-mul-rise-2 Inv-loop μ-loop
-mul-rise-2 c = omega arith
+mul-unordered-2 : tie.Need-mul-unordered-2 Inv-loop μ-loop
+mul-unordered-2 c = omega arith
 
-shared-slice-read-rise-2 : tie.Need-shared-slice-read-rise-2 Inv-loop μ-loop
-shared-slice-read-rise-2 c = omega arith
+shared-slice-read-unordered-2 : tie.Need-shared-slice-read-unordered-2 Inv-loop μ-loop
+shared-slice-read-unordered-2 c = omega arith
+
+unordered-requires : tie.Need-unordered-requires Inv-loop μ-loop
+unordered-requires c κs = tt
 
 add-a : tie.Need-add-a Inv-loop μ-loop
 add-a c = omega arith
@@ -107,32 +73,23 @@ loop-less c = omega arith
 
 loop-again : tie.Need-loop-again Inv-loop μ-loop
 loop-again c =
-    let l = c .before .before .before .loop in
-    let t = now (c .before .before .before .before .before .args .words) in
-    let e : idAt (suc (l .a)) ≡ idAt (l .a) + 1 = omega arith in (
-      omega arith,
-      sym (ap (λ (i : ℕ). l .rise && ltb (idWord t (l .a)) (getD t i 0)) e) ∙ more-rise t (l .a) (l .rise) (l .inv .1)
-          ∙ ap (λ (n : ℕ). all (suc n) (rises t)) (sym (add-one (l .a))),
-    )
-
-add-result : tie.Need-add-result Inv-loop μ-loop
-add-result c = omega arith
-
-mul-result : tie.Need-mul-result Inv-loop μ-loop
-mul-result c = omega arith
-
-shared-slice-read-result : tie.Need-shared-slice-read-result Inv-loop μ-loop
-shared-slice-read-result c = omega arith
+    let test = c .before .before .before in
+    let l = test .before .loop in
+    let start = test .before .before .before .before .before in
+    let t = now (start .args .words) in
+    let next : idAt (l .a) + 1 ≡ idAt (suc (l .a)) = omega arith in
+    seen-more t (start .args .rules - 1) (l .a) (l .joined) (c .unordered .result) (l .inv) (test .loop-test .taken)
+    (subst (λ (i : ℕ). Unordered (idWord t (l .a)) (getD t i 0) (c .unordered .result)) next (c .unordered .ensures))
 
 returns-2 : tie.Need-returns-2 Inv-loop μ-loop
 returns-2 c =
-    let l = c .before .before .loop in
-    let a = c .before .before .before .before .args in
-    let t = now (a .words) in
-    let done : l .a ≡ a .rules - 1 = omega arith in
-    let whole : suc (a .rules - 1) ≡ a .rules = omega arith in
-    ap (λ (b : Bool). b && ltb (idWord t (a .rules - 1)) (2 ^ 32)) (l .inv .1 ∙ ap (λ (n : ℕ). all (suc n) (rises t)) done)
-    ∙ all-fine t (a .rules - 1) ∙ ap (λ (n : ℕ). all n (idOk t)) whole
+    let l = c .before .loop in
+    let start = c .before .before .before .before .before in
+    let t = now (start .args .words) in
+    let last = start .args .rules - 1 in
+    let done : l .a ≡ last = let inside = l .inv .inside in omega arith in
+    let whole : suc last ≡ start .args .rules = omega arith in
+    seen-all t last (l .joined) (subst (λ (a : ℕ). Seen t last a (l .joined)) done (l .inv)) ∙ ap (λ (n : ℕ). all n (idOk t)) whole
 
 pub ids-ok-spec : {M : Type 1} → statement M
 ids-ok-spec =
@@ -142,18 +99,19 @@ ids-ok-spec =
     μ-loop
     returns
     sub-last
+    add-joined
+    mul-joined
+    shared-slice-read-joined
     loop-holds
-    add-rise
-    mul-rise
-    shared-slice-read-rise
-    add-rise-2
-    add-rise-3
-    mul-rise-2
-    shared-slice-read-rise-2
+    add-unordered
+    mul-unordered
+    shared-slice-read-unordered
+    add-unordered-2
+    add-unordered-3
+    mul-unordered-2
+    shared-slice-read-unordered-2
+    unordered-requires
     add-a
     loop-less
     loop-again
-    add-result
-    mul-result
-    shared-slice-read-result
     returns-2)

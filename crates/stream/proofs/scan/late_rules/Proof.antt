@@ -1,4 +1,4 @@
--- `stream::scan::late_rules` meets its contract: a live set that does not meet the positions that wait for the next byte ends no rule late.
+-- `stream::scan::late_rules` meets its contract: where no live position waits for the byte, no rule ends late.
 use mathlib.Core.Path.{sym, _∙_}
 use denote.Ref.{now}
 use Rattle.table.specs.Gaps.{between, unsettled}
@@ -10,27 +10,21 @@ use Rattle.stream.proofs.Quiet.{late-none}
 use Rattle.stream.proofs.scan.late_rules.Statement.{statement}
 use Rattle.stream.proofs.scan.late_rules.Tie as tie
 
-meets-requires : tie.Need-meets-requires
-meets-requires c κs = tt
-
 late-ending-requires : tie.Need-late-ending-requires
 late-ending-requires c κs = tt
 
 returns : tie.Need-returns
 returns c =
-    let c-start = c .before .before .before .before in
-    let c-late-ending = c .late-ending in
-    let a = c-start .args in
+    let start = c .before .before .before in
+    let a = start .args in
     let t = now (a .words) in
-    c-late-ending .ensures ∙ number-on t (rulesWhere (automaton t) (endsNewly (automaton t) (between (a .before) (a .after)) (lateIn (automaton t) (a .live)) unsettled (a .live))) (passes t (c-start .pre .0) .long)
+    c .late-ending .ensures ∙ number-on t (rulesWhere (automaton t) (endsNewly (automaton t) (between (a .before) (a .after)) (lateIn (automaton t) (a .live)) unsettled (a .live))) (passes t (start .pre .0) .long)
 
 returns-2 : tie.Need-returns-2
 returns-2 c =
-    let c-start = c .before .before .before in
-    let c-meets = c .before .meets in
-    let c-if1 = c .if1 in
-    let a = c-start .args in
-    late-none (automaton (now (a .words))) (a .live) (a .late) (c-start .pre .1) (sym (c-meets .ensures) ∙ c-if1 .left) (a .before) (a .after)
+    let start = c .before .before in
+    let a = start .args in
+    late-none (automaton (now (a .words))) (a .live) (sym (start .pre .1) ∙ c .if1 .left) (a .before) (a .after)
 
 pub late-rules-spec : {M : Type 1} → statement M
-late-rules-spec = tie.close (tie.spec meets-requires late-ending-requires returns returns-2)
+late-rules-spec = tie.close (tie.spec late-ending-requires returns returns-2)

@@ -49,10 +49,11 @@ line-ending-requires c κs = tt
 
 returns-3 : tie.Need-returns-3
 returns-3 c =
-    let c-start = c .before .before .before .before .before .before .before in
-    let c-if1 = c .before .before .before .before .before .if1 in
-    let c-side-of = c .before .before .before .side-of in
-    let c-step = c .before .before .line-step in
+    let stepped = c .before .before in
+    let c-start = stepped .before .before .before .before .before in
+    let c-if1 = stepped .before .before .before .if1 in
+    let c-side-of = stepped .before .side-of in
+    let c-step = stepped .line-step in
     let c-if2 = c .before .if2 in
     let c-line-ending = c .line-ending in
     let a = c-start .args in

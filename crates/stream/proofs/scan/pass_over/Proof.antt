@@ -1,40 +1,34 @@
 -- `stream::scan::pass_over` meets its contract: the bytes up to where `ahead` comes change nothing.
-use mathlib.Core.Path.{subst}
-use Prim.Native.Nat.{ℕ, _+_, _-_}
+use mathlib.Core.Path.{refl}
+use Prim.Native.Nat.{ℕ, _+_, _-_, min}
 use native.Mathlib.Nat.{le-trans}
 use denote.Ref.{now}
 use lib.ListN.{length}
-use Rattle.table.specs.Automaton.{automaton}
-use Rattle.stream.specs.Invariants.{Skipped}
-use Rattle.stream.proofs.Bounds.{short-end, from-end, paid-for}
+use Rattle.stream.proofs.Bounds.{short-end, paid-for}
 use Rattle.stream.proofs.scan.pass_over.Statement.{statement}
 use Rattle.stream.proofs.scan.pass_over.Tie as tie
 
--- where it came to
-abbrev begun : tie.After-ahead → tie.Start
-begun r = r .before .before .before .before .before .before
+-- the start of the call, and how far it can be paid for
+module _ (r : tie.After-ahead) where
+  abbrev start : tie.Start
+  start = r .before .before .before .before .before
 
-payable-requires : tie.Need-payable-requires
-payable-requires c κs = c .before .before .before .before .pre .0
+  abbrev n : ℕ
+  n = length (now (start .args .block))
+
+  abbrev end : ℕ
+  end = min n (start .args .z .at + start .args .z .left)
 
 ahead-requires : tie.Need-ahead-requires
-ahead-requires c κs =
-    let start = c .before .before .before .before .before in
-    let a = start .args in
-    let n = length (now (a .block)) in (
-      from-end (a .z .at) (c .payable .result) n (a .z .left) (start .pre .0) (c .payable .ensures),
-      short-end (c .payable .result) n (a .z .at + a .z .left) (c .payable .ensures),
-      start .pre .1,
-    )
+ahead-requires c κs = c .before .before .before .before .pre
 
 passed-requires : tie.Need-passed-requires
 passed-requires c κs = tt
 
 passed-side-requires : tie.Need-passed-side-requires
 passed-side-requires c κs =
-    let payable = c .before .before .payable in
-    let a = begun (c .before) .args in
-    le-trans (c .before .ahead .ensures .inside) (short-end (payable .result) (length (now (a .block))) (a .z .at + a .z .left) (payable .ensures))
+    let came = c .before in
+    le-trans (came .ahead .ensures .inside) (short-end (end came) (n came) (start came .args .z .at + start came .args .z .left) refl)
 
 sub-skipped : tie.Need-sub-skipped
 sub-skipped c = c .before .before .ahead .ensures .rises
@@ -42,23 +36,22 @@ sub-skipped c = c .before .before .ahead .ensures .rises
 sub-left : tie.Need-sub-left
 sub-left c =
     let came = c .before .before .before in
-    let payable = came .before .payable in
-    let a = begun came .args in
-    paid-for (a .z .at) (came .ahead .result) (payable .result) (length (now (a .block))) (a .z .left) (came .ahead .ensures .inside) (payable .ensures)
+    let z = start came .args .z in
+    paid-for (z .at) (came .ahead .result) (end came) (n came) (z .left) (came .ahead .ensures .inside) refl
 
 returns : tie.Need-returns
 returns c =
     let came = c .before .before .before in
     let to = came .ahead .result in
-    let a = begun came .args in
-    let z = a .z in
+    let z = start came .args .z in
     record {
-      skipped = subst (λ (n : ℕ). Skipped (automaton (now (a .words))) (z .live) (now (a .block)) (a .taken) (z .at) n to) (came .before .payable .ensures) (came .ahead .ensures);
+      skipped = came .ahead .ensures;
       is = λ i. record {
         live = z .live;
         before = c .before .before .passed .ensures i;
         reported = z .reported;
         side = c .before .passed-side .ensures i;
+        waits = z .waits;
         at = to;
         count = z .count;
         left = z .left - (to - z .at);
@@ -67,6 +60,4 @@ returns c =
     }
 
 pub pass-over-spec : {M : Type 1} → statement M
-pass-over-spec =
-    tie.close
-    (tie.spec payable-requires ahead-requires passed-requires passed-side-requires sub-skipped sub-left returns)
+pass-over-spec = tie.close (tie.spec ahead-requires passed-requires passed-side-requires sub-skipped sub-left returns)

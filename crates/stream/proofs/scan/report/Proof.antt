@@ -1,11 +1,12 @@
 -- `stream::scan::report` meets its contract: where the gate is shut no rule ends, and else the rules of both runs are those of the definition.
-use mathlib.Core.Path.{_≡_, sym, ap, ap₂, _∙_}
-use mathlib.Core.Bool.{Bool, true, false}
+use mathlib.Core.Path.{_≡_, refl, sym, ap, _∙_}
+use mathlib.Core.Bool.{Bool, true, false, true≢false, not, _||_, _&&_}
 use mathlib.Core.List.{List}
 use Prim.Native.Nat.{ℕ, suc, _^_, _<_, _≤_}
 use denote.Ref.{now}
-use Rattle.sets.specs.Set.{on, unionOf, intersectionOf, isEmpty}
+use Rattle.sets.specs.Set.{on, has, any, unionOf}
 use Rattle.kinds.specs.declared.Side.{Side}
+use Rattle.table.specs.Layout.{maxPositions}
 use Rattle.table.specs.Gaps.{between, unsettled}
 use Rattle.table.specs.Automaton.{Automaton, automaton}
 use Rattle.table.proofs.Test.{passes}
@@ -14,13 +15,17 @@ use Rattle.steps.specs.Step.{ends, endsNewly, lastsOf, latesOf, lateIn, rulesWh
 use Rattle.steps.proofs.TableSets.{number-on}
 use Rattle.stream.specs.Byte.{given}
 use Rattle.stream.specs.Calls.{Lists, lists}
-use Rattle.stream.specs.Invariants.{Delivered}
+use Rattle.stream.specs.Invariants.{waitsIn, Delivered}
 use Rattle.stream.proofs.Bounds.{rules-few}
 use Rattle.stream.proofs.Runs.{alone}
-use Rattle.stream.proofs.Quiet.{gate, late-gate, apart}
+use Rattle.stream.proofs.Quiet.{gate, late-gate, none-end}
 use Rattle.stream.proofs.TwoRuns.{delivered-quiet, delivered-ext}
 use Rattle.stream.proofs.scan.report.Statement.{statement}
 use Rattle.stream.proofs.scan.report.Tie as tie
+
+not-true : (b : Bool) → not b ≡ true → b ≡ false
+not-true true e = sym e
+not-true false e = refl
 
 module _ (w : Automaton) (live next : List ℕ) (old new : Side) (marks gap : ℕ) (l : Lists) where
   abbrev late-test : ℕ → Bool
@@ -29,12 +34,26 @@ module _ (w : Automaton) (live next : List ℕ) (old new : Side) (marks gap : �
   abbrev own-test : ℕ → Bool
   own-test = ends w unsettled next
 
-  -- no position waits for the byte, and none ends a match with it
-  shut : (late last : List ℕ) → late ≡ latesOf w → last ≡ lastsOf w → (e : Bool) → e ≡ isEmpty (unionOf (intersectionOf live late) (intersectionOf next last)) → e ≡ true → marks < 2 ^ 64
-      → Delivered w late-test own-test marks (given w gap) (given w (suc gap)) l false 0 marks l
-  shut late last late-is last-is e is empty small =
-      let none = apart live (latesOf w) next (lastsOf w) (ap₂ (λ (x y : List ℕ). isEmpty (unionOf (intersectionOf live x) (intersectionOf next y))) (sym late-is) (sym last-is) ∙ sym is ∙ empty) in
-      delivered-quiet w marks (given w gap) (given w (suc gap)) l late-test own-test (λ a h. late-gate w live (between old new) unsettled a (none .0)) (λ a h. gate w next a (none .1)) small
+  -- no position waits for the byte, and none can end a match with it
+  module _ (waits some : Bool) (enders : List ℕ) (waits-is : waits ≡ waitsIn w live) (enders-is : enders ≡ unionOf (lastsOf w) (latesOf w))
+      (some-is : some ≡ any maxPositions (λ q. has next q && has enders q)) (shut : (waits || some) ≡ false) where
+    neither : (waits ≡ false) × (some ≡ false)
+    neither = go waits some shut
+      where
+        go : (x y : Bool) → (x || y) ≡ false → (x ≡ false) × (y ≡ false)
+        go true y e = absurd (true≢false e)
+        go false y e = (refl, e)
+
+    none : (any maxPositions (λ q. has next q && has (lastsOf w) q) ≡ false) × (waitsIn w next ≡ false)
+    none = none-end w next (ap (λ (s : List ℕ). any maxPositions (λ q. has next q && has s q)) (sym enders-is) ∙ sym some-is ∙ neither .1)
+
+    quiet-waits : false ≡ waitsIn w next
+    quiet-waits = sym (none .1)
+
+    quiet : marks < 2 ^ 64 → Delivered w late-test own-test marks (given w gap) (given w (suc gap)) l false 0 marks l
+    quiet small =
+        delivered-quiet w marks (given w gap) (given w (suc gap)) l late-test own-test
+        (λ a h. late-gate w live (between old new) unsettled a (sym waits-is ∙ neither .0)) (λ a h. gate w next a (none .0)) small
 
   -- the words of the rules that end say what the tests say
   module _ (few : w .rules ≤ 64) (late own : ℕ) (late-is : late ≡ rulesWhere w late-test) (own-is : own ≡ rulesWhere w own-test) where
@@ -51,95 +70,93 @@ module _ (w : Automaton) (live next : List ℕ) (old new : Side) (marks gap : �
         (λ a h. ap (λ (x : ℕ). on x a) late-is ∙ on-places late-test (w .rules) a h few)
         (λ a h. ap (λ (x : ℕ). on x a) own-is ∙ on-places own-test (w .rules) a h few) full reports marks′ l′ d
 
--- the start of the call, from the second intersection on
-abbrev begun : tie.After-intersection2 → tie.Start
-begun met = let late = met .before .before in late .before .before .before .before .before
+-- the start of the call, from where the gate was asked
+abbrev begun : tie.After-meets → tie.Start
+begun asked = asked .before .before .before .before .before
 
-intersection-requires : tie.Need-intersection-requires
-intersection-requires c κs = tt
-
-intersection-requires-2 : tie.Need-intersection-requires-2
-intersection-requires-2 c κs = tt
-
-union-requires : tie.Need-union-requires
-union-requires c κs = tt
-
-is-empty-requires : tie.Need-is-empty-requires
-is-empty-requires c κs = tt
+meets-requires : tie.Need-meets-requires
+meets-requires c κs = tt
 
 returns : tie.Need-returns
 returns c =
-    let met = c .before .before .before in
-    let start = begun met in
+    let asked = c .before in
+    let start = begun asked in
     let a = start .args in
-    let sets = start .pre .1 in
-    shut (automaton (now (a .words))) (a .live) (a .next) (a .old) (a .new) (a .reported) (a .offset) (lists (now (a .ids)) (now (a .offsets)))
-    (a .sets .late) (a .sets .last) (sets .late-is) (sets .last-is) (c .before .is-empty .result)
-    (c .before .is-empty .ensures ∙ ap isEmpty (c .before .before .union .ensures ∙ ap₂ unionOf (met .before .intersection .ensures) (met .intersection2 .ensures)))
-    (c .if1 .taken) (start .fits .reported .fits)
+    let w = automaton (now (a .words)) in
+    let shut : (a .waits || asked .meets .result) ≡ false = not-true (a .waits || asked .meets .result) (c .if1 .taken) in
+    let l = lists (now (a .ids)) (now (a .offsets)) in (
+      quiet-waits w (a .live) (a .next) (a .old) (a .new) (a .reported) (a .offset) l (a .waits) (asked .meets .result) (a .sets .enders) (start .pre .2) (start .pre .1 .enders-is) (asked .meets .ensures) shut,
+      quiet w (a .live) (a .next) (a .old) (a .new) (a .reported) (a .offset) l (a .waits) (asked .meets .result) (a .sets .enders) (start .pre .2) (start .pre .1 .enders-is) (asked .meets .ensures) shut
+          (start .fits .reported .fits),
+    )
 
 late-rules-requires : tie.Need-late-rules-requires
-late-rules-requires c κs =
-    let met = c .before .before .before in
-    let start = begun met in
-    (start .pre .0, start .pre .1 .late-is)
+late-rules-requires c κs = let start = begun (c .before) in (start .pre .0, start .pre .2)
 
 ending-requires : tie.Need-ending-requires
 ending-requires c κs = tt
 
+-- what is known where both words of rules were found
+module _ (e : tie.After-ending) where
+  abbrev start : tie.Start
+  start = begun (e .before .before .before)
+
+  abbrev t : List ℕ
+  t = now (start .args .words)
+
+  abbrev lent : Lists
+  lent = lists (now (start .args .ids)) (now (start .args .offsets))
+
+  few : automaton t .rules ≤ 64
+  few = rules-few t (passes t (start .pre .0) .rules)
+
+  own : e .ending .result ≡ rulesWhere (automaton t) (ends (automaton t) unsettled (start .args .next))
+  own = e .ending .ensures ∙ number-on t (rulesWhere (automaton t) (ends (automaton t) unsettled (start .args .next))) (passes t (start .pre .0) .long)
+
 deliver-requires : tie.Need-deliver-requires
 deliver-requires c κs =
     let found = c .before .before in
-    let met = found .before .before .before .before .before in
-    let start = begun met in
-    let a = start .args in
-    let t = now (a .words) in
-    let w = automaton t in
-    let long = passes t (start .pre .0) .long in
-    let few = rules-few t (passes t (start .pre .0) .rules) in
-    let own = found .ending .ensures ∙ number-on t (rulesWhere w (ends w unsettled (a .next))) long in
-    let l = lists (now (a .ids)) (now (a .offsets)) in (
-      start .pre .0,
-      start .pre .1 .single-is,
-      late-alone w (a .live) (a .next) (a .old) (a .new) (a .reported) (a .offset) l few (found .before .late-rules .result) (found .ending .result) (found .before .late-rules .ensures) own,
-      own-alone w (a .live) (a .next) (a .old) (a .new) (a .reported) (a .offset) l few (found .before .late-rules .result) (found .ending .result) (found .before .late-rules .ensures) own,
-      start .pre .2,
+    let a = start found .args in
+    let late = found .before .late-rules in (
+      start found .pre .0,
+      start found .pre .1 .single-is,
+      late-alone (automaton (t found)) (a .live) (a .next) (a .old) (a .new) (a .reported) (a .offset) (lent found) (few found) (late .result) (found .ending .result) (late .ensures) (own found),
+      own-alone (automaton (t found)) (a .live) (a .next) (a .old) (a .new) (a .reported) (a .offset) (lent found) (few found) (late .result) (found .ending .result) (late .ensures) (own found),
+      start found .pre .3,
     )
 
+meets-requires-2 : tie.Need-meets-requires-2
+meets-requires-2 c κs = tt
+
 same-length : tie.Need-same-length
-same-length c = c .before .before .before .ids .given
+same-length c = c .before .before .before .before .before .ids .given
 
 same-length-2 : tie.Need-same-length-2
-same-length-2 c = c .before .offsets .given
+same-length-2 c = c .before .before .before .offsets .given
 
 returns-2 : tie.Need-returns-2
 returns-2 c =
-    let delivered = c .before .before .before .before .deliver in
-    let found = (c .before .before .before .before) .before .before .before in
-    let met = found .before .before .before .before .before in
-    let start = begun met in
-    let a = start .args in
-    let t = now (a .words) in
-    let w = automaton t in
-    let long = passes t (start .pre .0) .long in
-    let few = rules-few t (passes t (start .pre .0) .rules) in
-    let own = found .ending .ensures ∙ number-on t (rulesWhere w (ends w unsettled (a .next))) long in
-    looked w (a .live) (a .next) (a .old) (a .new) (a .reported) (a .offset) (lists (now (a .ids)) (now (a .offsets))) few (found .before .late-rules .result) (found .ending .result)
-    (found .before .late-rules .ensures) own (delivered .result .full) (delivered .result .reports) (delivered .result .reported)
-    (lists (delivered .last .1 .1 .1 .1 .1 .1 .0) (delivered .last .1 .1 .1 .1 .1 .1 .1 .0)) (delivered .ensures)
+    let wrote = c .before .before .before .before .before .before in
+    let r = wrote .deliver in
+    let found = wrote .before .before .before in
+    let a = start found .args in
+    let late = found .before .late-rules in
+    let last = r .last .1 .1 .1 .1 .1 .1 in (
+      c .meets2 .ensures ∙ ap (λ (s : List ℕ). any maxPositions (λ q. has (a .next) q && has s q)) (start found .pre .1 .late-is),
+      looked (automaton (t found)) (a .live) (a .next) (a .old) (a .new) (a .reported) (a .offset) (lent found) (few found) (late .result) (found .ending .result) (late .ensures) (own found)
+          (r .result .full) (r .result .reports) (r .result .reported) (lists (last .0) (last .1 .0)) (r .ensures),
+    )
 
 pub report-spec : {M : Type 1} → statement M
 report-spec =
     tie.close
     (tie.spec
-    intersection-requires
-    intersection-requires-2
-    union-requires
-    is-empty-requires
+    meets-requires
     returns
     late-rules-requires
     ending-requires
     deliver-requires
+    meets-requires-2
     same-length
     same-length-2
     returns-2)

@@ -45,7 +45,7 @@ add-offset : tie.Need-add-offset
 add-offset c =
     let inside = c .before .before in
     let start = inside .before .before .before .before .before in
-    sum-fits (start .args .taken) (start .args .z .at) (length (now (start .args .block))) (start .pre .3) (le-of-lt (inside .if1 .left))
+    sum-fits (start .args .taken) (start .args .z .at) (length (now (start .args .block))) (start .pre .4) (le-of-lt (inside .if1 .left))
 
 shared-slice-read-byte : tie.Need-shared-slice-read-byte
 shared-slice-read-byte c = c .before .before .before .if1 .left
@@ -82,17 +82,17 @@ begun s = let live = s .before .before .before .before in live .before .before .
 mul-report : tie.Need-mul-report
 mul-report c =
     let start = begun (c .before .before .before .before) in
-    ids-fit (start .args .z .count) (length (now (start .args .ids))) (length (now (start .args .offsets))) (start .pre .2) (start .good .1 .1 .1 .1 .1 .0 .1)
+    ids-fit (start .args .z .count) (length (now (start .args .ids))) (length (now (start .args .offsets))) (start .pre .3) (start .good .1 .1 .1 .1 .1 .0 .1)
 
 sub-report : tie.Need-sub-report
 sub-report c =
     let start = begun (c .before .before .before .before) in
-    enough-left (start .args .z .count) (length (now (start .args .ids))) (length (now (start .args .offsets))) (start .pre .2)
+    enough-left (start .args .z .count) (length (now (start .args .ids))) (length (now (start .args .offsets))) (start .pre .3)
 
 part-report-start : tie.Need-part-report-start
 part-report-start c =
     let start = begun (c .before .before .before .before) in
-    enough-left (start .args .z .count) (length (now (start .args .ids))) (length (now (start .args .offsets))) (start .pre .2)
+    enough-left (start .args .z .count) (length (now (start .args .ids))) (length (now (start .args .offsets))) (start .pre .3)
 
 part-report-end : tie.Need-part-report-end
 part-report-end c = le-refl (length (now (begun (c .before .before .before .before) .args .ids)))
@@ -100,17 +100,17 @@ part-report-end c = le-refl (length (now (begun (c .before .before .before .befo
 mul-report-2 : tie.Need-mul-report-2
 mul-report-2 c =
     let start = begun (c .before .before .before .before .before) in
-    offsets-fit (start .args .z .count) (length (now (start .args .ids))) (length (now (start .args .offsets))) (start .pre .2) (start .good .1 .1 .1 .1 .1 .1 .0 .1)
+    offsets-fit (start .args .z .count) (length (now (start .args .ids))) (length (now (start .args .offsets))) (start .pre .3) (start .good .1 .1 .1 .1 .1 .1 .0 .1)
 
 sub-report-2 : tie.Need-sub-report-2
 sub-report-2 c =
     let start = begun (c .before .before .before .before .before) in
-    enough-right (start .args .z .count) (length (now (start .args .ids))) (length (now (start .args .offsets))) (start .pre .2)
+    enough-right (start .args .z .count) (length (now (start .args .ids))) (length (now (start .args .offsets))) (start .pre .3)
 
 part-report-start-2 : tie.Need-part-report-start-2
 part-report-start-2 c =
     let start = begun (c .before .before .before .before .before) in
-    enough-right (start .args .z .count) (length (now (start .args .ids))) (length (now (start .args .offsets))) (start .pre .2)
+    enough-right (start .args .z .count) (length (now (start .args .ids))) (length (now (start .args .offsets))) (start .pre .3)
 
 part-report-end-2 : tie.Need-part-report-end-2
 part-report-end-2 c = le-refl (length (now (begun (c .before .before .before .before .before) .args .offsets)))
@@ -120,7 +120,7 @@ report-requires c κs =
     let step = c .before .before .before .before .before .before in
     let start = begun step in
     let inside = step .before .before .before .before .before in
-    (start .pre .0, start .pre .1, next-small (start .args .taken) (start .args .z .at) (length (now (start .args .block))) (start .pre .3) (inside .if1 .left))
+    (start .pre .0, start .pre .1, start .pre .2, next-small (start .args .taken) (start .args .z .at) (length (now (start .args .block))) (start .pre .4) (inside .if1 .left))
 
 stop-requires-3 : tie.Need-stop-requires-3
 stop-requires-3 c κs = tt
@@ -140,10 +140,10 @@ module _ (r : tie.After-report) where
   start = begun took
 
   abbrev last : Lists
-  last = let lent = r .report .last .1 .1 .1 .1 .1 .1 .1 .1 in lists (lent .0) (lent .1 .0)
+  last = let lent = r .report .last .1 .1 .1 .1 .1 .1 .1 .1 .1 in lists (lent .0) (lent .1 .0)
 
   told : Told (automaton (now (start .args .words))) (start .args .taken) (now (start .args .block)) (start .args .z) (lists (now (start .args .ids)) (now (start .args .offsets))) (took .step .result .live) (took .before .side-of .result)
-      (r .report .result .full) (r .report .result .reports) (r .report .result .reported) last
+      (r .report .result .full) (r .report .result .reports) (r .report .result .reported) (r .report .result .waits) last
   told =
       let t = now (start .args .words) in
       record {
@@ -151,8 +151,9 @@ module _ (r : tie.After-report) where
             stepping t (start .args .z .live) (start .args .z .side) (took .before .side-of .result) (start .args .sets .positions) (took .step .result .live) (start .args .taken + start .args .z .at) (getD (now (start .args .block)) (start .args .z .at) 0)
             (start .pre .1 .positions-is) (took .before .side-of .ensures) (passes t (start .pre .0) .long) (took .step .ensures .0);
         side = took .before .side-of .ensures;
-        room = start .pre .2;
-        delivered = r .report .ensures;
+        room = start .pre .3;
+        wait = r .report .ensures .0;
+        delivered = r .report .ensures .1;
       }
 
   turns-are : took .step .result .turns ≡ sizeOf (start .args .z .live)
@@ -168,7 +169,7 @@ add-t31 c =
     let step = took (c .before .before .before .before .before) in
     let start = begun step in
     let inside = step .before .before .before .before .before in
-    after-fits (start .args .taken) (start .args .z .at) (length (now (start .args .block))) (start .pre .3) (inside .if1 .left)
+    after-fits (start .args .taken) (start .args .z .at) (length (now (start .args .block))) (start .pre .4) (inside .if1 .left)
 
 add-t20 : tie.Need-add-t20
 add-t20 c =

@@ -41,10 +41,11 @@ left-waiting-requires c κs =
 
 returns-2 : tie.Need-returns-2
 returns-2 c =
-    let c-start = c .before .before .before .before .before .before .before in
+    let sided = c .before .before .before in
+    let c-start = sided .before .before .before .before in
     let c-left-waiting = c .left-waiting in
-    let c-if1 = c .before .before .before .before .if1 in
-    let c-side-at = c .before .before .before .side-at in
+    let c-if1 = sided .before .if1 in
+    let c-side-at = sided .side-at in
     let a = c-start .args in
     let r = c-left-waiting .result in
     left-some (automaton (now (a .words))) (a .s) (now (a .block)) (a .before) (a .n) (c-if1 .left) (c-side-at .result) (c-side-at .ensures) (r .held) (r .pending) (c-left-waiting .ensures .0) (c-left-waiting .ensures .1)
