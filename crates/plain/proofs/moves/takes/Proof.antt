@@ -1,0 +1,39 @@
+-- `takes` meets its contract: it reads one digit of the set.
+use mathlib.Core.Logic.{⊎-elim}
+use native.Mathlib.Omega.{arith}
+use Rattle.plain.proofs.Trees.{takes-is}
+use borrow.Author.Needs.{needs}
+use Rattle.plain.proofs.moves.takes.Statement.{statement}
+use Rattle.plain.proofs.moves.takes.Tie as tie
+use Rattle.plain.proofs.moves.takes.Reads as reads
+use Rattle.plain.proofs.moves.takes.Lts as lts
+use Rattle.nodes.proofs.layout.word.Reads as word-reads
+
+-- src/moves.rt:40:13
+add-word : tie.Need-add-word
+add-word c =
+    let c-if1 = c .before .if1 in
+    ⊎-elim (λ u. omega (arith, u .0 .taken, u .1)) (λ u. omega (arith, u .0 .left, u .1)) (c-if1 .came)
+
+-- src/moves.rt:40:5
+word-requires : tie.Need-word-requires
+word-requires c κs = search needs
+
+-- src/moves.rt:40:44
+cast-result : tie.Need-cast-result
+cast-result c = search needs
+
+-- src/moves.rt:40:5
+shr-result : tie.Need-shr-result
+shr-result c = search needs
+
+-- src/moves.rt:36:1
+returns : tie.Need-returns
+returns c =
+    let c-start = c .before .before .before .before in
+    let c-if1 = c .before .before .if1 in
+    let c-word = c .word in
+    takes-is (c-start .args .a .now) (c-start .args .k) (c-if1 .from) (c-start .args .byte) (c-word .result) (omega arith) (⊎-elim (λ u. omega (arith, u .0 .taken, u .1)) (λ u. omega (arith, u .0 .left, u .1)) (c-if1 .came)) (c-word .ensures)
+
+pub takes-spec : {M : Type 1} → statement M
+takes-spec = tie.close (tie.spec add-word word-requires cast-result shr-result returns)
