@@ -34,6 +34,12 @@ extern "C" {
 #endif
 
 /*
+ * The version of this header. watcher_version tells that of the library, which a
+ * program may compare with it.
+ */
+#define WATCHER_VERSION "0.1.0"
+
+/*
  * The words of a table, and of a stream's state. Word 10 of a state is what the
  * last byte is to the assertions after it: 1 a word byte, 2 a newline, every
  * other number neither.
@@ -70,15 +76,25 @@ extern "C" {
 #define WATCHER_FLAG_DOTALL 2u
 #define WATCHER_FLAG_MULTILINE 4u
 #define WATCHER_FLAG_SINGLEMATCH 8u
+/*
+ * A rule that reports the leftmost start of each match. A stream opened with
+ * watcher_open keeps no starts: while its table has such a rule, its scans and
+ * closings are refused with WATCHER_BAD_STATE.
+ */
+#define WATCHER_FLAG_SOM_LEFTMOST 256u
+
+/* The plain matcher: the longest log, and the least slots of each of its lists. */
+#define WATCHER_PLAIN_LOG 1024
+#define WATCHER_PLAIN_SLOTS 1024
 
 /* The number that a call answers: 0, or why it was refused. */
 typedef uint32_t watcher_error_t;
 
 #define WATCHER_SUCCESS 0u          /* accepted */
-#define WATCHER_NO_TABLE 1u         /* fewer than 16384 words, or the words are no table */
-#define WATCHER_BAD_FLAG 2u         /* a flag other than the four above */
+#define WATCHER_NO_TABLE 1u         /* fewer than 16384 words, or not a valid table */
+#define WATCHER_BAD_FLAG 2u         /* a flag other than 1, 2, 4, 8, 256 */
 #define WATCHER_ID_TAKEN 3u         /* a rule of the table has this id */
-#define WATCHER_TABLE_FULL 4u       /* 64 rules are there */
+#define WATCHER_TABLE_FULL 4u       /* the table is full: it has 64 rules */
 #define WATCHER_LONG_PATTERN 5u     /* a pattern of more than 1024 bytes */
 #define WATCHER_BAD_ESCAPE 6u       /* an escape that is cut off, or \c before a byte it does not take */
 #define WATCHER_BIG_ESCAPE 7u       /* a number escape over 255 */
@@ -95,11 +111,26 @@ typedef uint32_t watcher_error_t;
 #define WATCHER_BAD_STATE 18u       /* a state that is not valid for the table */
 #define WATCHER_CLOSED 19u          /* the stream is closed */
 #define WATCHER_SMALL_SPACE 20u     /* fewer report slots than twice the table's rules */
-#define WATCHER_LONG_STREAM 21u     /* the bytes taken and this block are over WATCHER_MAX_STREAM */
+#define WATCHER_LONG_STREAM 21u     /* the bytes taken and this block are over 1099511627775 */
 #define WATCHER_RAW_BYTE 23u        /* a raw byte below 32, or 127, in the pattern */
+#define WATCHER_SINGLE_START 24u    /* flag 256, the leftmost start, with flag 8, single match */
+#define WATCHER_NOT_KEPT 25u        /* neither the tail nor the block holds the whole match */
+#define WATCHER_BAD_WINDOW 26u      /* a smallest end offset above the largest */
 #define WATCHER_NO_BLOCK 27u        /* not the block of a table that was asked for */
+#define WATCHER_LONG_LOG 28u        /* a log of more than WATCHER_PLAIN_LOG bytes */
 /* Numbers from 100 on are this interface's own. */
 #define WATCHER_SHORT_STATE 100u    /* fewer than 15 words for the state */
+
+/*
+ * What a number means, in a few words: "a quantifier with nothing to repeat" for
+ * 10, "an unknown refusal" for a number without a meaning. Never NULL; the text is
+ * not to be freed. This and watcher_version are not among the proved functions, and
+ * stand in the installed libraries, not in the bare archive of `rt staticlib`.
+ */
+const char *watcher_error_text(watcher_error_t number);
+
+/* The version of the library, as WATCHER_VERSION is that of the header. */
+const char *watcher_version(void);
 
 /* Makes the words an empty table, whatever they held. Refuses only too few words. */
 watcher_error_t watcher_empty(uint64_t *table, size_t table_words);
@@ -189,6 +220,49 @@ watcher_error_t watcher_write_block(const uint64_t *table, size_t table_words,
 watcher_error_t watcher_read_block(uint64_t *table, size_t table_words,
                                    uint64_t number, const uint8_t *block,
                                    size_t block_length, uint64_t *place);
+
+/* Where the bytes of a match stand: what watcher_matched_bytes answers. */
+#define WATCHER_IN_BLOCK 0u
+#define WATCHER_IN_TAIL 1u
+
+/*
+ * The bytes of a match from `start` up to `end`, from what the caller kept of
+ * the stream: a tail, and the block right after it, which begins at `offset` of
+ * the stream. They are `*size` bytes from `*place` on, of the block or of the
+ * tail as the answer says: whichever holds them all, the block first if both
+ * could. Where neither does they are none of the block, and
+ * watcher_matched_number on the same inputs is WATCHER_NOT_KEPT, else
+ * WATCHER_SUCCESS.
+ */
+uint32_t watcher_matched_bytes(const uint8_t *tail, size_t tail_length,
+                               const uint8_t *block, size_t block_length,
+                               uint64_t offset, uint64_t start, uint64_t end,
+                               size_t *place, size_t *size);
+
+watcher_error_t watcher_matched_number(const uint8_t *tail, size_t tail_length,
+                                       const uint8_t *block, size_t block_length,
+                                       uint64_t offset, uint64_t start,
+                                       uint64_t end);
+
+/*
+ * The plain second matcher, for disputes. It uses no table: it reads one pattern
+ * and works straight on it, and gives on a whole log of at most WATCHER_PLAIN_LOG
+ * bytes what a table with that rule alone, scanned and closed, reports, in the same
+ * order. offsets has the end offsets; starts has, for a rule with
+ * WATCHER_FLAG_SOM_LEFTMOST, the smallest start whose match is known then, else 0.
+ * Windows: only matches that end from lowest to highest and are at least
+ * shortest bytes long count; 0, UINT64_MAX and 0 leave them out. Refusals come in
+ * the order 2, 24, 5, 26, 28, 20, then those of the pattern; each list needs
+ * WATCHER_PLAIN_SLOTS slots. It takes some milliseconds, and may need 2 MiB of
+ * stack.
+ */
+watcher_error_t watcher_plain(const uint8_t *pattern, size_t pattern_length,
+                              uint32_t flags, uint64_t lowest, uint64_t highest,
+                              uint64_t shortest, const uint8_t *log,
+                              size_t log_length, uint64_t *offsets,
+                              size_t offsets_length, uint64_t *starts,
+                              size_t starts_length, size_t *place,
+                              size_t *reports);
 
 #ifdef __cplusplus
 }

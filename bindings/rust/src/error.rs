@@ -2,65 +2,122 @@
 
 use std::fmt;
 
-/// A refusal. The cases and numbers are those of `include/watcher.h`.
+use crate::refusal::Refusal;
+
+/// A refusal. The cases and numbers are those of `include/watcher.h`; [`Refusal`] has them in words.
+///
+/// ```
+/// use watcher::{Error, Flags, Table};
+///
+/// let error = Table::new().add(8, Flags::NONE, b"a**").unwrap_err();
+/// assert_eq!(error, Error::BadQuantifier { place: 2 });
+/// assert_eq!(error.to_string(), "refused 10 at 2: a quantifier with nothing to repeat");
+/// ```
 #[derive(Clone, Copy, Debug, PartialEq, Eq)]
 pub enum Error {
+    /// 1: too few words, or not a valid table.
     NoTable,
+    /// 2: a flag that is not one of [`Flags`](crate::Flags).
     BadFlag,
+    /// 3: a rule of the table has this id.
     IdTaken,
+    /// 4: the table has [`MAX_RULES`](crate::MAX_RULES) rules.
     TableFull,
+    /// 5: a pattern of more than 1,024 bytes.
     LongPattern,
+    /// 6: an escape that is cut off, as in `a\`.
     BadEscape {
+        /// Where the fault lies in the pattern.
         place: usize,
     },
+    /// 7: a number escape over 255, as `\x{100}`.
     BigEscape {
+        /// Where the fault lies in the pattern.
         place: usize,
     },
+    /// 8: a class that is not closed, as `[a`.
     OpenClass {
+        /// Where the fault lies in the pattern.
         place: usize,
     },
+    /// 9: a range that falls or has a type at an end, as `[z-a]`.
     BadRange {
+        /// Where the fault lies in the pattern.
         place: usize,
     },
+    /// 10: a quantifier with nothing to repeat, as in `a**`.
     BadQuantifier {
+        /// Where the fault lies in the pattern.
         place: usize,
     },
+    /// 11: a faulty count, as in `a{3,2}`.
     BadCount {
+        /// Where the fault lies in the pattern.
         place: usize,
     },
+    /// 12: a group or comment that is not closed, or `)` without one.
     BadGroup {
+        /// Where the fault lies in the pattern.
         place: usize,
     },
+    /// 13: a 17th group open at once.
     DeepGroup {
+        /// Where the fault lies in the pattern.
         place: usize,
     },
+    /// 14: a construct outside the subset, as `(?=a)`.
     Unsupported {
+        /// Where the fault lies in the pattern.
         place: usize,
     },
+    /// 15: the rule could match no bytes, as `a*`.
     EmptyMatch {
+        /// Where the fault lies in the pattern.
         place: usize,
     },
+    /// 16: over 256 positions in the rule, as `a{257}`.
     LargeRule {
+        /// Where the fault lies in the pattern.
         place: usize,
     },
+    /// 17: over 256 positions with those in the table.
     LargeTable {
+        /// Where the fault lies in the pattern.
         place: usize,
     },
+    /// 18: the state is not valid for the table.
     BadState,
+    /// 19: the stream is closed.
     Closed,
+    /// 20: fewer report slots than twice the table's rules.
     SmallSpace,
+    /// 21: the bytes taken and this block are over the stream's limit.
     LongStream,
+    /// 23: a raw byte below 32, or 127, in the pattern.
     RawByte {
+        /// Where the fault lies in the pattern.
         place: usize,
     },
-    /// Bytes that are not block `place` of a table.
+    /// 24: the flags for the leftmost start and for a single match.
+    SingleStart,
+    /// 25: neither the tail nor the block holds the whole match.
+    NotKept,
+    /// 26: a smallest end offset above the largest.
+    BadWindow,
+    /// 28: a log over 1,024 bytes for the plain matcher.
+    LongLog,
+    /// 27: bytes that are not block `place` of a table.
     NoBlock {
+        /// The block's number.
         place: usize,
     },
+    /// 100: too few words for a state.
     ShortState,
     /// A number that this wrapper does not know.
     Other {
+        /// The number.
         number: u32,
+        /// The place that came with it.
         place: usize,
     },
 }
@@ -92,12 +149,21 @@ impl Error {
             20 => Error::SmallSpace,
             21 => Error::LongStream,
             23 => Error::RawByte { place },
+            24 => Error::SingleStart,
+            25 => Error::NotKept,
+            26 => Error::BadWindow,
             27 => Error::NoBlock { place },
+            28 => Error::LongLog,
             100 => Error::ShortState,
             _ => Error::Other { number, place },
         })
     }
 
+    /// The number that the library answered.
+    ///
+    /// ```
+    /// assert_eq!(watcher::Error::IdTaken.number(), 3);
+    /// ```
     pub fn number(&self) -> u32 {
         match self {
             Error::NoTable => 1,
@@ -122,7 +188,11 @@ impl Error {
             Error::SmallSpace => 20,
             Error::LongStream => 21,
             Error::RawByte { .. } => 23,
+            Error::SingleStart => 24,
+            Error::NotKept => 25,
+            Error::BadWindow => 26,
             Error::NoBlock { .. } => 27,
+            Error::LongLog => 28,
             Error::ShortState => 100,
             Error::Other { number, .. } => *number,
         }
@@ -131,6 +201,12 @@ impl Error {
     /// Where the fault lies in the pattern: the first byte of the faulty token, or the pattern's
     /// length for a fault known only at its end; of a block that is none, its number. 0 for all other
     /// refusals.
+    ///
+    /// ```
+    /// use watcher::{Flags, Table};
+    ///
+    /// assert_eq!(Table::new().add(1, Flags::NONE, b"[z-a]").unwrap_err().place(), 1);
+    /// ```
     pub fn place(&self) -> usize {
         match self {
             Error::BadEscape { place }
@@ -152,34 +228,13 @@ impl Error {
         }
     }
 
-    fn text(&self) -> &'static str {
-        match self {
-            Error::NoTable => "the words are no table",
-            Error::BadFlag => "unknown flag",
-            Error::IdTaken => "a rule has this id already",
-            Error::TableFull => "64 rules are there",
-            Error::LongPattern => "pattern over 1,024 bytes",
-            Error::BadEscape { .. } => "faulty escape",
-            Error::BigEscape { .. } => "number escape over 255",
-            Error::OpenClass { .. } => "class not closed",
-            Error::BadRange { .. } => "faulty range",
-            Error::BadQuantifier { .. } => "quantifier with nothing to repeat",
-            Error::BadCount { .. } => "faulty repeat count",
-            Error::BadGroup { .. } => "unmatched parenthesis",
-            Error::DeepGroup { .. } => "groups nested too deep",
-            Error::Unsupported { .. } => "construct outside the subset",
-            Error::EmptyMatch { .. } => "the rule could match no bytes",
-            Error::LargeRule { .. } => "over 256 positions in the rule",
-            Error::LargeTable { .. } => "over 256 positions in the table",
-            Error::BadState => "the state is not valid for the table",
-            Error::Closed => "the stream is closed",
-            Error::SmallSpace => "fewer report slots than twice the rules",
-            Error::LongStream => "over the stream limit",
-            Error::RawByte { .. } => "raw control byte",
-            Error::NoBlock { .. } => "not this block of a table",
-            Error::ShortState => "too few words for a state",
-            Error::Other { .. } => "refused",
-        }
+    /// What the number means, in a few words, as `refusals.txt` has it.
+    ///
+    /// ```
+    /// assert_eq!(watcher::Error::Closed.text(), "the stream is closed");
+    /// ```
+    pub fn text(&self) -> &'static str {
+        Refusal::of(self.number()).map_or("an unknown refusal", |refusal| refusal.text)
     }
 }
 

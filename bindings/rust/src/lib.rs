@@ -1,6 +1,6 @@
 //! A safe Rust interface to the verified stream watcher.
 //!
-//! ```no_run
+//! ```
 //! use watcher::{Flags, Stream, Table, NO_LIMIT};
 //!
 //! let mut table = Table::new();
@@ -14,44 +14,193 @@
 //! A table is 128 KiB and a stream 120 bytes and a reference; nothing here uses the heap. A stream
 //! borrows its table, so that no rule can be added while a stream is open on it.
 //!
-//! `raw` has the library's functions over slices, for words of any content; `sys` declares them.
+//! [`raw`] has the library's functions over slices, for words of any content; [`sys`] declares them.
+//! [`Refusal`] tells each number in words.
+
+#![warn(missing_docs)]
 
 mod error;
 pub mod raw;
+mod refusal;
 pub mod sys;
 
 pub use error::Error;
+pub use refusal::{Example, Refusal};
+
+/// The version of this crate and of the library that it belongs to, `WATCHER_VERSION` in C.
+///
+/// ```
+/// assert_eq!(watcher::VERSION.split('.').count(), 3);
+/// ```
+pub const VERSION: &str = env!("CARGO_PKG_VERSION");
 
 /// The words of a table.
+///
+/// ```
+/// assert_eq!(watcher::Table::new().words().len(), watcher::TABLE_WORDS);
+/// ```
 pub const TABLE_WORDS: usize = 16_384;
 /// The words of a stream's state.
+///
+/// ```
+/// let table = watcher::Table::new();
+/// assert_eq!(watcher::Stream::open(&table).state().len(), watcher::STATE_WORDS);
+/// ```
 pub const STATE_WORDS: usize = 15;
 /// A table has at most so many rules.
+///
+/// ```
+/// use watcher::{Error, Flags, Table, MAX_RULES};
+///
+/// let mut table = Table::new();
+/// for id in 0..MAX_RULES as u32 {
+///     table.add(id, Flags::NONE, b"a")?;
+/// }
+/// assert_eq!(table.add(1_000, Flags::NONE, b"a"), Err(Error::TableFull));
+/// # Ok::<(), Error>(())
+/// ```
 pub const MAX_RULES: usize = 64;
 /// So many report slots in each list are enough for any table: a byte may report each rule twice, and so
 /// may a closing.
+///
+/// ```
+/// use watcher::{Flags, Stream, Table, NO_LIMIT, REPORT_SLOTS};
+///
+/// let mut table = Table::new();
+/// table.add(1, Flags::NONE, b"a")?;
+/// let (mut ids, mut offsets) = ([0; REPORT_SLOTS], [0; REPORT_SLOTS]);
+/// let answer = Stream::open(&table).scan_into(NO_LIMIT, b"aa", &mut ids, &mut offsets)?;
+/// assert_eq!(&offsets[..answer.reports], [1, 2]);
+/// # Ok::<(), watcher::Error>(())
+/// ```
 pub const REPORT_SLOTS: usize = 2 * MAX_RULES;
 
 /// The allowance of a scan whose work has no limit.
+///
+/// ```
+/// use watcher::{Stream, Table, NO_LIMIT};
+///
+/// let table = Table::new();
+/// assert_eq!(Stream::open(&table).scan(NO_LIMIT, b"all of it", |_| ())?.taken, 9);
+/// # Ok::<(), watcher::Error>(())
+/// ```
 pub const NO_LIMIT: u64 = u64::MAX;
 /// A byte costs one unit of work and one for each live position, so never more than this. A scan with
 /// so many units takes at least one byte of its block.
+///
+/// ```
+/// use watcher::{Stream, Table, MAX_BYTE_UNITS};
+///
+/// let table = Table::new();
+/// assert!(Stream::open(&table).scan(MAX_BYTE_UNITS, b"abc", |_| ())?.taken >= 1);
+/// # Ok::<(), watcher::Error>(())
+/// ```
 pub const MAX_BYTE_UNITS: u64 = 257;
 
-/// The bytes of a block of a table on a card, and how many blocks a table takes.
+/// The bytes of a block of a table on a card.
+///
+/// ```
+/// assert_eq!(watcher::Table::new().block(0)?.len(), watcher::BLOCK_BYTES);
+/// # Ok::<(), watcher::Error>(())
+/// ```
 pub const BLOCK_BYTES: usize = 512;
+/// How many blocks a table takes on a card.
+///
+/// ```
+/// let table = watcher::Table::new();
+/// assert!(table.block(watcher::BLOCKS - 1).is_ok());
+/// assert!(table.block(watcher::BLOCKS).is_err());
+/// ```
 pub const BLOCKS: usize = TABLE_WORDS.div_ceil(63);
 
-/// Flags of a rule, combined with `|`.
+/// Flags of a rule, combined with `|`. They have Hyperscan's values.
+///
+/// ```
+/// use watcher::Flags;
+///
+/// assert_eq!(Flags::CASELESS | Flags::MULTILINE, Flags(5));
+/// ```
 #[derive(Clone, Copy, Debug, Default, PartialEq, Eq)]
 pub struct Flags(pub u32);
 
 impl Flags {
+    /// No flag: every end of every match, letters as they are.
+    ///
+    /// ```
+    /// use watcher::{Flags, Stream, Table, NO_LIMIT};
+    ///
+    /// let mut table = Table::new();
+    /// table.add(1, Flags::NONE, br"ab+")?;
+    /// let mut ends = vec![];
+    /// Stream::open(&table).scan(NO_LIMIT, b"abb AB", |report| ends.push(report.end))?;
+    /// assert_eq!(ends, [2, 3]);
+    /// # Ok::<(), watcher::Error>(())
+    /// ```
     pub const NONE: Flags = Flags(0);
+    /// Letters match in either case.
+    ///
+    /// ```
+    /// use watcher::{Flags, Stream, Table, NO_LIMIT};
+    ///
+    /// let mut table = Table::new();
+    /// table.add(1, Flags::CASELESS, br"slack")?;
+    /// let mut ends = vec![];
+    /// Stream::open(&table).scan(NO_LIMIT, b"Slack", |report| ends.push(report.end))?;
+    /// assert_eq!(ends, [5]);
+    /// # Ok::<(), watcher::Error>(())
+    /// ```
     pub const CASELESS: Flags = Flags(1);
+    /// `.` matches a newline too.
+    ///
+    /// ```
+    /// use watcher::{Flags, Stream, Table, NO_LIMIT};
+    ///
+    /// let mut table = Table::new();
+    /// table.add(1, Flags::DOT_ALL, br"a.b")?;
+    /// let mut ends = vec![];
+    /// Stream::open(&table).scan(NO_LIMIT, b"a\nb", |report| ends.push(report.end))?;
+    /// assert_eq!(ends, [3]);
+    /// # Ok::<(), watcher::Error>(())
+    /// ```
     pub const DOT_ALL: Flags = Flags(2);
+    /// `^` and `$` hold at each line.
+    ///
+    /// ```
+    /// use watcher::{Flags, Stream, Table, NO_LIMIT};
+    ///
+    /// let mut table = Table::new();
+    /// table.add(1, Flags::MULTILINE, br"^b")?;
+    /// let mut ends = vec![];
+    /// Stream::open(&table).scan(NO_LIMIT, b"a\nb", |report| ends.push(report.end))?;
+    /// assert_eq!(ends, [3]);
+    /// # Ok::<(), watcher::Error>(())
+    /// ```
     pub const MULTILINE: Flags = Flags(4);
+    /// The rule reports once in a stream.
+    ///
+    /// ```
+    /// use watcher::{Flags, Stream, Table, NO_LIMIT};
+    ///
+    /// let mut table = Table::new();
+    /// table.add(1, Flags::SINGLE_MATCH, br"ab+")?;
+    /// let mut ends = vec![];
+    /// Stream::open(&table).scan(NO_LIMIT, b"abb", |report| ends.push(report.end))?;
+    /// assert_eq!(ends, [2]);
+    /// # Ok::<(), watcher::Error>(())
+    /// ```
     pub const SINGLE_MATCH: Flags = Flags(8);
+    /// The rule reports the leftmost start of each match, which takes a stream that keeps starts.
+    ///
+    /// ```
+    /// use watcher::{Error, Flags, Table};
+    ///
+    /// let mut table = Table::new();
+    /// table.add(1, Flags::LEFTMOST_START, b"ab+")?;
+    /// let both = Flags::LEFTMOST_START | Flags::SINGLE_MATCH;
+    /// assert_eq!(table.add(2, both, b"ab+"), Err(Error::SingleStart));
+    /// # Ok::<(), watcher::Error>(())
+    /// ```
+    pub const LEFTMOST_START: Flags = Flags(256);
 }
 
 impl std::ops::BitOr for Flags {
@@ -63,20 +212,161 @@ impl std::ops::BitOr for Flags {
 }
 
 /// A match: the id of its rule, and its end offset in the stream.
+///
+/// ```
+/// use watcher::{Flags, Report, Stream, Table, NO_LIMIT};
+///
+/// let mut table = Table::new();
+/// table.add(7, Flags::NONE, b"foo.*bar")?;
+/// let mut reports = vec![];
+/// Stream::open(&table).scan(NO_LIMIT, b"fooxyzbar", |report| reports.push(report))?;
+/// assert_eq!(reports, [Report { id: 7, end: 9 }]);
+/// # Ok::<(), watcher::Error>(())
+/// ```
 #[derive(Clone, Copy, Debug, PartialEq, Eq)]
 pub struct Report {
+    /// The id that the rule was added with.
     pub id: u32,
+    /// The offset after the match's last byte, counted from the stream's first.
     pub end: u64,
 }
 
+/// The bytes of a match from `start` up to `end`, from what was kept of a stream: a tail, and the block
+/// right after it, which begins at `offset`. The block is asked first.
+///
+/// ```
+/// use watcher::{matched_bytes, Error};
+///
+/// assert_eq!(matched_bytes(b"rope", b" slack", 4, 5, 10), Ok(&b"slack"[..]));
+/// assert_eq!(matched_bytes(b"rope", b" slack", 4, 0, 4), Ok(&b"rope"[..]));
+/// assert_eq!(matched_bytes(b"rope", b" slack", 4, 0, 5), Err(Error::NotKept));
+/// ```
+pub fn matched_bytes<'b>(
+    tail: &'b [u8],
+    block: &'b [u8],
+    offset: u64,
+    start: u64,
+    end: u64,
+) -> Result<&'b [u8], Error> {
+    Error::check(raw::matched_number(tail, block, offset, start, end), 0)?;
+    let part = raw::matched_bytes(tail, block, offset, start, end);
+    let bytes = if part.tail { tail } else { block };
+    Ok(&bytes[part.place..part.place + part.size])
+}
+
 /// How far a scan went: the bytes that it took, and the units of work that they cost.
+///
+/// ```
+/// use watcher::{Scanned, Stream, Table, NO_LIMIT};
+///
+/// let table = Table::new();
+/// let scanned = Stream::open(&table).scan(NO_LIMIT, b"abc", |_| ())?;
+/// assert_eq!(scanned, Scanned { taken: 3, used: 3 });
+/// # Ok::<(), watcher::Error>(())
+/// ```
 #[derive(Clone, Copy, Debug, Default, PartialEq, Eq)]
 pub struct Scanned {
+    /// The bytes of the block that were taken, from its front.
     pub taken: usize,
+    /// The units of work that they cost.
     pub used: u64,
 }
 
+/// The longest log of the plain matcher, in bytes; no rule reports more often on it.
+///
+/// ```
+/// use watcher::{plain, Error, Flags, Windows, PLAIN_LOG};
+///
+/// let log = [b'a'; PLAIN_LOG + 1];
+/// assert_eq!(plain(b"b", Flags::NONE, Windows::NONE, &log, |_| ()), Err(Error::LongLog));
+/// ```
+pub const PLAIN_LOG: usize = 1024;
+
+/// The windows of a rule: only matches that end from `lowest` to `highest` and are at least
+/// `shortest` bytes long count.
+///
+/// ```
+/// use watcher::{plain, Error, Flags, Windows};
+///
+/// let none = Windows { lowest: 15, highest: 10, shortest: 0 };
+/// assert_eq!(plain(b"a", Flags::NONE, none, b"a", |_| ()), Err(Error::BadWindow));
+/// ```
+#[derive(Clone, Copy, Debug, PartialEq, Eq)]
+pub struct Windows {
+    /// The smallest end offset.
+    pub lowest: u64,
+    /// The largest end offset.
+    pub highest: u64,
+    /// The smallest length of a match.
+    pub shortest: u64,
+}
+
+impl Windows {
+    /// No window: every match counts.
+    ///
+    /// ```
+    /// assert_eq!(watcher::Windows::NONE.shortest, 0);
+    /// ```
+    pub const NONE: Windows = Windows { lowest: 0, highest: u64::MAX, shortest: 0 };
+}
+
+/// A match that the plain matcher reports: its end offset and, for a rule with
+/// `Flags::LEFTMOST_START`, the smallest start known when it is reported, else 0.
+///
+/// ```
+/// use watcher::{plain, Flags, Match, Windows};
+///
+/// let mut found = Vec::new();
+/// plain(b"ab+", Flags::LEFTMOST_START, Windows::NONE, b"xabb", |hit| found.push(hit))?;
+/// assert_eq!(found, [Match { start: 1, end: 3 }, Match { start: 1, end: 4 }]);
+/// # Ok::<(), watcher::Error>(())
+/// ```
+#[derive(Clone, Copy, Debug, PartialEq, Eq)]
+pub struct Match {
+    /// The start, or 0.
+    pub start: u64,
+    /// The end offset.
+    pub end: u64,
+}
+
+/// The plain second matcher: what this rule reports on a whole log of at most `PLAIN_LOG` bytes, in
+/// its order. It uses no table, so it can be asked where a table's answer is in doubt.
+///
+/// ```
+/// use watcher::{plain, Flags, Match, Windows};
+///
+/// let mut found = Vec::new();
+/// plain(b"ab+", Flags::LEFTMOST_START, Windows::NONE, b"xabb", |hit| found.push(hit))?;
+/// assert_eq!(found, [Match { start: 1, end: 3 }, Match { start: 1, end: 4 }]);
+/// # Ok::<(), watcher::Error>(())
+/// ```
+pub fn plain(
+    pattern: &[u8],
+    flags: Flags,
+    windows: Windows,
+    log: &[u8],
+    mut found: impl FnMut(Match),
+) -> Result<(), Error> {
+    let (mut offsets, mut starts) = ([0; PLAIN_LOG], [0; PLAIN_LOG]);
+    let windows = (windows.lowest, windows.highest, windows.shortest);
+    let answer = raw::plain(pattern, flags.0, windows, log, &mut offsets, &mut starts);
+    Error::check(answer.number, answer.place)?;
+    for (&start, &end) in starts.iter().zip(&offsets).take(answer.reports) {
+        found(Match { start, end });
+    }
+    Ok(())
+}
+
 /// Rules, ready to be scanned for.
+///
+/// ```
+/// use watcher::{Flags, Table};
+///
+/// let mut table = Table::new();
+/// table.add(1, Flags::NONE, b"state=slack")?;
+/// table.add(2, Flags::CASELESS, b"state=slipping")?;
+/// # Ok::<(), watcher::Error>(())
+/// ```
 #[derive(Clone)]
 pub struct Table {
     words: [u64; TABLE_WORDS],
@@ -90,23 +380,49 @@ impl Default for Table {
 
 impl Table {
     /// A table without rules.
+    ///
+    /// ```
+    /// let table = watcher::Table::new();
+    /// assert_eq!(watcher::Stream::open(&table).busy(), 0);
+    /// ```
     pub fn new() -> Table {
         let mut words = [0; TABLE_WORDS];
         raw::empty(&mut words);
         Table { words }
     }
 
-    /// The table in these words, as `words` once gave them.
+    /// The table in these words, as [`words`](Table::words) once gave them.
+    ///
+    /// ```
+    /// use watcher::{Error, Table, TABLE_WORDS};
+    ///
+    /// let kept = *Table::new().words();
+    /// assert!(Table::from_words(&kept).is_ok());
+    /// assert_eq!(Table::from_words(&[0; TABLE_WORDS]).err(), Some(Error::NoTable));
+    /// ```
     pub fn from_words(words: &[u64; TABLE_WORDS]) -> Result<Table, Error> {
         Error::check(raw::test(words), 0)?;
         Ok(Table { words: *words })
     }
 
+    /// The table's words, which may be kept in a file.
+    ///
+    /// ```
+    /// let table = watcher::Table::new();
+    /// let bytes: Vec<u8> = table.words().iter().flat_map(|word| word.to_le_bytes()).collect();
+    /// assert_eq!(bytes.len(), 131_072);
+    /// ```
     pub fn words(&self) -> &[u64; TABLE_WORDS] {
         &self.words
     }
 
     /// Block `number` of the table, from 0 to `BLOCKS - 1`, for a card.
+    ///
+    /// ```
+    /// let block = watcher::Table::new().block(3)?;
+    /// assert_eq!(&block[..2], [3, 0]);
+    /// # Ok::<(), watcher::Error>(())
+    /// ```
     pub fn block(&self, number: usize) -> Result<[u8; BLOCK_BYTES], Error> {
         let mut block = [0; BLOCK_BYTES];
         let (answer, place) = raw::write_block(&self.words, number as u64, &mut block);
@@ -115,6 +431,18 @@ impl Table {
     }
 
     /// The table whose blocks these are, from the first to the last.
+    ///
+    /// ```
+    /// use watcher::{Table, BLOCKS, BLOCK_BYTES};
+    ///
+    /// let table = Table::new();
+    /// let mut card = [[0; BLOCK_BYTES]; BLOCKS];
+    /// for (number, block) in card.iter_mut().enumerate() {
+    ///     *block = table.block(number)?;
+    /// }
+    /// assert!(Table::from_blocks(&card)?.words() == table.words());
+    /// # Ok::<(), watcher::Error>(())
+    /// ```
     pub fn from_blocks(blocks: &[[u8; BLOCK_BYTES]; BLOCKS]) -> Result<Table, Error> {
         let mut words = [0; TABLE_WORDS];
         for (number, block) in blocks.iter().enumerate() {
@@ -125,6 +453,14 @@ impl Table {
     }
 
     /// Adds a rule; a refused one leaves the table as it was.
+    ///
+    /// ```
+    /// use watcher::{Error, Flags, Table};
+    ///
+    /// let mut table = Table::new();
+    /// assert_eq!(table.add(7, Flags::NONE, b"foo.*bar"), Ok(()));
+    /// assert_eq!(table.add(7, Flags::NONE, b"slack"), Err(Error::IdTaken));
+    /// ```
     pub fn add(&mut self, id: u32, flags: Flags, pattern: &[u8]) -> Result<(), Error> {
         let (number, place) = raw::add(&mut self.words, id, flags.0, pattern);
         Error::check(number, place)
@@ -132,6 +468,20 @@ impl Table {
 }
 
 /// An open stream on a table.
+///
+/// ```
+/// use watcher::{Flags, Stream, Table, NO_LIMIT};
+///
+/// let mut table = Table::new();
+/// table.add(1, Flags::NONE, b"sl[ai]")?;
+/// let mut stream = Stream::open(&table);
+/// let mut ends = vec![];
+/// stream.scan(NO_LIMIT, b"rope s", |report| ends.push(report.end))?;
+/// stream.scan(NO_LIMIT, b"lack", |report| ends.push(report.end))?;
+/// stream.close(|report| ends.push(report.end))?;
+/// assert_eq!(ends, [8]);
+/// # Ok::<(), watcher::Error>(())
+/// ```
 #[derive(Clone)]
 pub struct Stream<'t> {
     table: &'t Table,
@@ -139,23 +489,66 @@ pub struct Stream<'t> {
 }
 
 impl<'t> Stream<'t> {
+    /// Opens a stream, at offset 0.
+    ///
+    /// ```
+    /// let table = watcher::Table::new();
+    /// let stream = watcher::Stream::open(&table);
+    /// ```
     pub fn open(table: &'t Table) -> Stream<'t> {
         let mut state = [0; STATE_WORDS];
         raw::open(&table.words, &mut state);
         Stream { table, state }
     }
 
-    /// The stream with this state, as `state` once gave it. The state is tested at each call.
+    /// The stream with this state, as [`state`](Stream::state) once gave it. The state is tested at
+    /// each call.
+    ///
+    /// ```
+    /// use watcher::{Flags, Stream, Table, NO_LIMIT};
+    ///
+    /// let mut table = Table::new();
+    /// table.add(1, Flags::NONE, b"slack")?;
+    /// let mut before = Stream::open(&table);
+    /// before.scan(NO_LIMIT, b"sla", |_| ())?;
+    /// let kept = *before.state();
+    /// let mut ends = vec![];
+    /// Stream::resume(&table, kept).scan(NO_LIMIT, b"ck", |report| ends.push(report.end))?;
+    /// assert_eq!(ends, [5]);
+    /// # Ok::<(), watcher::Error>(())
+    /// ```
     pub fn resume(table: &'t Table, state: [u64; STATE_WORDS]) -> Stream<'t> {
         Stream { table, state }
     }
 
+    /// The state's words, which may be kept in a file.
+    ///
+    /// ```
+    /// let table = watcher::Table::new();
+    /// let kept = *watcher::Stream::open(&table).state();
+    /// let stream = watcher::Stream::resume(&table, kept);
+    /// ```
     pub fn state(&self) -> &[u64; STATE_WORDS] {
         &self.state
     }
 
     /// Scans a block as far as the allowance of work goes, with `NO_LIMIT` all of it, and gives each
-    /// report in order. With fewer units than `MAX_BYTE_UNITS` it may take nothing.
+    /// report in order. With fewer units than [`MAX_BYTE_UNITS`] it may take nothing.
+    ///
+    /// ```
+    /// use watcher::{Flags, Stream, Table, MAX_BYTE_UNITS};
+    ///
+    /// let mut table = Table::new();
+    /// table.add(1, Flags::NONE, b"a+")?;
+    /// let (mut stream, mut rest) = (Stream::open(&table), &b"baab"[..]);
+    /// let mut ends = vec![];
+    /// while !rest.is_empty() {
+    ///     let scanned = stream.scan(MAX_BYTE_UNITS, rest, |report| ends.push(report.end))?;
+    ///     rest = &rest[scanned.taken..];
+    /// }
+    /// assert_eq!(ends, [2, 3]);
+    /// # Ok::<(), watcher::Error>(())
+    /// ```
     pub fn scan(
         &mut self,
         allowance: u64,
@@ -179,6 +572,17 @@ impl<'t> Stream<'t> {
     /// One scan into lists of the caller's: it stops before the first byte that the allowance does not
     /// pay for, or whose reports do not all fit. Both lists need twice as many slots as the table has
     /// rules.
+    ///
+    /// ```
+    /// use watcher::{Flags, Stream, Table, NO_LIMIT};
+    ///
+    /// let mut table = Table::new();
+    /// table.add(5, Flags::NONE, b"a")?;
+    /// let (mut ids, mut offsets) = ([0; 2], [0; 2]);
+    /// let answer = Stream::open(&table).scan_into(NO_LIMIT, b"aaa", &mut ids, &mut offsets)?;
+    /// assert_eq!((answer.taken, ids, offsets), (2, [5, 5], [1, 2]));
+    /// # Ok::<(), watcher::Error>(())
+    /// ```
     pub fn scan_into(
         &mut self,
         allowance: u64,
@@ -193,6 +597,20 @@ impl<'t> Stream<'t> {
 
     /// Closes the stream, and gives the reports that needed its end: those before a last newline,
     /// then those at the end.
+    ///
+    /// ```
+    /// use watcher::{Flags, Stream, Table, NO_LIMIT};
+    ///
+    /// let mut table = Table::new();
+    /// table.add(1, Flags::NONE, b"end$")?;
+    /// let mut stream = Stream::open(&table);
+    /// let mut ends = vec![];
+    /// stream.scan(NO_LIMIT, b"the end\n", |report| ends.push(report.end))?;
+    /// assert_eq!(ends, []);
+    /// stream.close(|report| ends.push(report.end))?;
+    /// assert_eq!(ends, [7]);
+    /// # Ok::<(), watcher::Error>(())
+    /// ```
     pub fn close(mut self, mut found: impl FnMut(Report)) -> Result<(), Error> {
         let (mut ids, mut offsets) = ([0; REPORT_SLOTS], [0; REPORT_SLOTS]);
         let answer = raw::close(&self.table.words, &mut self.state, &mut ids, &mut offsets);
@@ -203,6 +621,17 @@ impl<'t> Stream<'t> {
 
     /// How many positions are live; those that wait for the end are none. The next byte costs one unit
     /// more than this.
+    ///
+    /// ```
+    /// use watcher::{Flags, Stream, Table, NO_LIMIT};
+    ///
+    /// let mut table = Table::new();
+    /// table.add(1, Flags::NONE, b"slack")?;
+    /// let mut stream = Stream::open(&table);
+    /// stream.scan(NO_LIMIT, b"rope sla", |_| ())?;
+    /// assert_eq!(stream.busy(), 1);
+    /// # Ok::<(), watcher::Error>(())
+    /// ```
     pub fn busy(&self) -> u32 {
         raw::busy(&self.state)
     }

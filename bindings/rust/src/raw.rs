@@ -6,23 +6,53 @@ use crate::sys;
 
 /// What a scan or a closing answers: its number, the bytes taken, the reports written, the units of
 /// work used. A closing takes no bytes and no allowance.
+///
+/// ```
+/// use watcher::raw::{self, Answer};
+///
+/// let answer = raw::scan(&[], &mut [0; 15], 0, b"", &mut [], &mut []);
+/// assert_eq!(answer, Answer { number: 1, taken: 0, reports: 0, used: 0 });
+/// ```
 #[derive(Clone, Copy, Debug, PartialEq, Eq)]
 pub struct Answer {
+    /// 0, or why the call was refused.
     pub number: u32,
+    /// The bytes of the block that were taken.
     pub taken: usize,
+    /// The slots that were written, from the front of each list.
     pub reports: usize,
+    /// The units of work that the bytes cost.
     pub used: u64,
 }
 
+/// Makes the words an empty table. The number, 0 or 1.
+///
+/// ```
+/// let mut table = vec![9; watcher::TABLE_WORDS];
+/// assert_eq!(watcher::raw::empty(&mut table), 0);
+/// assert_eq!(watcher::raw::empty(&mut table[1..]), 1);
+/// ```
 pub fn empty(table: &mut [u64]) -> u32 {
     unsafe { sys::watcher_empty(table.as_mut_ptr(), table.len()) }
 }
 
+/// 0 if the words are a table, else 1.
+///
+/// ```
+/// assert_eq!(watcher::raw::test(watcher::Table::new().words()), 0);
+/// assert_eq!(watcher::raw::test(&[0; watcher::TABLE_WORDS]), 1);
+/// ```
 pub fn test(table: &[u64]) -> u32 {
     unsafe { sys::watcher_test(table.as_ptr(), table.len()) }
 }
 
-/// The number and the place.
+/// Adds a rule. The number and the place.
+///
+/// ```
+/// let mut table = *watcher::Table::new().words();
+/// assert_eq!(watcher::raw::add(&mut table, 7, 0, b"foo.*bar"), (0, 0));
+/// assert_eq!(watcher::raw::add(&mut table, 8, 0, b"a**"), (10, 2));
+/// ```
 pub fn add(table: &mut [u64], id: u32, flags: u32, pattern: &[u8]) -> (u32, usize) {
     let mut place = 0;
     let number = unsafe {
@@ -39,10 +69,29 @@ pub fn add(table: &mut [u64], id: u32, flags: u32, pattern: &[u8]) -> (u32, usiz
     (number, place)
 }
 
+/// Opens a stream. The number.
+///
+/// ```
+/// let mut state = [0; watcher::STATE_WORDS];
+/// assert_eq!(watcher::raw::open(watcher::Table::new().words(), &mut state), 0);
+/// ```
 pub fn open(table: &[u64], state: &mut [u64]) -> u32 {
     unsafe { sys::watcher_open(table.as_ptr(), table.len(), state.as_mut_ptr(), state.len()) }
 }
 
+/// Scans a block into the lists.
+///
+/// ```
+/// use watcher::{raw, Flags, Table, NO_LIMIT};
+///
+/// let mut table = Table::new();
+/// table.add(7, Flags::NONE, b"ab")?;
+/// let (mut state, mut ids, mut offsets) = ([0; watcher::STATE_WORDS], [0; 2], [0; 2]);
+/// raw::open(table.words(), &mut state);
+/// let answer = raw::scan(table.words(), &mut state, NO_LIMIT, b"cab", &mut ids, &mut offsets);
+/// assert_eq!((answer.taken, answer.reports, ids[0], offsets[0]), (3, 1, 7, 3));
+/// # Ok::<(), watcher::Error>(())
+/// ```
 pub fn scan(
     table: &[u64],
     state: &mut [u64],
@@ -73,6 +122,20 @@ pub fn scan(
     Answer { number, taken, reports, used }
 }
 
+/// Closes the stream, with the reports that needed its end.
+///
+/// ```
+/// use watcher::{raw, Flags, Table, NO_LIMIT};
+///
+/// let mut table = Table::new();
+/// table.add(7, Flags::NONE, b"ab$")?;
+/// let (mut state, mut ids, mut offsets) = ([0; watcher::STATE_WORDS], [0; 2], [0; 2]);
+/// raw::open(table.words(), &mut state);
+/// raw::scan(table.words(), &mut state, NO_LIMIT, b"cab", &mut ids, &mut offsets);
+/// let answer = raw::close(table.words(), &mut state, &mut ids, &mut offsets);
+/// assert_eq!((answer.reports, ids[0], offsets[0]), (1, 7, 3));
+/// # Ok::<(), watcher::Error>(())
+/// ```
 pub fn close(table: &[u64], state: &mut [u64], ids: &mut [u32], offsets: &mut [u64]) -> Answer {
     let mut reports = 0;
     let number = unsafe {
@@ -91,11 +154,23 @@ pub fn close(table: &[u64], state: &mut [u64], ids: &mut [u32], offsets: &mut [u
     Answer { number, taken: 0, reports, used: 0 }
 }
 
+/// How many positions are live; 0 for too few words.
+///
+/// ```
+/// assert_eq!(watcher::raw::busy(&[]), 0);
+/// ```
 pub fn busy(state: &[u64]) -> u32 {
     unsafe { sys::watcher_busy(state.as_ptr(), state.len()) }
 }
 
-/// The number and the place.
+/// Writes a block of the table. The number and the place.
+///
+/// ```
+/// let mut block = [0; watcher::BLOCK_BYTES];
+/// let table = watcher::Table::new();
+/// assert_eq!(watcher::raw::write_block(table.words(), 0, &mut block), (0, 0));
+/// assert_eq!(watcher::raw::write_block(table.words(), 261, &mut block), (27, 261));
+/// ```
 pub fn write_block(table: &[u64], number: u64, block: &mut [u8]) -> (u32, u64) {
     let mut place = 0;
     let answer = unsafe {
@@ -111,7 +186,15 @@ pub fn write_block(table: &[u64], number: u64, block: &mut [u8]) -> (u32, u64) {
     (answer, place)
 }
 
-/// The number and the place.
+/// Reads a block into the table's words. The number and the place.
+///
+/// ```
+/// let block = watcher::Table::new().block(5)?;
+/// let mut words = [0; watcher::TABLE_WORDS];
+/// assert_eq!(watcher::raw::read_block(&mut words, 5, &block), (0, 0));
+/// assert_eq!(watcher::raw::read_block(&mut words, 6, &block), (27, 6));
+/// # Ok::<(), watcher::Error>(())
+/// ```
 pub fn read_block(table: &mut [u64], number: u64, block: &[u8]) -> (u32, u64) {
     let mut place = 0;
     let answer = unsafe {
@@ -125,4 +208,124 @@ pub fn read_block(table: &mut [u64], number: u64, block: &[u8]) -> (u32, u64) {
         )
     };
     (answer, place)
+}
+
+/// Where the bytes of a match stand.
+///
+/// ```
+/// let part = watcher::raw::matched_bytes(b"ab", b"cd", 2, 0, 1);
+/// assert_eq!(part, watcher::raw::Part { tail: true, place: 0, size: 1 });
+/// ```
+#[derive(Clone, Copy, Debug, PartialEq, Eq)]
+pub struct Part {
+    /// In the tail, or in the block?
+    pub tail: bool,
+    /// The first of them there.
+    pub place: usize,
+    /// How many.
+    pub size: usize,
+}
+
+/// Where the bytes from `start` up to `end` stand, in the tail or in the block, which begins at `offset`;
+/// none of the block if neither holds them all.
+///
+/// ```
+/// let part = watcher::raw::matched_bytes(b"ab", b"cd", 2, 3, 4);
+/// assert_eq!(part, watcher::raw::Part { tail: false, place: 1, size: 1 });
+/// ```
+pub fn matched_bytes(tail: &[u8], block: &[u8], offset: u64, start: u64, end: u64) -> Part {
+    let (mut place, mut size) = (0, 0);
+    let source = unsafe {
+        sys::watcher_matched_bytes(
+            tail.as_ptr(),
+            tail.len(),
+            block.as_ptr(),
+            block.len(),
+            offset,
+            start,
+            end,
+            &mut place,
+            &mut size,
+        )
+    };
+    Part { tail: source != 0, place, size }
+}
+
+/// The number of the same question.
+///
+/// ```
+/// assert_eq!(watcher::raw::matched_number(b"ab", b"cd", 2, 1, 2), 0);
+/// assert_eq!(watcher::raw::matched_number(b"ab", b"cd", 2, 1, 3), 25);
+/// ```
+pub fn matched_number(tail: &[u8], block: &[u8], offset: u64, start: u64, end: u64) -> u32 {
+    unsafe {
+        sys::watcher_matched_number(
+            tail.as_ptr(),
+            tail.len(),
+            block.as_ptr(),
+            block.len(),
+            offset,
+            start,
+            end,
+        )
+    }
+}
+
+/// What the plain matcher answers: its number, the place of a fault, the reports written.
+///
+/// ```
+/// let (mut offsets, mut starts) = ([0; 1024], [0; 1024]);
+/// let windows = (0, u64::MAX, 0);
+/// let answer = watcher::raw::plain(b"ab+", 0, windows, b"abb", &mut offsets, &mut starts);
+/// assert_eq!(answer, watcher::raw::Plain { number: 0, place: 0, reports: 2 });
+/// assert_eq!(offsets[..2], [2, 3]);
+/// ```
+#[derive(Clone, Copy, Debug, PartialEq, Eq)]
+pub struct Plain {
+    /// 0, or why it was refused.
+    pub number: u32,
+    /// Where the fault of a refused pattern lies.
+    pub place: usize,
+    /// How many reports were written.
+    pub reports: usize,
+}
+
+/// What one rule reports on a whole log, by the plain matcher: the windows are the smallest and the
+/// largest end offset and the smallest length.
+///
+/// ```
+/// let (mut offsets, mut starts) = ([0; 1024], [0; 1024]);
+/// let windows = (0, u64::MAX, 0);
+/// let answer = watcher::raw::plain(b"ab+", 0, windows, b"abb", &mut offsets, &mut starts);
+/// assert_eq!(answer, watcher::raw::Plain { number: 0, place: 0, reports: 2 });
+/// assert_eq!(offsets[..2], [2, 3]);
+/// ```
+pub fn plain(
+    pattern: &[u8],
+    flags: u32,
+    (lowest, highest, shortest): (u64, u64, u64),
+    log: &[u8],
+    offsets: &mut [u64],
+    starts: &mut [u64],
+) -> Plain {
+    let (mut place, mut reports) = (0, 0);
+    let number = unsafe {
+        sys::watcher_plain(
+            pattern.as_ptr(),
+            pattern.len(),
+            flags,
+            lowest,
+            highest,
+            shortest,
+            log.as_ptr(),
+            log.len(),
+            offsets.as_mut_ptr(),
+            offsets.len(),
+            starts.as_mut_ptr(),
+            starts.len(),
+            &mut place,
+            &mut reports,
+        )
+    };
+    Plain { number, place, reports }
 }

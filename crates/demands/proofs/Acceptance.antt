@@ -19,10 +19,10 @@ use Rattle.nodes.specs.Nodes.{Syntax}
 use Rattle.pattern.specs.Walk.{Read, tree, refused}
 use Rattle.pattern.specs.Read.{longest, optionsOf}
 use Rattle.pattern.proofs.Accepted.{reads-if}
-use Rattle.rules.specs.Add.{Addition, readingOf}
+use Rattle.rules.specs.Add.{Addition, readingOf, singleStart}
 use Rattle.rules.specs.Additions.{Accepted, used, taken, nextAnswer}
 use Rattle.rules.proofs.Additions.{Accepts, accepts}
-use Rattle.demands.specs.Demands.{Refusal, unknown-flag, id-there, all-there, too-long, in-pattern, no-room}
+use Rattle.demands.specs.Demands.{Refusal, unknown-flag, single-start, id-there, all-there, too-long, in-pattern, no-room}
 
 -- a rule that has the id is in the list exactly if the id is taken
 taken-by : (rs : List Accepted) (id : ℕ) → taken rs id ≡ true → (r : Accepted) × List·Memᴰ r rs × (r .id ≡ id)
@@ -52,6 +52,7 @@ module _ (rs : List Accepted) (a : Addition) where
 
   none-left : Accepts rs a → ¬ Refusal rs a
   none-left c (unknown-flag h) = h (c .known)
+  none-left c (single-start e) = true≢false (sym e ∙ c .not-both)
   none-left c (id-there r m e) = true≢false (sym (taken-at rs (a .id) r m e) ∙ c .free)
   none-left c (all-there h) = omega (arith, c .few)
   none-left c (too-long h) = omega (arith, c .short)
@@ -65,6 +66,7 @@ module _ (rs : List Accepted) (a : Addition) where
       let x = reads-if (a .pattern) (optionsOf (a .flags)) .1 (λ n p r. none (in-pattern n p r)) in
       record {
         known = known (ℕ-discrete (bitAnd (a .flags) knownFlags) (a .flags));
+        not-both = apart (singleStart (a .flags)) refl;
         free = free (taken rs (a .id)) refl;
         few = few (decLt (length rs) maxRules);
         short = short (decLe (length (a .pattern)) longest);
@@ -76,6 +78,10 @@ module _ (rs : List Accepted) (a : Addition) where
       known : Dec (bitAnd (a .flags) knownFlags ≡ a .flags) → bitAnd (a .flags) knownFlags ≡ a .flags
       known (yes e) = e
       known (no n) = absurd (none (unknown-flag n))
+
+      apart : (b : Bool) → singleStart (a .flags) ≡ b → b ≡ false
+      apart true e = absurd (none (single-start e))
+      apart false e = refl
 
       free : (b : Bool) → taken rs (a .id) ≡ b → b ≡ false
       free true e = let t = taken-by rs (a .id) e in absurd (none (id-there (t .0) (t .1) (t .2)))

@@ -4,7 +4,7 @@ use mathlib.Core.Path.{_≡_, refl, sym, subst, subst₂, ap, ap₂, _∙_}
 use mathlib.Core.Logic.{_↔_}
 use mathlib.Core.Bool.{Bool, true, false}
 use mathlib.Core.List.{List, [], _∷_}
-use Prim.Native.Nat.{ℕ, zero, suc, _+_, _-_, _≤_, _<_}
+use Prim.Native.Nat.{ℕ, zero, suc, _+_, _-_, _^_, _≤_, _<_}
 use native.Mathlib.Nat.{add-zero}
 use native.Mathlib.Omega.{arith}
 use lib.Dec.{T}
@@ -39,8 +39,8 @@ unfolding count
 none-counted zero f h = refl
 none-counted (suc n) f h = ap₂ (λ (k : ℕ) (b : Bool). k + asOne b) (none-counted n f (λ q lt. h q (omega arith))) (h n (omega arith))
 
-module _ (t : List ℕ) (rules : List Rule) (b : Carried t rules) (bytes : List ℕ) (s : Stream)
-    (track : Alive (automaton t) (b .rule) (b .from) (b .tab) (b .carries) bytes (length bytes) s) where
+module _ (t : List ℕ) (rules : List Rule) (b : Carried t rules) (bytes : List ℕ) (short : length bytes < 2 ^ 64) (s : Stream)
+    (track : Alive (automaton t) (b .rule) (b .from) (b .tab) (b .carries) bytes short (length bytes) s) where
   abbrev n : ℕ
   n = length bytes
 

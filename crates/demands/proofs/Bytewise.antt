@@ -1,109 +1,121 @@
--- What a stream reports for some bytes, taken together: it depends on those bytes only, and bytes in two parts report what they report in one. Assumes
--- nothing.
+-- What a stream without starts reports for some bytes: what the lists then hold, and the same with the moments. Assumes nothing.
 use mathlib.Core.Path.{_≡_, refl, sym, ap, ap₂, _∙_}
-use mathlib.Core.Bool.{Bool}
-use mathlib.Core.List.{List, [], _∷_, _++_, map, map-map, zip}
+use mathlib.Core.Bool.{Bool, true, false, cond}
+use mathlib.Core.List.{List, [], _∷_, _++_, map, map-append, zip}
 use Prim.Native.Nat.{ℕ, zero, suc, _+_, _-_, _≤_}
 use native.Mathlib.Omega.{arith}
 use lib.ListN.{length, getD, take, drop, take-append-drop, length-map}
 use lib.Seq.{length-take-le, take-at}
 use Rattle.table.specs.Automaton.{Automaton}
 use Rattle.stream.specs.declared.Stream.{Stream}
-use Rattle.stream.specs.Byte.{Report, reportsBy, given, runReports, runMarks, twoReports, lateTest, ownTest, heldTest, endTest, byteReports, plain, stateAfter, closeReports}
+use Rattle.stream.specs.Byte.{Report as Slot, Machine, after, reportsBy, due, given, runReports, runMarks, twoReports, lateTest, ownTest, heldTest, endTest, byteReports, plain, stateAfter, closeReports}
 use Rattle.stream.specs.Calls.{Lists, written}
-use Rattle.stream.proofs.Machines.{after-front, reports-front, two-parts}
 use Rattle.stream.proofs.Blocks.{taken-after}
-use Rattle.regex.specs.Ordered.{closing-moment, Pair, pair, Entry}
-use Rattle.demands.specs.Chain.{reportsIn}
-use Rattle.demands.proofs.TwoRuns.{entryOf, run-append, twoRuns}
+use Rattle.regex.specs.Ordered.{Report, report, Entry}
+use Rattle.demands.specs.Kinds.{withoutStart, reportsIn}
+use Rattle.demands.proofs.TwoRuns.{run, placed, Told, twoRuns}
 use Rattle.demands.proofs.Whole.{byteEntries, entriesOf, closingOf}
 
--- the pairs of reports: those of the first k bytes of a block, and those of the closing
-abbrev pub pairOf : Report → Pair
-pairOf r = (r .id, r .end)
+-- the reports of rules without starts: those of the first k bytes of a block, and those of the closing
+abbrev pub startless : Slot → Report
+startless r = (r .id, r .end, 0)
 
-abbrev pub pairsTo : Automaton → Stream → List ℕ → ℕ → List Pair
-pairsTo w s block k = map pairOf (reportsBy (plain w) s block k)
+abbrev pub givenTo : Automaton → Stream → List ℕ → ℕ → List Report
+givenTo w s block k = map startless (reportsBy (plain w) s block k)
 
-abbrev pub pairsAtEnd : Automaton → Stream → List Pair
-pairsAtEnd w s = map pairOf (closeReports w s)
-
-pairs-join : (a b : List Report) → map pairOf (a ++ b) ≡ map pairOf a ++ map pairOf b
-pairs-join [] b = refl
-pairs-join (x ∷ a) b = ap (λ (l : List Pair). pairOf x ∷ l) (pairs-join a b)
+abbrev pub givenAtEnd : Automaton → Stream → List Report
+givenAtEnd w s = map startless (closeReports w s)
 
 -- what the slots up to the count hold
-columns-zip : (new : List Report) → zip (map (λ r. r .id) new) (map (λ r. r .end) new) ≡ map pairOf new
+columns-zip : (new : List Slot) → map withoutStart (zip (map (λ r. r .id) new) (map (λ r. r .end) new)) ≡ map startless new
 unfolding zip mathlib.Core.List.zipWith
 columns-zip [] = refl
-columns-zip (r ∷ new) = ap (λ (l : List Pair). pairOf r ∷ l) (columns-zip new)
+columns-zip (r ∷ new) = ap (λ (l : List Report). startless r ∷ l) (columns-zip new)
 
-pub slots-hold : (new : List Report) (slots : Lists) → reportsIn (length new) (written new slots) ≡ map pairOf new
+pub slots-hold : (new : List Slot) (slots : Lists) → reportsIn (length new) (written new slots) ≡ map startless new
 unfolding written
 slots-hold new slots =
-    ap₂ zip (take-at (map (λ r. r .id) new) (drop (length new) (slots .ids)) (length new) (length-map new (λ r. r .id)))
+    ap₂ (λ (a b : List ℕ). map withoutStart (zip a b)) (take-at (map (λ r. r .id) new) (drop (length new) (slots .ids)) (length new) (length-map new (λ r. r .id)))
     (take-at (map (λ r. r .end) new) (drop (length new) (slots .offsets)) (length new) (length-map new (λ r. r .end)))
     ∙ columns-zip new
 
--- the first k bytes of a block are a block of their own
-module _ (w : Automaton) (s : Stream) (block : List ℕ) (k : ℕ) (le : k ≤ length block) where
-  size : k ≡ length (take k block)
-  size = sym (length-take-le k block le)
+-- what a machine without starts goes by: at byte k of some bytes, from a state with nothing taken, and at the closing
+abbrev none : ℕ → ℕ
+none a = 0
 
-  cut : {A : Type 0} (f : List ℕ → ℕ → A) → ((a b : List ℕ) (n : ℕ) → n ≤ length a → f (a ++ b) n ≡ f a n) → f block k ≡ f (take k block) (length (take k block))
-  cut f front =
-      ap (λ (l : List ℕ). f l k) (sym (take-append-drop k block)) ∙ front (take k block) (drop k block) k (omega (arith, size)) ∙ ap (f (take k block)) size
+unfoldable pub plainAt : Automaton → Stream → List ℕ → ℕ → Told
+plainAt w s bytes k = record {
+  one = lateTest w (stateAfter w s bytes k) (getD bytes k 0);
+  two = ownTest w (stateAfter w s bytes k) (getD bytes k 0);
+  marks = stateAfter w s bytes k .reported;
+  first = none;
+  second = none;
+}
 
-  pub state-cut : stateAfter w s block k ≡ stateAfter w s (take k block) (length (take k block))
-  state-cut = cut (stateAfter w s) (after-front (plain w) s)
+unfoldable pub plainEnd : Automaton → Stream → Told
+plainEnd w s = record { one = heldTest w s; two = endTest w s; marks = s .reported; first = none; second = none }
 
-  pub pairs-cut : pairsTo w s block k ≡ pairsTo w s (take k block) (length (take k block))
-  pairs-cut = ap (map pairOf) (cut (reportsBy (plain w) s) (reports-front (plain w) s))
+-- ---- with the moments
 
-pub map-append : (a b : List Entry) → map pair (a ++ b) ≡ map pair a ++ map pair b
-map-append [] b = refl
-map-append (x ∷ a) b = ap (λ (l : List Pair). pair x ∷ l) (map-append a b)
+-- a run of reports, with moments and without
+run-given : {R : Type 0} (out : R → Report) (test : ℕ → Bool) (marks : ℕ) (place : ℕ → Entry) (give : ℕ → R) → ((a : ℕ) → report (place a) ≡ out (give a)) → (n : ℕ)
+    → map report (run test marks place n) ≡ map out (runReports test marks give n)
+unfolding run runReports
+run-given out test marks place give same zero = refl
+run-given {R} out test marks place give same (suc n) =
+    map-append report (run test marks place n) (cond (due test marks n) (place n ∷ []) [])
+    ∙ ap₂ (λ (x y : List Report). x ++ y) (run-given out test marks place give same n) (one (due test marks n))
+    ∙ sym (map-append out (runReports test marks give n) (cond (due test marks n) (give n ∷ []) []))
+  where
+    one : (b : Bool) → map report (cond b (place n ∷ []) []) ≡ map out (cond b (give n ∷ []) [])
+    one true = ap (λ (r : Report). r ∷ []) (same n)
+    one false = refl
+
+module _ (w : Automaton) {R : Type 0} (out : R → Report) where
+  -- the two runs of a moment
+  pub two-given : (m d e : ℕ) (x : Told) (first second : ℕ → R) → ((a : ℕ) → report (placed w m d (x .first) a) ≡ out (first a))
+      → ((a : ℕ) → report (placed w m e (x .second) a) ≡ out (second a))
+      → map report (twoRuns w m d e x) ≡ map out (twoReports w (x .one) (x .two) (x .marks) first second)
+  unfolding twoRuns twoReports
+  two-given m d e x first second p q =
+      let later : ℕ = runMarks w (x .one) (x .marks) in
+      map-append report (run (x .one) (x .marks) (placed w m d (x .first)) (w .rules)) (run (x .two) later (placed w m e (x .second)) (w .rules))
+      ∙ ap₂ (λ (l r : List Report). l ++ r) (run-given out (x .one) (x .marks) (placed w m d (x .first)) first p (w .rules)) (run-given out (x .two) later (placed w m e (x .second)) second q (w .rules))
+      ∙ sym (map-append out (runReports (x .one) (x .marks) first (w .rules)) (runReports (x .two) later second (w .rules)))
+
+  -- bytes that are told so, one after the other
+  pub entries-given : {S : Type 0} (m : Machine S R) (s : S) (bytes : List ℕ) (at : ℕ → Told)
+      → ((i : ℕ) → map report (byteEntries w at i) ≡ map out (m .reports (after m s bytes i) (getD bytes i 0)))
+      → (k : ℕ) → map report (entriesOf w at k) ≡ map out (reportsBy m s bytes k)
+  unfolding entriesOf reportsBy
+  entries-given m s bytes at each zero = refl
+  entries-given m s bytes at each (suc k) =
+      map-append report (entriesOf w at k) (byteEntries w at k)
+      ∙ ap₂ (λ (x y : List Report). x ++ y) (entries-given m s bytes at each k) (each k)
+      ∙ sym (map-append out (reportsBy m s bytes k) (m .reports (after m s bytes k) (getD bytes k 0)))
+
+-- ---- without starts
 
 module _ (w : Automaton) where
-  -- the pairs of the two runs of a moment
-  two-pairs : (m d e : ℕ) (one two : ℕ → Bool) (marks : ℕ) → map pair (twoRuns w m d e one two marks) ≡ map pairOf (twoReports w one two marks (given w d) (given w e))
-  unfolding twoRuns twoReports
-  two-pairs m d e one two marks =
-      let a : List Report = runReports one marks (given w d) (w .rules) in
-      let b : List Report = runReports two (runMarks w one marks) (given w e) (w .rules) in
-      ap (map pair) (sym (run-append m a b)) ∙ map-map pair (entryOf m) (a ++ b)
+  -- the reports of some bytes
+  abbrev pub givenOf : Stream → List ℕ → List Report
+  givenOf s a = givenTo w s a (length a)
 
-  -- the pairs that some bytes report
-  abbrev pub pairsOf : Stream → List ℕ → List Pair
-  pairsOf s a = pairsTo w s a (length a)
-
-  pub pairs-append : (s : Stream) (a b : List ℕ) → pairsOf s (a ++ b) ≡ pairsOf s a ++ pairsOf (stateAfter w s a (length a)) b
-  pairs-append s a b =
-      ap (map pairOf) (two-parts (plain w) s a b .reports)
-      ∙ pairs-join (reportsBy (plain w) s a (length a)) (reportsBy (plain w) (stateAfter w s a (length a)) b (length b))
-
-  -- from a state with nothing taken they are those of the entries
-  byte-pairs : (s : Stream) (bytes : List ℕ) → s .taken ≡ 0 → (k : ℕ) → map pair (byteEntries w s bytes k) ≡ map pairOf (byteReports w (stateAfter w s bytes k) (getD bytes k 0))
-  unfolding byteReports
-  byte-pairs s bytes fresh k =
+  -- from a state with nothing taken those of a byte are those of its entries
+  pub byte-given : (s : Stream) (bytes : List ℕ) → s .taken ≡ 0 → (k : ℕ)
+      → map report (byteEntries w (plainAt w s bytes) k) ≡ map startless (byteReports w (stateAfter w s bytes k) (getD bytes k 0))
+  unfolding byteReports plainAt
+  byte-given s bytes fresh k =
       let x : Stream = stateAfter w s bytes k in
       let late : ℕ → Bool = lateTest w x (getD bytes k 0) in
       let own : ℕ → Bool = ownTest w x (getD bytes k 0) in
       let offset : k ≡ x .taken = omega (arith, fresh, taken-after w s bytes k) in
-      two-pairs (suc k) k (suc k) late own (x .reported)
-      ∙ ap (λ (o : ℕ). map pairOf (twoReports w late own (x .reported) (given w o) (given w (suc o)))) offset
+      two-given w startless (suc k) k (suc k) (plainAt w s bytes k) (given w k) (given w (suc k)) (λ a. refl) (λ a. refl)
+      ∙ ap (λ (o : ℕ). map startless (twoReports w late own (x .reported) (given w o) (given w (suc o)))) offset
 
-  pub entries-pairs : (s : Stream) (bytes : List ℕ) → s .taken ≡ 0 → (k : ℕ) → map pair (entriesOf w s bytes k) ≡ pairsTo w s bytes k
-  unfolding entriesOf reportsBy
-  entries-pairs s bytes fresh zero = refl
-  entries-pairs s bytes fresh (suc k) =
-      map-append (entriesOf w s bytes k) (byteEntries w s bytes k)
-      ∙ ap₂ (λ (x y : List Pair). x ++ y) (entries-pairs s bytes fresh k) (byte-pairs s bytes fresh k)
-      ∙ sym (pairs-join (reportsBy (plain w) s bytes k) (byteReports w (stateAfter w s bytes k) (getD bytes k 0)))
-
-  -- and its pairs are those of its two runs
-  pub closing-pairs : (s : Stream) (bytes : List ℕ) (last : Stream) → length bytes ≡ last .taken → map pair (closingOf w s bytes last) ≡ pairsAtEnd w last
-  unfolding closingOf closeReports
-  closing-pairs s bytes last offset =
-      two-pairs (closing-moment bytes) (length bytes - 1) (length bytes) (heldTest w last) (endTest w last) (last .reported)
-      ∙ ap (λ (o : ℕ). map pairOf (twoReports w (heldTest w last) (endTest w last) (last .reported) (given w (o - 1)) (given w o))) offset
+  -- and so are those of the closing
+  pub closing-given : (at : ℕ → Told) (n : ℕ) (last : Stream) → n ≡ last .taken → map report (closingOf w at n (plainEnd w last)) ≡ givenAtEnd w last
+  unfolding closingOf closeReports plainEnd
+  closing-given at n last offset =
+      two-given w startless (suc n) (n - 1) n (plainEnd w last) (given w (n - 1)) (given w n) (λ a. refl) (λ a. refl)
+      ∙ ap (λ (o : ℕ). map startless (twoReports w (heldTest w last) (endTest w last) (last .reported) (given w (o - 1)) (given w o))) offset

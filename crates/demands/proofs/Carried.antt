@@ -1,21 +1,24 @@
 -- The table that additions built, as the proofs about streams take it: an automaton that carries rules, each in its place by rising id, with its positions from
 -- its own first one on. What rules proves of the built words (`Built`) gives it, each set through the relation that it computes. Assumes nothing.
-use mathlib.Core.Path.{_≡_, refl, sym, subst, ap, _∙_}
+use mathlib.Core.Path.{_≡_, refl, sym, subst, ap, ap₂, _∙_}
 use mathlib.Core.Logic.{_↔_}
-use mathlib.Core.Bool.{Bool}
+use mathlib.Core.Bool.{Bool, true, false, true≢false, _&&_, _||_, and-false}
 use mathlib.Core.List.{List, [], _∷_, map, List·Memᴰ, List·Memᴰ·head, List·Memᴰ·tail, Memᴰ·of-map, Memᴰ·map, Memᴰ·cast}
 use Prim.Native.Nat.{ℕ, _+_, _≤_, _<_}
 use native.Mathlib.Decide.{decLt}
 use native.Mathlib.Omega.{arith}
-use lib.Dec.{T}
+use lib.Dec.{T, ltb}
 use lib.ListN.{length}
-use Rattle.sets.specs.Set.{has}
+use borrow.Author.Tests.{lt-ltb, le-ltb}
+use Rattle.sets.specs.Set.{has, any}
+use Rattle.sets.proofs.Laws.{any-never, any-none}
 use Rattle.table.specs.Layout.{maxRules, maxPositions, rulesOf, positionsOf}
 use Rattle.table.specs.Gaps.{firstGaps, followGaps, lastGaps}
 use Rattle.table.specs.Automaton.{Automaton, automaton, single, starts, last as lastIn}
 use Rattle.table.proofs.Lates.{LatesAre}
+use Rattle.stream.specs.Valid.{needsStarts}
 use Rattle.regex.specs.Form.{Form, write, positions}
-use Rattle.regex.specs.Rule.{Rule, ByteSet, Assertion}
+use Rattle.regex.specs.Rule.{Rule, no-windows, ByteSet, Assertion}
 use Rattle.regex.specs.Automaton.{first, last, follow}
 use Rattle.regex.proofs.Relations.{First, Last, Follow, Takes}
 use Rattle.regex.proofs.Logic.{true-T}
@@ -39,6 +42,9 @@ pub record Carries (w : Automaton) (rule : ℕ → Rule) (from : ℕ → ℕ) (t
   pub few-positions : w .positions ≤ maxPositions
   pub id-is : (a : ℕ) → a < w .rules → w .id a ≡ rule a .id
   pub single-is : (a : ℕ) → a < w .rules → single w a ≡ rule a .single
+  pub leftmost-is : (a : ℕ) → a < w .rules → w .leftmost a ≡ rule a .starts
+  pub keeps-is : (a : ℕ) → a < w .rules → (q : ℕ) → Within (from a) (rule a) q → w .keeps q ≡ rule a .starts
+  pub windows-are : (a : ℕ) → a < w .rules → rule a .windows ≡ no-windows
   pub rising : (a b : ℕ) → a < b → b < w .rules → rule a .id < rule b .id
   pub inside : (a : ℕ) → a < w .rules → from a + positions (formOf (rule a)) ≤ w .positions
   pub covered : (q : ℕ) → q < w .positions → (a : ℕ) × (a < w .rules) × Within (from a) (rule a) q
@@ -134,6 +140,9 @@ module _ (t : List ℕ) (rs : List Accepted) (b : Built t rs) where
     few-positions = omega (arith, b .passed .positions, positions-at t);
     id-is = λ a lt. e .rule a (in-list a lt) .id-is;
     single-is = λ a lt. e .rule a (in-list a lt) .once-is;
+    leftmost-is = λ a lt. e .rule a (in-list a lt) .leftmost-is;
+    keeps-is = λ a lt q i. e .rule a (in-list a lt) .keeps-is q i;
+    windows-are = λ a lt. refl;
     rising = λ a c l m. e .rising a c l (in-list c m);
     inside = λ a lt. e .rule a (in-list a lt) .within;
     covered = λ q l. let c = e .covered q l in (c .0, in-table (c .0) (c .1), c .2);
@@ -181,3 +190,32 @@ module _ (t : List ℕ) (rs : List Accepted) (b : Built t rs) where
     based = laid-based rs 0 (λ q m. byId-mem rs m);
     counted = positions-at t ∙ b .positions ∙ sym (same-positions rs);
   }
+
+-- ---- which tables need a start
+
+module _ (w : Automaton) (rule : ℕ → Rule) (from : ℕ → ℕ) (tab : ℕ → ByteSet) (enc : Carries w rule from tab) where
+  -- those with a rule that reports one
+  pub none-needed : ((a : ℕ) → a < w .rules → rule a .starts ≡ false) → needsStarts w ≡ false
+  unfolding needsStarts
+  none-needed none =
+      ap₂ (λ (b c : Bool). b || c)
+      (any-never maxPositions (λ q. w .keeps q && ltb q (w .positions)) (λ q l. keeper q (decLt q (w .positions))))
+      (any-never maxRules (λ a. ltb a (w .rules) && w .leftmost a) (λ a l. rule-at a (decLt a (w .rules))))
+    where
+      keeper : (q : ℕ) → Dec (q < w .positions) → (w .keeps q && ltb q (w .positions)) ≡ false
+      keeper q (yes l) = let c = enc .covered q l in ap (λ (b : Bool). b && ltb q (w .positions)) (enc .keeps-is (c .0) (c .1) q (c .2) ∙ none (c .0) (c .1))
+      keeper q (no l) = ap (λ (b : Bool). w .keeps q && b) (le-ltb q (w .positions) (omega arith)) ∙ and-false (w .keeps q)
+
+      rule-at : (a : ℕ) → Dec (a < w .rules) → (ltb a (w .rules) && w .leftmost a) ≡ false
+      rule-at a (yes l) = ap (λ (b : Bool). ltb a (w .rules) && b) (enc .leftmost-is a l ∙ none a l) ∙ and-false (ltb a (w .rules))
+      rule-at a (no l) = ap (λ (b : Bool). b && w .leftmost a) (le-ltb a (w .rules) (omega arith))
+
+  pub none-reports : needsStarts w ≡ false → (a : ℕ) → a < w .rules → rule a .starts ≡ false
+  unfolding needsStarts
+  none-reports e a l =
+      let off = any-none maxRules (λ a. ltb a (w .rules) && w .leftmost a) (right (any maxPositions (λ q. w .keeps q && ltb q (w .positions))) (any maxRules (λ a. ltb a (w .rules) && w .leftmost a)) e) a (omega (arith, enc .few-rules)) in
+      sym (enc .leftmost-is a l) ∙ sym (ap (λ (b : Bool). b && w .leftmost a) (lt-ltb a (w .rules) l)) ∙ off
+    where
+      right : (b c : Bool) → (b || c) ≡ false → c ≡ false
+      right true c h = absurd (true≢false h)
+      right false c h = h

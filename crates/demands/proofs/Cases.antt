@@ -31,20 +31,20 @@ use Rattle.pattern.specs.Read.{judged, readOf, optionsOf}
 use Rattle.steps.specs.Step.{stepped, ends, endsNewly, latesOf}
 use Rattle.stream.specs.Byte.{nextHeld, nextPending, runReports, runMarks, twoReports, twoMarks, byteReports, byteState, closeReports}
 use Rattle.rules.specs.declared.Added.{Added}
-use Rattle.rules.specs.Add.{Addition, answer, unknownFlag, placed, addWords}
+use Rattle.rules.specs.Add.{Addition, answer, unknownFlag, singleStart, placed, addWords}
 use Rattle.rules.specs.Additions.{Narrow, Accepted, used, taken, nextAnswer, withNew, afterNext, acceptedAfter}
 use Rattle.rules.specs.Encoded.{addAll}
 use Rattle.rules.proofs.Sorted.{laid, insert, into}
 use Rattle.rules.proofs.Additions.{Built, built-none, built-next, answer-built, words-built}
 use Rattle.demands.specs.Cases.{bytes, Log, Case, Gives, AllGive, answerIn, logsIn, Alone, answersOf, additionsIn, cases, logs, WorkedCases}
 use Rattle.demands.proofs.Computing.{owner, ownerPlace, computed, computedOf}
-use Rattle.demands.proofs.Logs.{same, pass, passed, final, follows, startOf, log-gives}
+use Rattle.demands.proofs.Logs.{same, pass, passed, final, follows, withoutStarts, startOf, log-gives}
 
 -- ---- the cases without a table, which compute
 
--- the log, followed by the automaton of some accepted rules
+-- the log, followed by the automaton of some accepted rules, none of which reports a start
 abbrev runs : List Accepted → Log → Bool
-runs rs log = follows (computedOf rs) (startOf rs) (log .blocks) (log .closing)
+runs rs log = withoutStarts rs && follows (computedOf rs) (startOf rs) (log .blocks) (log .closing)
 
 unfoldable allRun : List Accepted → List Log → Bool
 allRun rs [] = true
@@ -71,7 +71,7 @@ nextAnswers rs (a ∷ l) = nextAnswer rs a ∷ nextAnswers (afterNext rs a) l
 computed-right : (failing right cases ≡ [])
     × (nextAnswers [] (additionsIn cases) ≡ map (λ (k : Case). answerIn (k .verdict)) cases)
     × (failing (runs (acceptedAfter [] (additionsIn cases))) logs ≡ [])
-unfolding allRun right failing nextAnswers on has setOf wordOf any emptySet insertedRange unionOf complementOf inserted fullSet isDigit isLower isUpper isBlank otherCase caseClosed digitOf digits valueFrom blanks numeralOf bracedOf shortOf flipped64 raised controlOf typeOf namedOf placedOf hexOf octalOf isAlpha isAlnum escapeOf lower isMark gapOf names begins named nameAmong nameOf bracketOf memberOf rangeFault jointOf memberAt membersOf classOf joined settled lettersOf beforeClose commentOf openingOf bounded open-ended bracesOf formOf marked quantifierOf escaped unquotedOf lexemeOf itemSet copied capped saturating nullable write positions repeated copies optionals null first last follow items chained chosen one repeating closing opening act next finish walk judged readOf optionsOf unknownFlag placed used taken nextAnswer withNew afterNext acceptedAfter laid insert into owner ownerPlace computed between beforeLast atEnd atStart gapBefore firstGap sideOf isWord stepped ends endsNewly latesOf intersectionOf nextHeld nextPending runReports runMarks twoReports twoMarks byteReports byteState closeReports all bytes cases logs pass passed final follows same zip mathlib.Core.List.zipWith isCntrl anyRaw withRaw spelledAt spelledOf
+unfolding allRun right failing nextAnswers withoutStarts on has setOf wordOf any emptySet insertedRange unionOf complementOf inserted fullSet isDigit isLower isUpper isBlank otherCase caseClosed digitOf digits valueFrom blanks numeralOf bracedOf shortOf flipped64 raised controlOf typeOf namedOf placedOf hexOf octalOf isAlpha isAlnum escapeOf lower isMark gapOf names begins named nameAmong nameOf bracketOf memberOf rangeFault jointOf memberAt membersOf classOf joined settled lettersOf beforeClose commentOf openingOf bounded open-ended bracesOf formOf marked quantifierOf escaped unquotedOf lexemeOf itemSet copied capped saturating nullable write positions repeated copies optionals null first last follow items chained chosen one repeating closing opening act next finish walk judged readOf optionsOf unknownFlag singleStart placed used taken nextAnswer withNew afterNext acceptedAfter laid insert into owner ownerPlace computed between beforeLast atEnd atStart gapBefore firstGap sideOf isWord stepped ends endsNewly latesOf intersectionOf nextHeld nextPending runReports runMarks twoReports twoMarks byteReports byteState closeReports all bytes cases logs pass passed final follows same zip mathlib.Core.List.zipWith isCntrl anyRaw withRaw spelledAt spelledOf
 computed-right = (refl, refl, refl)
 
 -- ---- carried to the calls
@@ -88,10 +88,13 @@ each {A} test (y ∷ l) e x m = go (test y) refl e m (λ r n. each test l r x n)
     go false f e n later = absurd (cons-ne-nil y (failing test l) e)
 
 module _ (t : List ℕ) (rs : List Accepted) (built : Built t rs) where
+  runs-give : (log : Log) → T (runs rs log) → Gives t log
+  runs-give log h = let x = and-T (withoutStarts rs) (follows (computedOf rs) (startOf rs) (log .blocks) (log .closing)) .0 h in log-gives t rs built (x .0) log (x .1)
+
   all-give : (logs : List Log) → T (allRun rs logs) → AllGive t logs
   unfolding allRun
   all-give [] h log m = absurd (List·Memᴰ·not-nil m)
-  all-give (x ∷ l) h log (List·Memᴰ·head e) = subst (Gives t) (sym e) (log-gives t rs built x (and-T (runs rs x) (allRun rs l) .0 h .0))
+  all-give (x ∷ l) h log (List·Memᴰ·head e) = subst (Gives t) (sym e) (runs-give x (and-T (runs rs x) (allRun rs l) .0 h .0))
   all-give (x ∷ l) h log (List·Memᴰ·tail m) = all-give l (and-T (runs rs x) (allRun rs l) .0 h .1) log m
 
 same-answer : (a b : Added) → T (answers a b) → a ≡ b
@@ -138,7 +141,7 @@ worked-cases = (
   λ k m. right-alone k (each right cases (computed-right .0) k m),
   λ words long. (
     answers-built (additionsIn cases) narrow-cases (emptied words) [] (built-none words long) ∙ computed-right .1,
-    λ log m. log-gives (addAll (emptied words) (additionsIn cases)) (acceptedAfter [] (additionsIn cases)) (words-built words (additionsIn cases) long narrow-cases) log
+    λ log m. runs-give (addAll (emptied words) (additionsIn cases)) (acceptedAfter [] (additionsIn cases)) (words-built words (additionsIn cases) long narrow-cases) log
         (each (runs (acceptedAfter [] (additionsIn cases))) logs (computed-right .2) log m),
   ),
 )

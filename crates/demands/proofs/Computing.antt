@@ -3,7 +3,7 @@
 use mathlib.Core.Path.{_≡_, refl, sym, ap, ap₂, _∙_}
 use mathlib.Core.Bool.{Bool, true, false, cond, not, _&&_, _||_, and-true, and-false}
 use mathlib.Core.List.{List, [], _∷_}
-use Prim.Native.Nat.{ℕ, zero, suc, _+_, _/_, _%_, _≤_, _<_}
+use Prim.Native.Nat.{ℕ, zero, suc, _+_, _≤_, _<_}
 use native.Mathlib.Omega.{arith}
 use native.Mathlib.Decide.{decLe, decLt, ℕ-discrete}
 use lib.Dec.{eqb, leb, ltb}
@@ -15,6 +15,7 @@ use Rattle.table.specs.Gaps.{innerGaps, lastGaps, unsettled}
 use Rattle.table.specs.Automaton.{Automaton, automaton, last as lastIn}
 use Rattle.regex.specs.Tree.{empty}
 use Rattle.regex.specs.Automaton.{first, last, follow}
+use Rattle.rules.specs.Words.{isSingle, isLeftmost}
 use Rattle.rules.specs.Additions.{Accepted, size, used}
 use Rattle.rules.proofs.Sorted.{Placed, at, byId}
 use Rattle.rules.proofs.Encodes.{Encodes, Of, formOf, itemOf, worldAt, starts-first, last-out}
@@ -38,7 +39,8 @@ computed ps n = record {
   rules = length ps;
   positions = n;
   id = λ a. at ps a .rule .id;
-  once = λ a. eqb (at ps a .rule .flags / 8 % 2) 1;
+  once = λ a. isSingle (at ps a .rule .flags);
+  leftmost = λ a. isLeftmost (at ps a .rule .flags);
   opens = λ x. true;
   takes = λ x q. has (itemOf (owner ps q) q) x;
   first = λ g q. first (worldAt g) (formOf (owner ps q)) (owner ps q .from) q;
@@ -47,6 +49,7 @@ computed ps n = record {
   owner = λ p. ownerPlace ps p;
   late = λ p.
       any innerGaps (λ g. last (worldAt g) (formOf (owner ps p)) (owner ps p .from) p) && not (last (worldAt unsettled) (formOf (owner ps p)) (owner ps p .from) p);
+  keeps = λ q. isLeftmost (owner ps q .rule .flags);
 }
 
 -- the owner is a rule that has the position, if there is one

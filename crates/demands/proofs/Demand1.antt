@@ -1,5 +1,5 @@
 -- Demand 1: the theorem of each public function, and what the definitions that they cite give where the number is not 0. Assumes nothing.
-use mathlib.Core.Path.{_≡_, refl, ap}
+use mathlib.Core.Path.{_≡_, refl, ap, _∙_}
 use mathlib.Core.Bool.{Bool, true, false, cond}
 use mathlib.Core.List.{List, []}
 use Prim.Native.Nat.{ℕ, _+_, _-_}
@@ -22,15 +22,20 @@ use Rattle.stream.specs.declared.Stream.{Stream}
 use Rattle.stream.specs.declared.Opened.{Opened}
 use Rattle.stream.specs.declared.Scanned.{Scanned}
 use Rattle.stream.specs.declared.Closed.{Closed}
-use Rattle.stream.specs.Calls.{Lists, Call, fresh, opened, space, closeNumber, callNumber, scanned, scannedLists, closed, closedLists}
+use Rattle.stream.specs.Calls.{fresh, opened, space, closeNumber, callNumber, scannedLists, closedLists}
+use Rattle.traced.specs.declared.Scanned.{Scanned as Trace-scanned}
+use Rattle.traced.specs.declared.Closed.{Closed as Trace-closed}
+use Rattle.traced.specs.Calls as traced
 use Rattle.stream.proofs.Results.{accepted-scan, refused-scan, accepted-close, refused-close}
 use Rattle.stream.proofs.Stream.«open».Met.{met as open-met}
 use Rattle.stream.proofs.Stream.scan.Met.{met as scan-met}
 use Rattle.stream.proofs.Stream.close.Met.{met as close-met}
 use Rattle.stream.proofs.Stream.busy.Met.{met as busy-met}
 use Rattle.demands.specs.Chain.{this, emptying, adding, reading-block, numberOf, tableAfter}
-use Rattle.demands.specs.Demand1.{Answers, ScanRefused, CloseRefused, Refusals, Demand1}
-use Rattle.demands.proofs.Chained.{kept}
+use Rattle.demands.specs.Demand1.{Answers, CallsRefused, Refusals, Demand1}
+use Rattle.demands.specs.Kinds.{short, traces}
+use Rattle.demands.proofs.Others.{kept}
+use Rattle.demands.proofs.Traced.{scan-number as trace-number, refused-scan as trace-refused, close-number-is as trace-close-number, refused-close as trace-close-refused}
 
 answers : Answers
 answers = record {
@@ -57,37 +62,53 @@ open-refused t = go (isTable t)
     go true h = absurd (h refl)
     go false h = refl
 
-module _ (t : List ℕ) (s : Stream) (c : Call) (bad : ¬ (scanned t s c .number ≡ 0)) where
-  not-zero : ¬ (callNumber t s c ≡ 0)
-  not-zero ok = bad (ap (λ (a : Scanned). a .number) (accepted-scan t s c ok))
+trace-open-refused : (t : List ℕ) → ¬ (traced.opened t .number ≡ 0) → traced.opened t .traced ≡ record { stream = fresh 0 0 true; starts = traced.noStarts }
+unfolding traced.opened
+trace-open-refused t bad = ap (λ (s : Stream). record { stream = s; starts = traced.noStarts }) (open-refused t bad)
 
-  scan-refused : ScanRefused t s c
-  unfolding scannedLists
-  scan-refused =
-      let r = refused-scan t s c not-zero in
-      let no = ne-eqb (callNumber t s c) 0 not-zero in
+streams : CallsRefused short
+unfolding scannedLists closedLists
+streams = record {
+  scanning = λ t s c bad.
+      let no : ¬ (callNumber t s c ≡ 0) = λ ok. bad (ap (λ (a : Scanned). a .number) (accepted-scan t s c ok)) in
+      let r = refused-scan t s c no in
       record {
         taken = ap (λ (a : Scanned). a .taken) r;
-        reports = ap (λ (a : Scanned). a .reports) r;
         used = ap (λ (a : Scanned). a .used) r;
+        count = ap (λ (a : Scanned). a .reports) r;
         state = ap (λ (a : Scanned). a .stream) r;
-        lists-kept = rw no;
-      }
+        lists-kept = rw (ne-eqb (callNumber t s c) 0 no);
+      };
+  closing = λ t s l bad.
+      let no : ¬ (closeNumber t s (space l) ≡ 0) = λ ok. bad (ap (λ (a : Closed). a .number) (accepted-close t s l ok)) in
+      let r = refused-close t s l no in
+      record { taken = refl; used = refl; count = ap (λ (a : Closed). a .reports) r; state = ap (λ (a : Closed). a .stream) r; lists-kept = rw (ne-eqb (closeNumber t s (space l)) 0 no) };
+}
 
-module _ (t : List ℕ) (s : Stream) (slots : Lists) (bad : ¬ (closed t s slots .number ≡ 0)) where
-  not-zero′ : ¬ (closeNumber t s (space slots) ≡ 0)
-  not-zero′ ok = bad (ap (λ (a : Closed). a .number) (accepted-close t s slots ok))
-
-  close-refused : CloseRefused t s slots
-  unfolding closedLists
-  close-refused =
-      let r = refused-close t s slots not-zero′ in
-      let no = ne-eqb (closeNumber t s (space slots)) 0 not-zero′ in
+traced-streams : CallsRefused traces
+unfolding traced.scannedLists traced.closedLists
+traced-streams = record {
+  scanning = λ t z c bad.
+      let no : ¬ (traced.callNumber t z c ≡ 0) = λ ok. bad (trace-number t z c ∙ ok) in
+      let r = trace-refused t z c no in
       record {
-        reports = ap (λ (a : Closed). a .reports) r;
-        state = ap (λ (a : Closed). a .stream) r;
-        lists-kept = rw no;
-      }
+        taken = ap (λ (a : Trace-scanned). a .taken) r;
+        used = ap (λ (a : Trace-scanned). a .used) r;
+        count = ap (λ (a : Trace-scanned). a .reports) r;
+        state = ap (λ (a : Trace-scanned). a .traced) r;
+        lists-kept = rw (ne-eqb (traced.callNumber t z c) 0 no);
+      };
+  closing = λ t z l bad.
+      let no : ¬ (traced.closeNumber t z (traced.space l) ≡ 0) = λ ok. bad (trace-close-number t z l ∙ ok) in
+      let r = trace-close-refused t z l no in
+      record {
+        taken = refl;
+        used = refl;
+        count = ap (λ (a : Trace-closed). a .reports) r;
+        state = ap (λ (a : Trace-closed). a .traced) r;
+        lists-kept = rw (ne-eqb (traced.closeNumber t z (traced.space l)) 0 no);
+      };
+}
 
 none-shown : (tail block : List ℕ) (offset start end : ℕ) → ¬ (matchedNumber tail block offset start end ≡ 0) → matchedBytes tail block offset start end ≡ []
 unfolding matchedBytes matchedNumber
@@ -106,8 +127,9 @@ refusals = record {
   adding = λ t a bad. kept t (adding this a) bad;
   added = accepted-place;
   opening = open-refused;
-  scanning = scan-refused;
-  closing = close-refused;
+  trace-opening = trace-open-refused;
+  streams = streams;
+  traced-streams = traced-streams;
   writing-block = λ t i b bad. write-kept t i b (λ e. bad (ap (λ (a : Stored). a .number) e));
   reading-block = λ t i b bad. kept t (reading-block this i b) bad;
   showing = none-shown;

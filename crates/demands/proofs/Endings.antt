@@ -3,27 +3,28 @@
 use mathlib.Core.Path.{_≡_, refl, sym, subst, subst₂, ap, _∙_}
 use mathlib.Core.Logic.{_⊎_, inl, inr, _↔_}
 use mathlib.Core.Bool.{Bool, true, false, true≢false, _&&_}
-use mathlib.Core.List.{List, _∷_, _++_}
-use Prim.Native.Nat.{ℕ, suc, _-_, _≤_, _<_}
+use mathlib.Core.List.{List, _∷_}
+use Prim.Native.Nat.{ℕ, suc, _-_, _^_, _≤_, _<_}
 use native.Mathlib.Omega.{arith}
 use native.Mathlib.Decide.{decLt}
 use lib.Dec.{eqb}
 use lib.ListN.{length, getD, take, drop, length-drop, drop-of-length-le}
-use lib.Seq.{drop-cons, length-take-le}
+use lib.Seq.{drop-cons}
 use borrow.Author.Tests.{eq-eqb, eqb-true}
 use Rattle.sets.specs.Set.{has}
 use Rattle.kinds.specs.declared.Side.the-variants.{Newline}
 use Rattle.kinds.specs.Side.{sideOf}
 use Rattle.regex.specs.Tree.{Text}
-use Rattle.regex.specs.Form.{Match, Reach}
+use Rattle.regex.specs.Form.{Reach}
 use Rattle.regex.specs.Gap.{last-line, Known, byte, edge, known-before, known-after}
-use Rattle.regex.specs.Rule.{Rule, ByteSet, Assertion, world, holds, stream}
+use Rattle.regex.specs.Rule.{Rule, Windows, no-windows, InWindows, ByteSet, Assertion, world, holds, stream}
 use Rattle.regex.specs.Ordered.{closing-moment, Falls}
 use Rattle.regex.proofs.Relations.{Last}
 use Rattle.regex.proofs.Local.{reach-up}
 use Rattle.regex.proofs.Stream.{Same}
-use Rattle.regex.proofs.Base.{more-bytes, base-over, base-end}
+use Rattle.regex.proofs.Base.{more-bytes}
 use Rattle.regex.proofs.Moments.{EndsAt, EndsLast, Moment, after, falls-line, falls-when}
+use Rattle.regex.proofs.Starts.{none-kept-out, ends-base, last-base}
 use Rattle.demands.proofs.Carried.{formOf}
 
 pub newline-side : (x : ℕ) → x ≡ 10 → sideOf x ≡ Newline
@@ -38,37 +39,34 @@ module _ (bytes : List ℕ) (r : Rule) where
   abbrev pub Ending : (Assertion → Bool) → Text ByteSet Assertion → (b k : ℕ) → Type 0
   Ending v t b k = (s : ℕ) × (p : ℕ) × Reach t (formOf r) b s p k × Last v (formOf r) b p
 
-  -- with byte k, where some bytes are known to follow
-  pub ends-from : (k : ℕ) → k ≤ n → (rest : List ℕ) (e : Bool) → Same has holds (take k bytes) rest false e → (b : ℕ)
-      → EndsAt bytes r k (known-after rest e) (e && last-line rest)
-      ↔ Ending (world (known-before (take k bytes)) (known-after rest e) (e && last-line rest)) (stream (take k bytes) false) b k
-  ends-from k le rest e stays b = (
-    λ h. let lt : h .0 < k = reach-up (stream (take k bytes) false) (formOf r) 0 (h .0) (h .1) k (h .2) in
-        let g = over b (h .0) lt .0 (over 0 (h .0) lt .1 (h .1, h .2, h .3)) in
-        (h .0, g .0, g .1, g .2),
-    λ h. let lt : h .0 < k = reach-up (stream (take k bytes) false) (formOf r) b (h .0) (h .1) k (h .2) in
-        let g = over 0 (h .0) lt .0 (over b (h .0) lt .1 (h .1, h .2, h .3)) in
-        (h .0, g .0, g .1, g .2),
-  )
-    where
-      over : (b s : ℕ) → s < k → Match (stream (take k bytes ++ rest) e) (formOf r) s k
-          ↔ ((p : ℕ) × Reach (stream (take k bytes) false) (formOf r) b s p k × Last (world (known-before (take k bytes)) (known-after rest e) (e && last-line rest)) (formOf r) b p)
-      over b s lt =
-          let len : length (take k bytes) ≡ k = length-take-le k bytes le in
-          subst (λ (i : ℕ). Match (stream (take k bytes ++ rest) e) (formOf r) s i
-          ↔ ((p : ℕ) × Reach (stream (take k bytes) false) (formOf r) b s p i × Last (world (known-before (take k bytes)) (known-after rest e) (e && last-line rest)) (formOf r) b p)) len
-          (base-over (formOf r) b (take k bytes) rest e stays s (omega (arith, len)))
+  -- of a rule without windows, with offsets of 64 bits
+  module _ (all : r .windows ≡ no-windows) (short : n < 2 ^ 64) where
+    inside : (s e : ℕ) → s < e → e ≤ n → InWindows (r .windows) s e
+    inside s e lt le = subst (λ (w : Windows). InWindows w s e) (sym all) (none-kept-out s e (omega arith) (omega arith))
 
-  -- with the stream
-  pub last-from : (b : ℕ) → EndsLast bytes r ↔ Ending (world (known-before bytes) edge true) (stream bytes true) b n
-  last-from b = (
-    λ h. let lt : h .0 < n = reach-up (stream bytes true) (formOf r) 0 (h .0) (h .1) n (h .2) in
-        let g = base-end (formOf r) b bytes (h .0) lt .0 (base-end (formOf r) 0 bytes (h .0) lt .1 (h .1, h .2, h .3)) in
-        (h .0, g .0, g .1, g .2),
-    λ h. let lt : h .0 < n = reach-up (stream bytes true) (formOf r) b (h .0) (h .1) n (h .2) in
-        let g = base-end (formOf r) 0 bytes (h .0) lt .0 (base-end (formOf r) b bytes (h .0) lt .1 (h .1, h .2, h .3)) in
-        (h .0, g .0, g .1, g .2),
-  )
+    -- with byte k, where some bytes are known to follow
+    pub ends-from : (k : ℕ) → k ≤ n → (rest : List ℕ) (e : Bool) → Same has holds (take k bytes) rest false e → (b : ℕ)
+        → EndsAt bytes r k (known-after rest e) (e && last-line rest)
+        ↔ Ending (world (known-before (take k bytes)) (known-after rest e) (e && last-line rest)) (stream (take k bytes) false) b k
+    ends-from k le rest e stays b = (
+      λ h. let g = ends-base bytes r k le rest e stays b (h .0) .0 (h .1) in (h .0, g .0, g .1, g .2),
+      λ h. (
+        h .0,
+        ends-base bytes r k le rest e stays b (h .0) .1 (h .1, h .2, h .3),
+        inside (h .0) k (reach-up (stream (take k bytes) false) (formOf r) b (h .0) (h .1) k (h .2)) le,
+      ),
+    )
+
+    -- with the stream
+    pub last-from : (b : ℕ) → EndsLast bytes r ↔ Ending (world (known-before bytes) edge true) (stream bytes true) b n
+    last-from b = (
+      λ h. let g = last-base bytes r b (h .0) .0 (h .1) in (h .0, g .0, g .1, g .2),
+      λ h. (
+        h .0,
+        last-base bytes r b (h .0) .1 (h .1, h .2, h .3),
+        inside (h .0) n (reach-up (stream bytes true) (formOf r) b (h .0) (h .1) n (h .2)) (omega arith),
+      ),
+    )
 
   -- ---- the pairs before a last newline
 
@@ -84,7 +82,7 @@ module _ (bytes : List ℕ) (r : Rule) where
       go (yes l) = absurd (true≢false (sym line ∙ more-bytes (drop e bytes) (omega (arith, length-drop e bytes))))
       go (no g) = omega arith
 
-  last-byte : (e : ℕ) → n ≡ suc e → last-line (drop e bytes) ≡ eqb (getD bytes e 0) 10
+  pub last-byte : (e : ℕ) → n ≡ suc e → last-line (drop e bytes) ≡ eqb (getD bytes e 0) 10
   last-byte e q =
       ap last-line (drop-cons bytes e 0 (omega arith) ∙ ap (λ (l : List ℕ). getD bytes e 0 ∷ l) (drop-of-length-le bytes {i = suc e} (omega arith)))
 

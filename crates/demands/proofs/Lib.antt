@@ -1,19 +1,23 @@
--- From words to meaning: Acceptance (which additions are accepted), Carried (what additions built), TwoRuns (what one moment reports), Endings
--- (where matches end), Tracked and Whole (a stream follows the meaning), Bytewise, Chained, Streams and States (lists of calls), Busy, Validity, Theorems; Ends,
+-- From words to meaning: Acceptance and Origins (which additions are accepted, and where a rule comes from), Carried (what additions built), TwoRuns (what one moment reports), Endings
+-- (where matches end), Tracked and Whole (a stream follows the meaning), Others and Lawful (lists of calls), Bytewise, Short and Streams (streams without starts), Busy, Theorems; Ends,
 -- Allowances, Demand1, Alone.
 -- From words to values, for the worked cases: Agreeing, Computing and Outcomes (calls followed by an automaton that computes), Logs, Cases, Example.
 pub mod Acceptance
+pub mod Origins
 pub mod Carried
 pub mod TwoRuns
 pub mod Endings
 pub mod Tracked
+pub mod Starting
+pub mod Alongside
 pub mod Whole
 pub mod Bytewise
-pub mod Chained
+pub mod Others
+pub mod Lawful
+pub mod Short
 pub mod Streams
-pub mod States
+pub mod Traced
 pub mod Busy
-pub mod Validity
 pub mod Theorems
 pub mod Ends
 pub mod Allowances

@@ -20,11 +20,12 @@ use Rattle.stream.specs.Valid.{valid}
 use Rattle.stream.specs.Calls.{Lists, Call, space, spaceNumber, scanNumber, closeNumber, callNumber, takenBy, scanned, scannedLists, shut, closed, closedLists, overLimit}
 use Rattle.stream.proofs.Machines.{fits-le}
 use Rattle.stream.proofs.Results.{accepted-scan, refused-scan, accepted-close, refused-close}
-use Rattle.regex.specs.Ordered.{Pair}
-use Rattle.demands.specs.Chain.{Item, scan, close, other, tableAfter, reportsIn, bytesOf, reportsOf, Outcome, by-scan, by-close, outcomesOf, OthersRefused, Closes, Bytes}
-use Rattle.demands.proofs.Bytewise.{pairOf, pairsTo, pairsAtEnd}
-use Rattle.demands.proofs.Chained.{kept, scan-reports, close-reports}
-use Rattle.demands.proofs.Validity.{scan-valid, close-valid}
+use Rattle.regex.specs.Ordered.{Report}
+use Rattle.demands.specs.Kinds.{reportsIn, short}
+use Rattle.demands.specs.Chain.{Item, scan, close, other, tableAfter, bytesOf, reportsOf, Outcome, by-scan, by-close, outcomesOf, OthersRefused, Closes, Bytes}
+use Rattle.demands.proofs.Bytewise.{startless, givenTo, givenAtEnd}
+use Rattle.demands.proofs.Others.{kept}
+use Rattle.demands.proofs.Short.{scan-reports, close-reports, scan-valid, close-valid}
 use Rattle.demands.proofs.Agreeing.{Agree, Inside, states-agree, all-agree, fits-agree, inside-after, closing-agrees}
 
 -- a call of the stream, of whose lent lists only the space counts
@@ -32,7 +33,7 @@ pub data Asked : Type 0 where
   scans : (allowance : ℕ) (block : List ℕ) (room : ℕ) → Asked
   closes : (room : ℕ) → Asked
 
-unfoldable pub callsIn : List Item → List Asked
+unfoldable pub callsIn : List (Item Lists Call) → List Asked
 callsIn [] = []
 callsIn (scan c ∷ l) = scans (c .allowance) (c .block) (space (c .slots)) ∷ callsIn l
 callsIn (close slots ∷ l) = closes (space slots) ∷ callsIn l
@@ -53,8 +54,8 @@ module _ (w : Automaton) where
   unfoldable pub gives : Stream → Asked → Outcome
   gives s (scans allowance block room) =
       let number : ℕ = scanLeft (w .rules) s (length block) room in
-      cond (eqb number 0) (by-scan 0 (bytesTaken s allowance block room) (pairsTo w s block (bytesTaken s allowance block room))) (by-scan number 0 [])
-  gives s (closes room) = let number : ℕ = closeLeft (w .rules) s room in cond (eqb number 0) (by-close 0 (pairsAtEnd w s)) (by-close number [])
+      cond (eqb number 0) (by-scan 0 (bytesTaken s allowance block room) (givenTo w s block (bytesTaken s allowance block room))) (by-scan number 0 [])
+  gives s (closes room) = let number : ℕ = closeLeft (w .rules) s room in cond (eqb number 0) (by-close 0 (givenAtEnd w s)) (by-close number [])
 
   unfoldable pub moves : Stream → Asked → Stream
   moves s (scans allowance block room) = cond (eqb (scanLeft (w .rules) s (length block) room) 0) (stateAfter w s block (bytesTaken s allowance block room)) s
@@ -94,13 +95,13 @@ module _ (t : List ℕ) (table : isTable t ≡ true) (s : Stream) (fit : valid (
         e = scan-left (length (c .block)) (space (c .slots))
 
         go : Dec (callNumber t s c ≡ 0)
-            → (given ≡ cond (eqb left 0) (by-scan 0 k (pairsTo (automaton t) s (c .block) k)) (by-scan left 0 []))
+            → (given ≡ cond (eqb left 0) (by-scan 0 k (givenTo (automaton t) s (c .block) k)) (by-scan left 0 []))
             × (scanned t s c .stream ≡ cond (eqb left 0) (stateAfter (automaton t) s (c .block) k) s)
         go (yes ok) =
             let r = accepted-scan t s c ok in
             let z : eqb left 0 ≡ true = eq-eqb left 0 (sym e ∙ ok) in (
-              ap₂ (λ (a : Scanned) (l : List Pair). by-scan (a .number) (a .taken) l) r (scan-reports t s c ok)
-                  ∙ sym (ap (λ (b : Bool). cond b (by-scan 0 k (pairsTo (automaton t) s (c .block) k)) (by-scan left 0 [])) z),
+              ap₂ (λ (a : Scanned) (l : List Report). by-scan (a .number) (a .taken) l) r (scan-reports t s c ok)
+                  ∙ sym (ap (λ (b : Bool). cond b (by-scan 0 k (givenTo (automaton t) s (c .block) k)) (by-scan left 0 [])) z),
               ap (λ (a : Scanned). a .stream) r ∙ sym (ap (λ (b : Bool). cond b (stateAfter (automaton t) s (c .block) k) s) z),
             )
         go (no bad) =
@@ -108,7 +109,7 @@ module _ (t : List ℕ) (table : isTable t ≡ true) (s : Stream) (fit : valid (
             let z : eqb left 0 ≡ false = ne-eqb left 0 (λ h. bad (e ∙ h)) in (
               ap (λ (a : Scanned). by-scan (a .number) (a .taken) (reportsIn (a .reports) (scannedLists t s c))) r
                   ∙ ap (λ (n : ℕ). by-scan n 0 []) e
-                  ∙ sym (ap (λ (b : Bool). cond b (by-scan 0 k (pairsTo (automaton t) s (c .block) k)) (by-scan left 0 [])) z),
+                  ∙ sym (ap (λ (b : Bool). cond b (by-scan 0 k (givenTo (automaton t) s (c .block) k)) (by-scan left 0 [])) z),
               ap (λ (a : Scanned). a .stream) r ∙ sym (ap (λ (b : Bool). cond b (stateAfter (automaton t) s (c .block) k) s) z),
             )
 
@@ -116,8 +117,8 @@ module _ (t : List ℕ) (table : isTable t ≡ true) (s : Stream) (fit : valid (
     abbrev left′ : ℕ
     left′ = closeLeft (automaton t .rules) s (space slots)
 
-    abbrev last : List Pair
-    last = pairsAtEnd (automaton t) s
+    abbrev last : List Report
+    last = givenAtEnd (automaton t) s
 
     abbrev given′ : Outcome
     given′ = by-close (closed t s slots .number) (reportsIn (closed t s slots .reports) (closedLists t s slots))
@@ -134,7 +135,7 @@ module _ (t : List ℕ) (table : isTable t ≡ true) (s : Stream) (fit : valid (
         go (yes ok) =
             let r = accepted-close t s slots ok in
             let z : eqb left′ 0 ≡ true = eq-eqb left′ 0 (sym e ∙ ok) in (
-              ap₂ (λ (a : Closed) (l : List Pair). by-close (a .number) l) r (close-reports t s slots ok)
+              ap₂ (λ (a : Closed) (l : List Report). by-close (a .number) l) r (close-reports t s slots ok)
                   ∙ sym (ap (λ (b : Bool). cond b (by-close 0 last) (by-close left′ [])) z),
               ap (λ (a : Closed). a .stream) r ∙ sym (ap (λ (b : Bool). cond b (shut s) s) z),
             )
@@ -147,7 +148,7 @@ module _ (t : List ℕ) (table : isTable t ≡ true) (s : Stream) (fit : valid (
             )
 
 module _ (t : List ℕ) (table : isTable t ≡ true) where
-  pub followed : (l : List Item) (s : Stream) → valid (automaton t) s ≡ true → OthersRefused t s l → outcomesOf t s l ≡ run (automaton t) s (callsIn l)
+  pub followed : (l : List (Item Lists Call)) (s : Stream) → valid (automaton t) s ≡ true → OthersRefused short t s l → outcomesOf short t s l ≡ run (automaton t) s (callsIn l)
   unfolding outcomesOf OthersRefused callsIn run
   followed [] s fit h = refl
   followed (scan c ∷ l) s fit h =
@@ -162,7 +163,7 @@ module _ (t : List ℕ) (table : isTable t ≡ true) where
       ∙ ap (λ (x : Stream). run (automaton t) x (callsIn l)) (g .1))
   followed (other o ∷ l) s fit h =
       let same : tableAfter t o ≡ t = kept t o (h .0) in
-      ap (λ (u : List ℕ). outcomesOf u s l) same ∙ followed l s fit (subst (λ (u : List ℕ). OthersRefused u s l) same (h .1))
+      ap (λ (u : List ℕ). outcomesOf short u s l) same ∙ followed l s fit (subst (λ (u : List ℕ). OthersRefused short u s l) same (h .1))
 
 -- ---- two automata that agree
 
@@ -181,9 +182,9 @@ module _ (w v : Automaton) (same : Agree w v) where
       let le : k ≤ n = fits-le (plain w) s block allowance room n in
       let taken : k ≡ fits v s allowance block room n = fits-agree w v same s inside block small allowance room n (omega arith) in
       let left : scanLeft (w .rules) s n room ≡ scanLeft (v .rules) s n room = ap (λ (r : ℕ). scanLeft r s n room) (same .rules) in
-      let pairs : pairsTo w s block k ≡ pairsTo v s block k = ap (map pairOf) (all-agree w v same s inside block small k le) in (
-        ap₂ (λ (m : ℕ) (l : List Pair). cond (eqb m 0) (by-scan 0 k l) (by-scan m 0 [])) left pairs
-            ∙ ap (λ (j : ℕ). cond (eqb (scanLeft (v .rules) s n room) 0) (by-scan 0 j (pairsTo v s block j)) (by-scan (scanLeft (v .rules) s n room) 0 [])) taken,
+      let same-reports : givenTo w s block k ≡ givenTo v s block k = ap (map startless) (all-agree w v same s inside block small k le) in (
+        ap₂ (λ (m : ℕ) (l : List Report). cond (eqb m 0) (by-scan 0 k l) (by-scan m 0 [])) left same-reports
+            ∙ ap (λ (j : ℕ). cond (eqb (scanLeft (v .rules) s n room) 0) (by-scan 0 j (givenTo v s block j)) (by-scan (scanLeft (v .rules) s n room) 0 [])) taken,
         ap₂ (λ (m : ℕ) (x : Stream). cond (eqb m 0) x s) left (states-agree w v same s inside block small k le ∙ ap (λ (j : ℕ). stateAfter v s block j) taken),
       )
 
@@ -191,8 +192,8 @@ module _ (w v : Automaton) (same : Agree w v) where
       → (gives w s (closes room) ≡ gives v s (closes room)) × (moves w s (closes room) ≡ moves v s (closes room))
   unfolding gives moves
   close-same s room inside = (
-    ap₂ (λ (m : ℕ) (l : List Pair). cond (eqb m 0) (by-close 0 l) (by-close m []))
-        (ap (λ (r : ℕ). closeLeft r s room) (same .rules)) (ap (map pairOf) (closing-agrees w v same s inside)),
+    ap₂ (λ (m : ℕ) (l : List Report). cond (eqb m 0) (by-close 0 l) (by-close m []))
+        (ap (λ (r : ℕ). closeLeft r s room) (same .rules)) (ap (map startless) (closing-agrees w v same s inside)),
     ap (λ (r : ℕ). cond (eqb (closeLeft r s room) 0) (shut s) s) (same .rules),
   )
 
@@ -223,19 +224,19 @@ module _ (w v : Automaton) (same : Agree w v) where
 
 -- ---- what the calls gave, joined
 
-unfoldable pub reportsIn-all : List Outcome → List Pair
+unfoldable pub reportsIn-all : List Outcome → List Report
 reportsIn-all [] = []
 reportsIn-all (by-scan number taken l ∷ r) = l ++ reportsIn-all r
 reportsIn-all (by-close number l ∷ r) = l ++ reportsIn-all r
 
-pub reports-joined : (t : List ℕ) (s : Stream) (l : List Item) → reportsOf t s l ≡ reportsIn-all (outcomesOf t s l)
+pub reports-joined : (t : List ℕ) (s : Stream) (l : List (Item Lists Call)) → reportsOf short t s l ≡ reportsIn-all (outcomesOf short t s l)
 unfolding reportsOf outcomesOf reportsIn-all
 reports-joined t s [] = refl
 reports-joined t s (scan c ∷ l) =
-    ap (λ (r : List Pair). reportsIn (scanned t s c .reports) (scannedLists t s c) ++ r)
+    ap (λ (r : List Report). reportsIn (scanned t s c .reports) (scannedLists t s c) ++ r)
     (reports-joined t (scanned t s c .stream) l)
 reports-joined t s (close slots ∷ l) =
-    ap (λ (r : List Pair). reportsIn (closed t s slots .reports) (closedLists t s slots) ++ r)
+    ap (λ (r : List Report). reportsIn (closed t s slots .reports) (closedLists t s slots) ++ r)
     (reports-joined t (closed t s slots .stream) l)
 reports-joined t s (other o ∷ l) = reports-joined (tableAfter t o) s l
 
@@ -248,7 +249,7 @@ bytesIn-all (closes room ∷ l) (by-close number p ∷ r) = bytesIn-all l r
 bytesIn-all (closes room ∷ l) (by-scan number taken p ∷ r) = []
 bytesIn-all (closes room ∷ l) [] = []
 
-pub bytes-joined : (t : List ℕ) (s : Stream) (l : List Item) → bytesOf t s l ≡ bytesIn-all (callsIn l) (outcomesOf t s l)
+pub bytes-joined : (t : List ℕ) (s : Stream) (l : List (Item Lists Call)) → bytesOf short t s l ≡ bytesIn-all (callsIn l) (outcomesOf short t s l)
 unfolding bytesOf outcomesOf callsIn bytesIn-all
 bytes-joined t s [] = refl
 bytes-joined t s (scan c ∷ l) =
@@ -263,20 +264,20 @@ Shuts (by-scan number taken l ∷ r) = Shuts r
 Shuts (by-close zero l ∷ r) = Unit {0}
 Shuts (by-close (suc n) l ∷ r) = Shuts r
 
-pub closes-seen : (t : List ℕ) (s : Stream) (l : List Item) → Shuts (outcomesOf t s l) → Closes t s l
+pub closes-seen : (t : List ℕ) (s : Stream) (l : List (Item Lists Call)) → Shuts (outcomesOf short t s l) → Closes short t s l
 unfolding outcomesOf Shuts Closes
 closes-seen t s [] h = h
 closes-seen t s (scan c ∷ l) h = closes-seen t (scanned t s c .stream) l h
 closes-seen t s (close slots ∷ l) h = go (closed t s slots .number) refl h (λ m. closes-seen t (closed t s slots .stream) l m)
   where
     rest : List Outcome
-    rest = outcomesOf t (closed t s slots .stream) l
+    rest = outcomesOf short t (closed t s slots .stream) l
 
-    reports : List Pair
+    reports : List Report
     reports = reportsIn (closed t s slots .reports) (closedLists t s slots)
 
-    go : (n : ℕ) → closed t s slots .number ≡ n → Shuts (by-close n reports ∷ rest) → (Shuts rest → Closes t (closed t s slots .stream) l)
-        → Closes t s (close slots ∷ l)
+    go : (n : ℕ) → closed t s slots .number ≡ n → Shuts (by-close n reports ∷ rest) → (Shuts rest → Closes short t (closed t s slots .stream) l)
+        → Closes short t s (close slots ∷ l)
     go zero e h later = inl e
     go (suc n) e h later = inr (later h)
 closes-seen t s (other o ∷ l) h = closes-seen (tableAfter t o) s l h

@@ -1,48 +1,86 @@
--- Demand 3 of one stream on one table whose automaton is that of some rules: the list of calls is the joined bytes in one go (Chained), and those report
--- the one ordered list (Whole). Assumes nothing.
+-- Demand 3 of one stream on one table whose automaton is that of some rules: the list of calls is the joined bytes in one go (Lawful), and those report the one
+-- ordered list (Whole). First of any kind, then of streams without starts. Assumes nothing.
 use mathlib.Core.Path.{_≡_, refl, sym, ap₂, _∙_}
 use mathlib.Core.Logic.{_↔_}
 use mathlib.Core.Bool.{false}
-use mathlib.Core.List.{List, _++_, map, List·Memᴰ}
-use Prim.Native.Nat.{ℕ, _<_}
+use mathlib.Core.List.{List, _++_, map, map-append, List·Memᴰ}
+use Prim.Native.Nat.{ℕ, suc, _-_, _^_, _<_}
 use native.Mathlib.Omega.{arith}
-use lib.ListN.{length}
+use lib.ListN.{length, getD}
 use Rattle.table.specs.Automaton.{Automaton, automaton}
 use Rattle.stream.specs.declared.Stream.{Stream}
-use Rattle.stream.specs.Byte.{stateAfter}
-use Rattle.stream.specs.Calls.{fresh}
+use Rattle.stream.specs.Byte.{Machine, after, plain, stateAfter, closeReports}
+use Rattle.stream.specs.Calls.{Lists, Call, fresh, shut}
 use Rattle.regex.specs.Rule.{Rule, ByteSet}
-use Rattle.regex.specs.Ordered.{pair, Pair, Ordered}
-use Rattle.demands.proofs.Carried.{Carries}
+use Rattle.regex.specs.Ordered.{closing-moment, IsList, Report, report, Ordered}
+use Rattle.regex.proofs.Starts.{start-without}
+use Rattle.demands.specs.Kinds.{Kind, short}
 use Rattle.demands.specs.Chain.{Item, bytesOf, reportsOf, OthersRefused, Closes, Blocks}
-use Rattle.demands.proofs.Tracked.{opens}
-use Rattle.demands.proofs.Whole.{entriesOf, closingOf, wholeOf, whole}
+use Rattle.demands.proofs.Carried.{Carries}
+use Rattle.demands.proofs.TwoRuns.{Told, Turn}
+use Rattle.demands.proofs.Tracked.{Tracked, opens, tracked, byte-tested, closing-tested}
+use Rattle.demands.proofs.Whole.{byteEntries, entriesOf, closingOf, wholeOf, whole}
 use Rattle.stream.proofs.Blocks.{taken-after}
-use Rattle.demands.proofs.Bytewise.{pairsAtEnd, pairsOf, entries-pairs, closing-pairs, map-append}
-use Rattle.demands.proofs.Chained.{chained, joined-bytes}
+use Rattle.demands.proofs.Bytewise.{startless, plainAt, plainEnd, entries-given, byte-given, closing-given}
+use Rattle.demands.proofs.Lawful.{Lawful, chained, joined-bytes}
+use Rattle.demands.proofs.Short.{lawful}
+
+-- what a machine goes by at each moment is right, so what the calls report is the ordered list
+pub ordered-by : {S L C R : Type 0} (k : Kind S L C) (t : List ℕ) (m : Machine S R) (out : R → Report) (final : S → List R) (ended : S → S) → Lawful k t m out final ended
+    → (rules : List Rule) (s : S) → k .stream s .closed ≡ false → (l : List (Item L C)) → OthersRefused k t s l → Closes k t s l → (at : ℕ → Told) (last : Told)
+    → IsList rules (bytesOf k t s l) (wholeOf (automaton t) at (length (bytesOf k t s l)) last)
+    → ((i : ℕ) → map report (byteEntries (automaton t) at i) ≡ map out (m .reports (after m s (bytesOf k t s l) i) (getD (bytesOf k t s l) i 0)))
+    → map report (closingOf (automaton t) at (length (bytesOf k t s l)) last) ≡ map out (final (after m s (bytesOf k t s l) (length (bytesOf k t s l))))
+    → Ordered rules (bytesOf k t s l) (reportsOf k t s l)
+unfolding wholeOf
+ordered-by k t m out final ended law rules s running l h c at last list each closing =
+    let bytes : List ℕ = bytesOf k t s l in
+    record {
+      list = wholeOf (automaton t) at (length bytes) last;
+      is-list = list;
+      given = map-append report (entriesOf (automaton t) at (length bytes)) (closingOf (automaton t) at (length bytes) last)
+          ∙ ap₂ (λ (x y : List Report). x ++ y) (entries-given (automaton t) out m s bytes at each (length bytes)) closing
+          ∙ sym (chained k t m out final ended law l s running h c);
+    }
 
 module _ (t : List ℕ) (rule : ℕ → Rule) (from : ℕ → ℕ) (tab : ℕ → ByteSet) (enc : Carries (automaton t) rule from tab) (rules : List Rule)
-    (listed : (r : Rule) → List·Memᴰ r rules ↔ ((a : ℕ) × (a < automaton t .rules) × (r ≡ rule a))) (n p : ℕ) where
+    (listed : (r : Rule) → List·Memᴰ r rules ↔ ((a : ℕ) × (a < automaton t .rules) × (r ≡ rule a))) (n p : ℕ)
+    (without : (a : ℕ) → a < automaton t .rules → rule a .starts ≡ false) where
   abbrev w : Automaton
   w = automaton t
 
   abbrev s : Stream
   s = fresh n p false
 
-  -- the pairs of the whole, with and without moments
-  whole-pairs : (bytes : List ℕ) → map pair (wholeOf w s bytes) ≡ pairsOf w s bytes ++ pairsAtEnd (automaton t) (stateAfter w s bytes (length bytes))
-  unfolding wholeOf
-  whole-pairs bytes =
-      let last : Stream = stateAfter w s bytes (length bytes) in
-      let offset : length bytes ≡ last .taken = omega (arith, taken-after w s bytes (length bytes)) in
-      map-append (entriesOf w s bytes (length bytes)) (closingOf w s bytes last)
-      ∙ ap₂ (λ (x y : List Pair). x ++ y) (entries-pairs w s bytes refl (length bytes)) (closing-pairs w s bytes last offset)
+  abbrev last : List ℕ → Stream
+  last bytes = stateAfter w s bytes (length bytes)
 
-  pub ordered : (l : List Item) → OthersRefused t s l → Closes t s l → Blocks l → Ordered rules (bytesOf t s l) (reportsOf t s l)
-  ordered l h c b =
-      let bytes : List ℕ = bytesOf t s l in
-      record {
-        list = wholeOf w s bytes;
-        is-list = whole w rule from tab enc rules listed bytes (joined-bytes t l s h b) s (opens w rule from tab enc bytes s refl refl refl refl refl);
-        pairs = whole-pairs bytes ∙ sym (chained t l s refl h c);
-      }
+  -- at every moment the tests and the marks say what they must, and 0 is the start
+  module _ (bytes : List ℕ) (few : length bytes < 2 ^ 64) (small : (i : ℕ) → i < length bytes → getD bytes i 0 < 256) where
+    at : (k : ℕ) → k < suc (length bytes) → Tracked w rule from tab enc bytes few k (stateAfter w s bytes k)
+    at k le = tracked w rule from tab enc bytes few small s (opens w rule from tab enc bytes few s refl refl refl refl refl) k (omega arith)
+
+    turn : (k : ℕ) → k < length bytes → Turn w rule from tab enc bytes (suc k) k (suc k) (plainAt w s bytes k)
+    unfolding plainAt
+    turn k lk = record {
+      tested = byte-tested w rule from tab enc bytes few k lk (small k lk) (stateAfter w s bytes k) (at k (omega arith));
+      first-is = λ a lt some f. start-without bytes (rule a) (suc k) k (without a lt) 0 .1 refl;
+      second-is = λ a lt f. start-without bytes (rule a) (suc k) (suc k) (without a lt) 0 .1 refl;
+    }
+
+    close : Turn w rule from tab enc bytes (closing-moment bytes) (length bytes - 1) (length bytes) (plainEnd w (last bytes))
+    unfolding plainEnd
+    close = record {
+      tested = closing-tested w rule from tab enc bytes few (last bytes) (at (length bytes) (omega arith));
+      first-is = λ a lt some f. start-without bytes (rule a) (closing-moment bytes) (length bytes - 1) (without a lt) 0 .1 refl;
+      second-is = λ a lt f. start-without bytes (rule a) (closing-moment bytes) (length bytes) (without a lt) 0 .1 refl;
+    }
+
+  pub ordered : (l : List (Item Lists Call)) → OthersRefused short t s l → Closes short t s l → Blocks short l → length (bytesOf short t s l) < 2 ^ 64
+      → Ordered rules (bytesOf short t s l) (reportsOf short t s l)
+  ordered l h c b few =
+      let bytes : List ℕ = bytesOf short t s l in
+      let small = joined-bytes short t l s h b in
+      ordered-by short t (plain w) startless (closeReports w) shut (lawful t) rules s refl l h c (plainAt w s bytes) (plainEnd w (last bytes))
+      (whole w rule from tab enc rules listed bytes (plainAt w s bytes) (turn bytes few small) (plainEnd w (last bytes)) (close bytes few small))
+      (byte-given w s bytes refl) (closing-given w (plainAt w s bytes) (length bytes) (last bytes) (omega (arith, taken-after w s bytes (length bytes))))

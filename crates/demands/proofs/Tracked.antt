@@ -6,7 +6,7 @@ use mathlib.Core.Path.{_≡_, refl, sym, subst, subst₂, ap, ap₂, _∙_, fun-
 use mathlib.Core.Logic.{_⊎_, inl, inr, _↔_}
 use mathlib.Core.Bool.{Bool, true, false, cond, not, _&&_, _||_}
 use mathlib.Core.List.{List, [], _∷_, _++_}
-use Prim.Native.Nat.{ℕ, zero, suc, _-_, _≤_, _<_}
+use Prim.Native.Nat.{ℕ, zero, suc, _-_, _^_, _≤_, _<_}
 use native.Mathlib.Nat.{lt-trans}
 use native.Mathlib.Omega.{arith}
 use native.Mathlib.Decide.{decLt}
@@ -43,7 +43,7 @@ use Rattle.regex.proofs.Moments.{EndsAt, EndsLast, falls-own, falls-late, falls
 use Rattle.rules.proofs.Encodes.{worldAt}
 use Rattle.rules.proofs.Worlds.{world-between, world-before-last, world-unsettled, world-at-end, world-at-start, world-start-of-last}
 use Rattle.demands.proofs.Carried.{Carries, Within, formOf, by-set}
-use Rattle.demands.proofs.TwoRuns.{Marked, Turn, marks-next}
+use Rattle.demands.proofs.TwoRuns.{Marked, Tested, marks-next}
 use Rattle.demands.proofs.Endings.{newline-side, Ending, ends-from, last-from, Late, late-falls, only-byte, only-closing, none-at-zero}
 
 any-T : (n : ℕ) (f : ℕ → Bool) → T (any n f) ↔ ((k : ℕ) × (k < n) × T (f k))
@@ -72,7 +72,7 @@ before-next [] x = refl
 before-next (y ∷ []) x = refl
 before-next (y ∷ z ∷ l) x = before-next (z ∷ l) x
 
-module _ (w : Automaton) (rule : ℕ → Rule) (from : ℕ → ℕ) (tab : ℕ → ByteSet) (enc : Carries w rule from tab) (bytes : List ℕ) where
+module _ (w : Automaton) (rule : ℕ → Rule) (from : ℕ → ℕ) (tab : ℕ → ByteSet) (enc : Carries w rule from tab) (bytes : List ℕ) (short : length bytes < 2 ^ 64) where
   -- what the state after the first k bytes says of positions ..
   pub record Alive (k : ℕ) (s : Stream) : Type 0 where
     pub taken : s .taken ≡ k
@@ -86,6 +86,9 @@ module _ (w : Automaton) (rule : ℕ → Rule) (from : ℕ → ℕ) (tab : ℕ �
     pub inside : (q : ℕ) → q < maxPositions → T (has (unionOf (s .live) (s .held)) q) → q < w .positions
     pub held : (a : ℕ) → a < w .rules → (q : ℕ) → Within (from a) (rule a) q
         → T (has (unionOf (s .live) (s .held)) q) ↔ Reached (stream (take k bytes) true) (formOf (rule a)) (from a) q k
+    pub held-inside : (q : ℕ) → q < maxPositions → T (has (s .held) q) → q < w .positions
+    pub held-alone : (a : ℕ) → a < w .rules → (q : ℕ) → Within (from a) (rule a) q
+        → T (has (s .held) q) ↔ ((e : ℕ) × (k ≡ suc e) × (getD bytes e 0 ≡ 10) × Reached (stream (take k bytes) true) (formOf (rule a)) (from a) q k)
     pub pending : (a : ℕ) → a < w .rules → T (on (s .pending) a) ↔ Late bytes (rule a) k
 
   -- .. and of marks: those of the next moment
@@ -100,33 +103,35 @@ module _ (w : Automaton) (rule : ℕ → Rule) (from : ℕ → ℕ) (tab : ℕ �
   module _ (a : ℕ) (lt : a < w .rules) (set : List ℕ) (t : Text ByteSet Assertion) (k : ℕ) (inside : (q : ℕ) → q < maxPositions → T (has set q) → q < w .positions)
       (reached : (q : ℕ) → Within (from a) (rule a) q → T (has set q) ↔ Reached t (formOf (rule a)) (from a) q k)
       (g : ℕ) (there : g < lastGaps) (v : Assertion → Bool) (at-g : 0 < k → worldAt g ≡ v) where
-    raw : T (ends w g set a) ↔ Ending bytes (rule a) (worldAt g) t (from a) k
-    unfolding ends
-    raw = (
+    -- at one position; a way has taken a byte, so there is one before the gap
+    pub last-at : (p : ℕ) → p < maxPositions → T (has set p && lastIn w g a p) ↔ (Reached t (formOf (rule a)) (from a) p k × Last v (formOf (rule a)) (from a) p)
+    last-at p lp = (
       λ h.
-          let c = any-T maxPositions (λ p. has set p && lastIn w g a p) .0 h in
-          let d = and-T (has set (c .0)) (lastIn w g a (c .0)) .0 (c .2) in
-          let e = enc .last-is g a (c .0) there lt (inside (c .0) (c .1) (d .0)) .0 (d .1) in
-          let l = reached (c .0) (last-inside (worldAt g) (formOf (rule a)) (from a) (c .0) e) .0 (d .0) in
-          (l .0, c .0, l .1, e),
+          let d = and-T (has set p) (lastIn w g a p) .0 h in
+          let e = enc .last-is g a p there lt (inside p lp (d .0)) .0 (d .1) in
+          let l = reached p (last-inside (worldAt g) (formOf (rule a)) (from a) p e) .0 (d .0) in
+          (l, subst (λ (u : Assertion → Bool). Last u (formOf (rule a)) (from a) p) (at-g (some (l .0) (l .1))) e),
       λ h.
-          let i = last-inside (worldAt g) (formOf (rule a)) (from a) (h .1) (h .3) in
-          any-T maxPositions (λ p. has set p && lastIn w g a p) .1 (
-            h .1,
-            omega (arith, i .1, enc .inside a lt, enc .few-positions),
-            and-T (has set (h .1)) (lastIn w g a (h .1)) .1 (reached (h .1) i .1 (h .0, h .2), enc .last-is g a (h .1) there lt (omega (arith, i .1, enc .inside a lt)) .1 (h .3)),
-          ),
-    )
-
-    -- a way has taken a byte, so there is one before the gap
-    by-last : T (ends w g set a) ↔ Ending bytes (rule a) v t (from a) k
-    by-last = both raw (
-      λ h. (h .0, h .1, h .2, subst (λ (u : Assertion → Bool). Last u (formOf (rule a)) (from a) (h .1)) (at-g (some (h .0) (h .1) (h .2))) (h .3)),
-      λ h. (h .0, h .1, h .2, subst (λ (u : Assertion → Bool). Last u (formOf (rule a)) (from a) (h .1)) (sym (at-g (some (h .0) (h .1) (h .2)))) (h .3)),
+          let e : Last (worldAt g) (formOf (rule a)) (from a) p = subst (λ (u : Assertion → Bool). Last u (formOf (rule a)) (from a) p) (sym (at-g (some (h .0 .0) (h .0 .1)))) (h .1) in
+          let i = last-inside (worldAt g) (formOf (rule a)) (from a) p e in
+          and-T (has set p) (lastIn w g a p) .1 (reached p i .1 (h .0), enc .last-is g a p there lt (omega (arith, i .1, enc .inside a lt)) .1 e),
     )
       where
-        some : (s p : ℕ) → Reach t (formOf (rule a)) (from a) s p k → 0 < k
-        some s p r = omega (arith, reach-up t (formOf (rule a)) (from a) s p k r)
+        some : (s : ℕ) → Reach t (formOf (rule a)) (from a) s p k → 0 < k
+        some s r = omega (arith, reach-up t (formOf (rule a)) (from a) s p k r)
+
+    by-last : T (ends w g set a) ↔ Ending bytes (rule a) v t (from a) k
+    unfolding ends
+    by-last = (
+      λ h.
+          let c = any-T maxPositions (λ p. has set p && lastIn w g a p) .0 h in
+          let d = last-at (c .0) (c .1) .0 (c .2) in
+          (d .0 .0, c .0, d .0 .1, d .1),
+      λ h.
+          let i = last-inside v (formOf (rule a)) (from a) (h .1) (h .3) in
+          let lp : h .1 < maxPositions = omega (arith, i .1, enc .inside a lt, enc .few-positions) in
+          any-T maxPositions (λ p. has set p && lastIn w g a p) .1 (h .1, lp, last-at (h .1) lp .1 ((h .0, h .2), h .3)),
+    )
 
   module _ (k : ℕ) (le : k ≤ length bytes) (s : Stream) (track : Alive k s) (a : ℕ) (lt : a < w .rules) where
     live-ends : (g : ℕ) → g < lastGaps → (rest : List ℕ) (e : Bool) → Same has holds (take k bytes) rest false e
@@ -136,7 +141,7 @@ module _ (w : Automaton) (rule : ℕ → Rule) (from : ℕ → ℕ) (tab : ℕ �
         both (by-last a lt (s .live) (stream (take k bytes) false) k (track .inside) (track .live a lt) g there
         (world (known-before (take k bytes)) (known-after rest e) (e && last-line rest))
         (λ some. fun-ext at-g ∙ ap (λ (u : Known). world u (known-after rest e) (e && last-line rest)) (sym (track .last some))))
-        (back (ends-from bytes (rule a) k le rest e stays (from a)))
+        (back (ends-from bytes (rule a) (enc .windows-are a lt) short k le rest e stays (from a)))
 
     -- whatever follows, where byte x follows, and where the last line ends
     pub ends-is : T (ends w unsettled (s .live) a) ↔ EndsAt bytes (rule a) k unknown false
@@ -160,7 +165,7 @@ module _ (w : Automaton) (rule : ℕ → Rule) (from : ℕ → ℕ) (tab : ℕ �
       both (by-last a lt (unionOf (s .live) (s .held)) (stream bytes true) n (waits .inside)
       (λ q i. subst (λ (l : List ℕ). T (has (unionOf (s .live) (s .held)) q) ↔ Reached (stream l true) (formOf (rule a)) (from a) q n) whole (waits .held a lt q i))
       (atEnd (s .last)) (atEnd-last (s .last)) (world (known-before bytes) edge true)
-      (λ some. fun-ext (world-at-end (s .last)) ∙ ap (λ (u : Known). world u edge true) (sym (track .last some) ∙ ap known-before whole))) (back (last-from bytes (rule a) (from a)))
+      (λ some. fun-ext (world-at-end (s .last)) ∙ ap (λ (u : Known). world u edge true) (sym (track .last some) ∙ ap known-before whole))) (back (last-from bytes (rule a) (enc .windows-are a lt) short (from a)))
 
   -- ---- one byte more
 
@@ -214,6 +219,27 @@ module _ (w : Automaton) (rule : ℕ → Rule) (from : ℕ → ℕ) (tab : ℕ �
     member : (line : Bool) (q : ℕ) → q < maxPositions → has (reachedIn line) q ≡ steps line q
     unfolding stepped
     member line q lq = has-setOf (steps line) q lq
+
+    -- the positions that q comes from: reached before, and followed by q at the gap
+    pub comes-is : (ended : Bool) (a : ℕ) → a < w .rules → (q : ℕ) → Within (from a) (rule a) q → (p : ℕ)
+        → T (has (s .live) p && w .follow (gapOf (ended && eqb x 10) (s .last) (sideOf x)) p q)
+        ↔ (Reached (stream (take k bytes) false) (formOf (rule a)) (from a) p k
+        × Follow (world (known-before (take k bytes)) (byte (sideOf x)) (ended && eqb x 10)) (formOf (rule a)) (from a) p q)
+    comes-is ended a lt q i p =
+        let f : Form ByteSet Assertion = formOf (rule a) in
+        let line : Bool = ended && eqb x 10 in
+        let newline : T line → x ≡ 10 = λ h. eqb-true x 10 (true-T (eqb x 10) (and-T ended (eqb x 10) .0 h .1)) in
+        let follows = enc .follow-is (inner line) a p q (gapOf-follow line (s .last) (sideOf x)) lt i in
+        let some : Reached (stream (take k bytes) false) f (from a) p k → 0 < k = λ h. omega (arith, reach-up (stream (take k bytes) false) f (from a) (h .0) p k (h .1)) in (
+          λ h.
+              let d = and-T (has (s .live) p) (w .follow (inner line) p q) .0 h in
+              let fo = follows .0 (d .1) in
+              let r = track .live a lt p (follow-inside (worldAt (inner line)) f (from a) p q fo) .0 (d .0) in
+              (r, subst (λ (v : Assertion → Bool). Follow v f (from a) p q) (inner-is line newline (some r)) fo),
+          λ h.
+              let fo : Follow (worldAt (inner line)) f (from a) p q = subst (λ (v : Assertion → Bool). Follow v f (from a) p q) (sym (inner-is line newline (some (h .0)))) (h .1) in
+              and-T (has (s .live) p) (w .follow (inner line) p q) .1 (track .live a lt p (follow-inside (worldAt (inner line)) f (from a) p q fo) .1 (h .0), follows .1 fo),
+        )
 
     -- a byte steps to a position exactly if a way reaches it, were the stream to end there or not
     steps-to : (ended : Bool) (a : ℕ) → a < w .rules → (q : ℕ) → Within (from a) (rule a) q
@@ -345,7 +371,7 @@ module _ (w : Automaton) (rule : ℕ → Rule) (from : ℕ → ℕ) (tab : ℕ �
           let e : h .0 ≡ k = omega (arith, h .1) in
           let newline : x ≡ 10 = ap (λ (n : ℕ). getD bytes n 0) (sym e) ∙ h .2 in
           let ends-k : EndsAt bytes (rule a) k (byte Newline) true = subst (λ (n : ℕ). EndsAt bytes (rule a) n (byte Newline) true) e (h .3) in
-          let some : 0 < s .taken = omega (arith, track .taken, reach-up (stream (take k bytes) false) (formOf (rule a)) 0 (ends-k .0) (ends-k .1) k (ends-k .2)) in
+          let some : 0 < s .taken = omega (arith, track .taken, reach-up (stream (take k bytes) false) (formOf (rule a)) 0 (ends-k .0) (ends-k .1 .0) k (ends-k .1 .1)) in
           on-if (eqb x 10 && ltb 0 (s .taken)) .1 (
             and-T (eqb x 10) (ltb 0 (s .taken)) .1 (subst T (sym (eq-eqb x 10 newline)) tt, lt→ltb 0 (s .taken) some),
             subst T (sym digit) (tests .1 (ends-k, λ y. h .4 (subst (λ (n : ℕ). EndsAt bytes (rule a) n (byte Newline) false) (sym e) y))),
@@ -374,14 +400,28 @@ module _ (w : Automaton) (rule : ℕ → Rule) (from : ℕ → ℕ) (tab : ℕ �
 
     goes-waiting : Waits (suc k) (byteState w s x)
     unfolding byteState
-    goes-waiting = record { inside = union-inside; held = union-is; pending = pending-is }
+    goes-waiting = record { inside = union-inside; held = union-is; held-inside = λ q lq h. step-inside true q lq (held-is q lq .0 h .1); held-alone = alone; pending = pending-is }
+      where
+        alone : (a : ℕ) → a < w .rules → (q : ℕ) → Within (from a) (rule a) q
+            → T (has (nextHeld w s x) q) ↔ ((e : ℕ) × (suc k ≡ suc e) × (getD bytes e 0 ≡ 10) × Reached (stream (take (suc k) bytes) true) (formOf (rule a)) (from a) q (suc k))
+        alone a lt q i =
+            let lq : q < maxPositions = omega (arith, i .1, enc .inside a lt, enc .few-positions) in (
+              λ h.
+                  let g = held-is q lq .0 h in
+                  let newline : eqb x 10 ≡ true = true-T (eqb x 10) (g .0) in
+                  (k, refl, eqb-true x 10 newline, steps-to true a lt q i .0 (subst (λ (b : Bool). T (has (reachedIn b) q)) (sym newline) (g .1))),
+              λ h.
+                  let at : h .0 ≡ k = omega (arith, h .1) in
+                  let newline : eqb x 10 ≡ true = eq-eqb x 10 (ap (λ (n : ℕ). getD bytes n 0) (sym at) ∙ h .2) in
+                  held-is q lq .1 (subst T (sym newline) tt, subst (λ (b : Bool). T (has (reachedIn b) q)) newline (steps-to true a lt q i .1 (h .3))),
+            )
 
   -- ---- the tests say which pairs fall
 
-  pub byte-turn : (k : ℕ) → k < length bytes → getD bytes k 0 < 256 → (s : Stream) → Tracked k s
-      → Turn w rule from tab enc bytes (suc k) k (suc k) (lateTest w s (getD bytes k 0)) (ownTest w s (getD bytes k 0)) (s .reported)
+  pub byte-tested : (k : ℕ) → k < length bytes → getD bytes k 0 < 256 → (s : Stream) → Tracked k s
+      → Tested w rule from tab enc bytes (suc k) k (suc k) (lateTest w s (getD bytes k 0)) (ownTest w s (getD bytes k 0)) (s .reported)
   unfolding endsNewly byteState
-  byte-turn k lk small s track =
+  byte-tested k lk small s track =
       let x : ℕ = getD bytes k 0 in
       record {
         only = λ a c lt f. only-byte bytes (rule a) k c lk f;
@@ -395,10 +435,10 @@ module _ (w : Automaton) (rule : ℕ → Rule) (from : ℕ → ℕ) (tab : ℕ �
         marks-are = track .marks;
       }
 
-  pub closing-turn : (s : Stream) → Tracked (length bytes) s
-      → Turn w rule from tab enc bytes (closing-moment bytes) (length bytes - 1) (length bytes) (heldTest w s) (endTest w s) (s .reported)
+  pub closing-tested : (s : Stream) → Tracked (length bytes) s
+      → Tested w rule from tab enc bytes (closing-moment bytes) (length bytes - 1) (length bytes) (heldTest w s) (endTest w s) (s .reported)
   unfolding endsNewly
-  closing-turn s track =
+  closing-tested s track =
       let n : ℕ = length bytes in
       record {
         only = λ a c lt f. only-closing bytes (rule a) c f;
@@ -419,7 +459,7 @@ module _ (w : Automaton) (rule : ℕ → Rule) (from : ℕ → ℕ) (tab : ℕ �
       record {
         alive = goes-on k lk small s (track .alive);
         waits = goes-waiting k lk small s (track .alive);
-        marks = marks-next w rule from tab enc bytes (suc k) k (suc k) (lateTest w s x) (ownTest w s x) (s .reported) (byte-turn k lk small s track);
+        marks = marks-next w rule from tab enc bytes (suc k) k (suc k) (lateTest w s x) (ownTest w s x) (s .reported) (byte-tested k lk small s track);
       }
 
   -- an opened stream
@@ -434,6 +474,8 @@ module _ (w : Automaton) (rule : ℕ → Rule) (from : ℕ → ℕ) (tab : ℕ �
     waits = record {
       inside = λ q lq h. absurd (neither q lq h);
       held = λ a lt q i. (λ h. absurd (neither q (few a lt q i) h), λ h. absurd (omega (arith, reach-up (stream (take 0 bytes) true) (formOf (rule a)) (from a) (h .0) q 0 (h .1))));
+      held-inside = λ q lq h. absurd (none-held q lq h);
+      held-alone = λ a lt q i. (λ h. absurd (none-held q (few a lt q i) h), λ h. absurd (omega (arith, h .1)));
       pending = λ a lt. (λ h. absurd (subst T (ap (λ (m : ℕ). on m a) pending ∙ on-zero a) h), λ h. absurd (omega (arith, h .1)));
     };
     marks = λ a lt. (
@@ -444,6 +486,9 @@ module _ (w : Automaton) (rule : ℕ → Rule) (from : ℕ → ℕ) (tab : ℕ �
     where
       none : (q : ℕ) → q < maxPositions → T (has (s .live) q) → ⊥
       none q lq h = subst T (ap (λ (l : List ℕ). has l q) live ∙ has-empty q lq) h
+
+      none-held : (q : ℕ) → q < maxPositions → T (has (s .held) q) → ⊥
+      none-held q lq h = subst T (ap (λ (l : List ℕ). has l q) held ∙ has-empty q lq) h
 
       neither : (q : ℕ) → q < maxPositions → T (has (unionOf (s .live) (s .held)) q) → ⊥
       neither q lq h =

@@ -6,16 +6,25 @@ use Prim.Native.Nat.{_^_, _<_}
 use Rattle.regex.specs.Ordered.{ofId}
 use Rattle.rules.specs.Add.{Addition}
 use Rattle.rules.specs.Additions.{Accepted, acceptedAfter}
+use Rattle.demands.specs.Kinds.{Kind, short, traces}
 use Rattle.demands.specs.Chain.{additionsOf, Item}
 use Rattle.demands.specs.Demands.{Setting, acceptedIn, Calls, closes, taken, joined}
 
 -- "the joined list, kept to one id, is the list of a table with that rule alone, on the same
 -- stream. Both are lists of calls as demand 3 takes them; space, allowances and cutting may
--- differ."
-abbrev pub Undisturbed : Type 0
-Undisturbed = (c d : Setting) (r : Accepted) → List·Memᴰ r (acceptedIn c) → acceptedIn d ≡ r ∷ []
-    → (items others : List Item) → Calls c items → Calls d others → closes c items → closes d others → taken c items ≡ taken d others
-    → ofId (r .id) (joined c items) ≡ joined d others
+-- differ." So may the kinds of the two streams.
+abbrev pub Undisturbed : {S L C S′ L′ C′ : Type 0} → Kind S L C → Kind S′ L′ C′ → Type 0
+Undisturbed {S} {L} {C} {S′} {L′} {C′} k j =
+    (c d : Setting) (r : Accepted) → List·Memᴰ r (acceptedIn c) → acceptedIn d ≡ r ∷ []
+    → (items : List (Item L C)) (others : List (Item L′ C′)) → Calls k c items → Calls j d others
+    → closes k c items → closes j d others → taken k c items ≡ taken j d others
+    → ofId (r .id) (joined k c items) ≡ joined j d others
+
+pub record AllUndisturbed : Type 0 where
+  pub by-short : Undisturbed short short
+  pub by-traces : Undisturbed traces traces
+  pub from-traces : Undisturbed traces short
+  pub to-traces : Undisturbed short traces
 
 -- There is such a table: the addition by which a rule came is accepted by an emptied table too, and
 -- gives the same rule.

@@ -10,20 +10,21 @@ use Prim.Native.String.{String}
 use lib.ListN.{length}
 use Rattle.table.specs.Layout.{tableWords, maxRules}
 use Rattle.table.specs.Table.{emptied}
-use Rattle.stream.specs.Calls.{Lists, call, opened, space}
-use Rattle.regex.specs.Ordered.{Pair}
+use Rattle.stream.specs.Calls.{Lists, Call, call, opened, space}
+use Rattle.regex.specs.Ordered.{Pair, Report}
 unfoldable pub use Rattle.classes.specs.Name.{bytes}
 use Rattle.rules.specs.declared.Added.{Added}
 use Rattle.rules.specs.Add.{Addition, addition, answer, addAnswer, addWords}
 use Rattle.rules.specs.Encoded.{addAll}
-use Rattle.demands.specs.Chain.{Item, scan, close, Outcome, by-scan, by-close, outcomesOf, begun}
+use Rattle.demands.specs.Chain.{Item, scan, close, Outcome, by-scan, by-close, outcomesOf}
+use Rattle.demands.specs.Kinds.{withoutStart, short}
 
 -- ---- what a case says
 
--- a log: each block with the pairs that its scan reports, and the pairs that the closing reports
+-- a log: each block with the reports of its scan, and the reports of the closing
 pub record Log : Type 0 where
-  pub blocks : List (String × List Pair)
-  pub closing : List Pair
+  pub blocks : List (String × List Report)
+  pub closing : List Report
 
 -- what is said of a rule: the number and place of its refusal, or the logs to try
 pub data Verdict : Type 0 where
@@ -38,12 +39,12 @@ pub record Case : Type 0 where
 
 -- the calls of a log: a scan of each block as it is cut, with units for any bytes of its length,
 -- then a closing; call i is lent the two lists `lent i`
-unfoldable pub callsOn : List (String × List Pair) → (lent : ℕ → Lists) → List Item
+unfoldable pub callsOn : List (String × List Report) → (lent : ℕ → Lists) → List (Item Lists Call)
 callsOn [] lent = close (lent 0) ∷ []
 callsOn (b ∷ bs) lent = scan (call (257 * length (bytes (b .0))) (bytes (b .0)) (lent 0)) ∷ callsOn bs (λ i. lent (suc i))
 
 -- every call is accepted, every scan takes its whole block, and the reports are those of the log
-unfoldable pub expected : List (String × List Pair) → List Pair → List Outcome
+unfoldable pub expected : List (String × List Report) → List Report → List Outcome
 expected [] closing = by-close 0 closing ∷ []
 expected (b ∷ bs) closing = by-scan 0 (length (bytes (b .0))) (b .1) ∷ expected bs closing
 
@@ -52,7 +53,8 @@ expected (b ∷ bs) closing = by-scan 0 (length (bytes (b .0))) (b .1) ∷ expec
 abbrev pub Gives : List ℕ → Log → Type 0
 Gives t log = (opened t .number ≡ 0)
     × ((lent : ℕ → Lists) → ((i : ℕ) → 2 * maxRules ≤ space (lent i))
-    → outcomesOf t (begun t) (callsOn (log .blocks) lent) ≡ expected (log .blocks) (log .closing))
+    → outcomesOf short t (short .begun t) (callsOn (log .blocks) lent)
+    ≡ expected (log .blocks) (log .closing))
 
 abbrev pub AllGive : List ℕ → List Log → Type 0
 AllGive t logs = (log : Log) → List·Memᴰ log logs → Gives t log
@@ -80,7 +82,7 @@ abbrev pub additionsIn : List Case → List Addition
 additionsIn cases = map (λ (k : Case). k .rule) cases
 
 -- the rules of all cases, one after the other in one table: each answer is as for the rule alone,
--- and each log gives the pairs of all the accepted rules
+-- and each log gives the reports of all the accepted rules
 abbrev pub Together : List Case → List Log → Type 0
 Together cases logs = (words : List ℕ) → tableWords ≤ length words
     → (answersOf (emptied words) (additionsIn cases) ≡ map (λ (k : Case). answerIn (k .verdict)) cases)
@@ -92,8 +94,8 @@ abbrev pub rule : (id flags : ℕ) → String → Addition
 rule id flags pattern = addition id flags (bytes pattern)
 
 -- the end offsets of the one rule that there is
-abbrev ends : ℕ → List ℕ → List Pair
-ends id offsets = map (λ (e : ℕ). (id, e)) offsets
+abbrev ends : ℕ → List ℕ → List Report
+ends id offsets = map (λ (e : ℕ). withoutStart (id, e)) offsets
 
 abbrev log : ℕ → List (String × List ℕ) → (closing : List ℕ) → Log
 log id blocks closing = record { blocks = map (λ (b : String × List ℕ). (b .0, ends id (b .1))) blocks; closing = ends id closing }
@@ -144,7 +146,10 @@ cases =
     ∷ []
 
 abbrev cut : List (String × List Pair) → (closing : List Pair) → Log
-cut blocks closing = record { blocks = blocks; closing = closing }
+cut blocks closing = record {
+  blocks = map (λ (b : String × List Pair). (b .0, map withoutStart (b .1))) blocks;
+  closing = map withoutStart closing;
+}
 
 -- the same logs with all the rules in one table: by rising id within a byte, whatever the order of
 -- their addition

@@ -20,8 +20,9 @@ use Rattle.card.proofs.read_block.Statement.{statement as card-read}
 use Rattle.matched.specs.Matched.{matchedBytes, matchedNumber}
 use Rattle.matched.proofs.matched_bytes.Statement.{statement as matched-bytes}
 use Rattle.matched.proofs.matched_number.Statement.{statement as matched-number}
-use Rattle.stream.specs.declared.Stream.{Stream}
-use Rattle.stream.specs.Calls.{Lists, Call, fresh, opened, scanned, scannedLists, closed, closedLists}
+use Rattle.stream.specs.Calls.{fresh, opened}
+use Rattle.traced.specs.Calls as traced
+use Rattle.demands.specs.Kinds.{Given, Kind, short, traces}
 use Rattle.stream.proofs.Stream.«open».Statement.{statement as stream-open}
 use Rattle.stream.proofs.Stream.scan.Statement.{statement as stream-scan}
 use Rattle.stream.proofs.Stream.close.Statement.{statement as stream-close}
@@ -58,18 +59,19 @@ pub record Answers : Type 2 where
   pub showing-number : {M : Type 1} → matched-number M
 
 -- "Other refusals return the number, no bytes taken, no reports, the state unchanged"; what was
--- used is "0 when refused", and both lists keep every word
-pub record ScanRefused (t : List ℕ) (s : Stream) (c : Call) : Type 0 where
-  pub taken : scanned t s c .taken ≡ 0
-  pub reports : scanned t s c .reports ≡ 0
-  pub used : scanned t s c .used ≡ 0
-  pub state : scanned t s c .stream ≡ s
-  pub lists-kept : scannedLists t s c ≡ c .slots
+-- used is "0 when refused", and all lists keep every word
+pub record Refused {S L : Type 0} (given : Given S L) (s : S) (slots : L) : Type 0 where
+  pub taken : given .taken ≡ 0
+  pub used : given .used ≡ 0
+  pub count : given .count ≡ 0
+  pub state : given .state ≡ s
+  pub lists-kept : given .lists ≡ slots
 
-pub record CloseRefused (t : List ℕ) (s : Stream) (slots : Lists) : Type 0 where
-  pub reports : closed t s slots .reports ≡ 0
-  pub state : closed t s slots .stream ≡ s
-  pub lists-kept : closedLists t s slots ≡ slots
+pub record CallsRefused {S L C : Type 0} (k : Kind S L C) : Type 0 where
+  pub scanning : (t : List ℕ) (s : S) (c : C) → ¬ (k .scan t s c .number ≡ 0)
+      → Refused (k .scan t s c) s (k .slots c)
+  pub closing : (t : List ℕ) (s : S) (l : L) → ¬ (k .close t s l .number ≡ 0)
+      → Refused (k .close t s l) s l
 
 -- "a refusal changes no word of anything lent": whenever the number is not 0. (The test, the
 -- opening and the busy figure are lent nothing to write to.)
@@ -81,8 +83,10 @@ pub record Refusals : Type 0 where
   pub added : (t : List ℕ) (a : Addition) → addAnswer t a .number ≡ 0 → addAnswer t a .place ≡ 0
   -- "A refused opening hands back a closed state, all else in it zero."
   pub opening : (t : List ℕ) → ¬ (opened t .number ≡ 0) → opened t .stream ≡ fresh 0 0 true
-  pub scanning : (t : List ℕ) (s : Stream) (c : Call) → ¬ (scanned t s c .number ≡ 0) → ScanRefused t s c
-  pub closing : (t : List ℕ) (s : Stream) (slots : Lists) → ¬ (closed t s slots .number ≡ 0) → CloseRefused t s slots
+  pub trace-opening : (t : List ℕ) → ¬ (traced.opened t .number ≡ 0)
+      → traced.opened t .traced ≡ record { stream = fresh 0 0 true; starts = traced.noStarts }
+  pub streams : CallsRefused short
+  pub traced-streams : CallsRefused traces
   -- "A refused call leaves the lent table as it found it", and the writer's the lent block
   pub writing-block : (t : List ℕ) (i : ℕ) (b : List ℕ) → ¬ (writeAnswer t i b .number ≡ 0) → writtenBlock t i b ≡ b
   pub reading-block : (t : List ℕ) (i : ℕ) (b : List ℕ) → ¬ (readAnswer t i b .number ≡ 0) → readWords t i b ≡ t

@@ -9,9 +9,10 @@ use Prim.Native.Nat.{ℕ, _≤_}
 use native.Mathlib.Omega.{arith}
 use lib.ListN.{length}
 use Rattle.table.specs.Layout.{tableWords}
-use Rattle.stream.specs.Calls.{lists, call}
-use Rattle.regex.specs.Ordered.{Pair, Ordered}
-use Rattle.demands.specs.Chain.{this, those, adding, scanning, Step, addition, another, Item, scan, close, other, Outcome, by-scan, by-close, outcomesOf, begun}
+use Rattle.stream.specs.Calls.{Lists, lists, Call, call}
+use Rattle.regex.specs.Ordered.{Report, Ordered}
+use Rattle.demands.specs.Chain.{this, those, adding, scanning, Step, addition, another, Item, scan, close, other, Outcome, by-scan, by-close, outcomesOf}
+use Rattle.demands.specs.Kinds.{short}
 use Rattle.demands.specs.Demands.{Setting, tableIn, streamIn, rulesIn, Calls, closes, taken, joined}
 use Rattle.demands.specs.Cases.{bytes, rule}
 
@@ -26,12 +27,12 @@ unfoldable pub steps : List Step
 steps =
     addition (rule 5 0 "ab+") (omega arith)
     -- refused with 18: the state that a refused opening hands back has other counts
-    ∷ another (scanning this (begun []) (call 257 (bytes "ab") (lists slot slot)))
+    ∷ another (scanning this (short .begun []) (call 257 (bytes "ab") (lists slot slot)))
     -- refused, 10 at 2
     ∷ addition (rule 8 0 "a**") (omega arith)
     ∷ []
 
-unfoldable pub items : List Item
+unfoldable pub items : List (Item Lists Call)
 items =
     -- takes 3 bytes, for 5 units: the fourth has a third report
     scan (call 10 (bytes "abbb") (lists slots slots))
@@ -40,7 +41,7 @@ items =
     -- refused with 20: report space for one report
     ∷ scan (call 257 (bytes "b") (lists slots slot))
     -- refused with 1: no table
-    ∷ other (scanning (those []) (begun []) (call 257 (bytes "ab") (lists slot slot)))
+    ∷ other (scanning (those []) (short .begun []) (call 257 (bytes "ab") (lists slot slot)))
     -- an empty block
     ∷ scan (call 257 [] (lists slots slots))
     ∷ close (lists slot slots)
@@ -56,20 +57,20 @@ items =
 -- what the scans and closings among them give
 unfoldable pub outcomes : List Outcome
 outcomes =
-    by-scan 0 3 ((5, 2) ∷ (5, 3) ∷ [])
+    by-scan 0 3 ((5, 2, 0) ∷ (5, 3, 0) ∷ [])
     ∷ by-scan 20 0 []
     ∷ by-scan 0 0 []
     ∷ by-close 20 []
     ∷ by-scan 0 0 []
-    ∷ by-scan 0 1 ((5, 4) ∷ [])
+    ∷ by-scan 0 1 ((5, 4, 0) ∷ [])
     ∷ by-close 0 []
     ∷ by-scan 19 0 []
     ∷ by-close 19 []
     ∷ []
 
 -- "`ab+` on `abbb`: 2, 3, 4"
-abbrev pub list : List Pair
-list = (5, 2) ∷ (5, 3) ∷ (5, 4) ∷ []
+abbrev pub list : List Report
+list = (5, 2, 0) ∷ (5, 3, 0) ∷ (5, 4, 0) ∷ []
 
 module _ (words : List ℕ) (long : tableWords ≤ length words) where
   abbrev pub setting : Setting
@@ -77,11 +78,11 @@ module _ (words : List ℕ) (long : tableWords ≤ length words) where
 
   pub record Instance : Type 0 where
     -- demand 3's hypotheses hold
-    pub calls : Calls setting items
-    pub closing : closes setting items
+    pub calls : Calls short setting items
+    pub closing : closes short setting items
     -- each call gives this, so all bytes are taken and the joined reports are these
-    pub each : outcomesOf (tableIn setting) (streamIn setting) items ≡ outcomes
-    pub all-taken : taken setting items ≡ bytes "abbb"
-    pub all-reports : joined setting items ≡ list
+    pub each : outcomesOf short (tableIn setting) (streamIn short setting) items ≡ outcomes
+    pub all-taken : taken short setting items ≡ bytes "abbb"
+    pub all-reports : joined short setting items ≡ list
     -- and by demand 3 they are the ordered list of the one accepted rule
     pub ordered : Ordered (rulesIn setting) (bytes "abbb") list

@@ -10,7 +10,8 @@ use lib.Dec.{leb}
 use lib.ListN.{length, take, drop, length-append, length-drop}
 use lib.Seq.{take-append-le, drop-append-le, drop-append-add}
 use borrow.Author.Tests.{le-leb, lt-leb, leb-true}
-use Rattle.matched.specs.Matched.{inBlock, inTail, matchedBytes, matchedNumber}
+use Rattle.matched.specs.declared.Part.{Part}
+use Rattle.matched.specs.Matched.{inBlock, inTail, matchedBytes, matchedPart, partBytes, matchedNumber}
 
 -- two comparisons that say the same
 same-test : (a b c d : ℕ) → (a ≤ b → c ≤ d) → (c ≤ d → a ≤ b) → leb a b ≡ leb c d
@@ -130,6 +131,41 @@ module _ (tail block : List ℕ) (offset start end : ℕ) where
     pub from-neither : inTail tail offset start end ≡ false → ([] ≡ matchedBytes tail block offset start end) × (25 ≡ matchedNumber tail block offset start end)
     unfolding matchedBytes matchedNumber
     from-neither e = (sym (rw (out, e)), sym (rw (out, e)))
+
+-- ---- where they stand
+
+-- a part by its fields
+abbrev pub part : Bool → (place size : ℕ) → Part
+part tail place size = record { tail = tail; place = place; size = size }
+
+module _ (tail block : List ℕ) (offset start end : ℕ) where
+  pub part-block : inBlock block offset start end ≡ true → part false (start - offset) (end - start) ≡ matchedPart tail block offset start end
+  unfolding matchedPart
+  part-block e = sym (rw e)
+
+  module _ (out : inBlock block offset start end ≡ false) where
+    pub part-tail : inTail tail offset start end ≡ true → part true (length tail - (offset - start)) (end - start) ≡ matchedPart tail block offset start end
+    unfolding matchedPart
+    part-tail e =
+        let h = in-tail tail offset start end e in
+        let place : length tail - (offset - start) ≡ start + length tail - offset = tail-place (length tail) offset start (h .inside) (omega (arith, h .rises, h .before)) in
+        ap (λ (n : ℕ). part true n (end - start)) place ∙ sym (rw (out, e))
+
+    pub part-neither : inTail tail offset start end ≡ false → part false 0 0 ≡ matchedPart tail block offset start end
+    unfolding matchedPart
+    part-neither e = sym (rw (out, e))
+
+  -- The part is where the matched bytes stand.
+  pub part-shows : partBytes tail block (matchedPart tail block offset start end) ≡ matchedBytes tail block offset start end
+  unfolding partBytes matchedPart matchedBytes
+  part-shows = go (inBlock block offset start end) (inTail tail offset start end)
+    where
+      go : (x y : Bool)
+          → partBytes tail block (cond x (part false (start - offset) (end - start)) (cond y (part true (start + length tail - offset) (end - start)) (part false 0 0)))
+          ≡ cond x (take (end - start) (drop (start - offset) block)) (cond y (take (end - start) (drop (start + length tail - offset) tail)) [])
+      go true y = refl
+      go false true = refl
+      go false false = refl
 
 -- ---- they are the bytes of the stream
 

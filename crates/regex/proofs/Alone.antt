@@ -8,12 +8,12 @@ use Prim.Native.Nat.{ℕ}
 use lib.Dec.{eqb}
 use borrow.Author.Tests.{eqb-true, eq-eqb}
 use Rattle.regex.specs.Rule.{Rule}
-use Rattle.regex.specs.Ordered.{Entry, entry, Rising, Owed, IsList, Pair, pair, ofId, Ordered}
-use Rattle.regex.proofs.Reports.{Distinct}
+use Rattle.regex.specs.Ordered.{Entry, entry, Rising, Owed, IsList, Report, report, ofId, Ordered}
+use Rattle.regex.proofs.OneList.{Distinct}
 
 -- the entries of one id
 of : ℕ → Entry → Bool
-of i (entry m e j) = eqb j i
+of i (entry m e j s) = eqb j i
 
 unfoldable kept : ℕ → List Entry → List Entry
 kept i [] = []
@@ -55,13 +55,14 @@ module _ (i : ℕ) where
       go ih true = (λ y m. h .0 y (kept-there y l m .0), ih)
       go ih false = ih
 
-  kept-pairs : (l : List Entry) → map pair (kept i l) ≡ ofId i (map pair l)
+  kept-reports : (l : List Entry) → map report (kept i l) ≡ ofId i (map report l)
   unfolding kept ofId of
-  kept-pairs [] = refl
-  kept-pairs (entry m e j ∷ l) = go (kept-pairs l) (eqb j i)
+  kept-reports [] = refl
+  kept-reports (entry m e j s ∷ l) = go (kept-reports l) (eqb j i)
     where
-      go : map pair (kept i l) ≡ ofId i (map pair l) → (b : Bool) → map pair (cond b (entry m e j ∷ kept i l) (kept i l)) ≡ cond b ((j, e) ∷ ofId i (map pair l)) (ofId i (map pair l))
-      go ih true = ap (λ (u : List Pair). (j, e) ∷ u) ih
+      go : map report (kept i l) ≡ ofId i (map report l) → (b : Bool)
+          → map report (cond b (entry m e j s ∷ kept i l) (kept i l)) ≡ cond b ((j, e, s) ∷ ofId i (map report l)) (ofId i (map report l))
+      go ih true = ap (λ (u : List Report). (j, e, s) ∷ u) ih
       go ih false = ih
 
 module _ (rules : List Rule) (apart : Distinct rules) (r : Rule) (there : List·Memᴰ r rules) (bytes : List ℕ) where
@@ -77,23 +78,23 @@ module _ (rules : List Rule) (apart : Distinct rules) (r : Rule) (there : List·
           go (inr n) = absurd (List·Memᴰ·not-nil n)
 
       exactly : (x : Entry) → List·Memᴰ x (kept (r .id) l) ↔ Owed (r ∷ []) bytes x
-      exactly (entry m e i) = (
+      exactly (entry m e i u) = (
         λ k.
-            let t = kept-there (r .id) (entry m e i) l k in
-            let o = h .exactly (entry m e i) .0 (t .0) in
+            let t = kept-there (r .id) (entry m e i u) l k in
+            let o = h .exactly (entry m e i u) .0 (t .0) in
             let same : o .0 ≡ r = apart (o .0) r (o .1) there (o .2 ∙ eqb-true i (r .id) (t .1)) in
-            (o .0, List·Memᴰ·head same, o .2, o .3),
+            (o .0, List·Memᴰ·head same, o .2, o .3, o .4),
         λ o.
             let same : o .0 ≡ r = only (o .0) (o .1) in
-            there-kept (r .id) (entry m e i) l
-            (h .exactly (entry m e i) .1 (o .0, subst (λ (s : Rule). List·Memᴰ s rules) (sym same) there, o .2, o .3))
+            there-kept (r .id) (entry m e i u) l
+            (h .exactly (entry m e i u) .1 (o .0, subst (λ (s : Rule). List·Memᴰ s rules) (sym same) there, o .2, o .3, o .4))
             (eq-eqb i (r .id) (sym (o .2) ∙ ap (λ (s : Rule). s .id) same)),
       )
 
   -- the reports alone
-  pub alone : (reports : List Pair) → Ordered rules bytes reports → Ordered (r ∷ []) bytes (ofId (r .id) reports)
+  pub alone : (reports : List Report) → Ordered rules bytes reports → Ordered (r ∷ []) bytes (ofId (r .id) reports)
   alone reports h = record {
     list = kept (r .id) (h .list);
     is-list = alone-list (h .list) (h .is-list);
-    pairs = kept-pairs (r .id) (h .list) ∙ ap (ofId (r .id)) (h .pairs);
+    given = kept-reports (r .id) (h .list) ∙ ap (ofId (r .id)) (h .given);
   }

@@ -19,7 +19,7 @@ use Rattle.regex.specs.Rule.{Assertion, at-start, at-last-line, at-end, 
 use Rattle.regex.proofs.Relations.{First, Last, Follow, Takes}
 use Rattle.regex.proofs.Local.{reach-local}
 use Rattle.regex.proofs.Step.{end}
-use Rattle.regex.proofs.Stream.{Same, next, over}
+use Rattle.regex.proofs.Stream.{Same, next, next-from, over}
 
 -- a gap with two bytes after it is not before a last newline
 pub more-bytes : (l : List ℕ) → 1 < length l → last-line l ≡ false
@@ -60,6 +60,14 @@ pub base-next : (tab : ℕ → ByteSet) (f : Form ByteSet Assertion) (b : ℕ) �
     × (First (world (known-before bs) (byte (sideOf x)) (e && eqb x 10)) f b q
     ⊎ ((p : ℕ) × Reached (stream bs false) f b p (length bs) × Follow (world (known-before bs) (byte (sideOf x)) (e && eqb x 10)) f b p q)))
 base-next tab f b takes bs x e q = next has holds tab f b takes bs x false e (same bs x [] e) q
+
+-- The same for the ways that begin at s.
+pub base-next-from : (tab : ℕ → ByteSet) (f : Form ByteSet Assertion) (b : ℕ) → Takes tab f b → (bs : List ℕ) (x : ℕ) (e : Bool) (s q : ℕ)
+    → Reach (stream (bs ++ x ∷ []) e) f b s q (suc (length bs))
+    ↔ (T (has (tab q) x)
+    × (((s ≡ length bs) × First (world (known-before bs) (byte (sideOf x)) (e && eqb x 10)) f b q)
+    ⊎ ((p : ℕ) × Reach (stream bs false) f b s p (length bs) × Follow (world (known-before bs) (byte (sideOf x)) (e && eqb x 10)) f b p q)))
+base-next-from tab f b takes bs x e s q = next-from has holds tab f b takes bs x false e (same bs x [] e) s q
 
 -- A match ends after bs, and r follows: the next byte is known, or nothing is.
 pub base-over : (f : Form ByteSet Assertion) (b : ℕ) (bs r : List ℕ) (e : Bool) → Same has holds bs r false e → (s : ℕ) → s < length bs

@@ -1,12 +1,13 @@
--- A decided property of entries whose moment, offset and id are bounded has a rising list of exactly the entries that have it: ids within
--- an offset, offsets within a moment, moments in turn, each level by one lemma over a key. Assumes nothing.
-use mathlib.Core.Path.{_≡_, refl, sym, subst, _∙_}
+-- A decided property of entries whose moment, offset, id and start are bounded, with one start at most for each of the others, has a rising list of exactly the
+-- entries that have it: ids within an offset, offsets within a moment, moments in turn, each level by one lemma over a key. Assumes nothing.
+use mathlib.Core.Path.{_≡_, refl, sym, subst, ap, _∙_}
 use mathlib.Core.Logic.{_⊎_, inl, inr, _↔_}
 use mathlib.Core.List.{List, [], _∷_, _++_, List·Memᴰ, List·Memᴰ·head, List·Memᴰ·tail, List·Memᴰ·cases-cons, List·Memᴰ·not-nil, List·Memᴰ·append-cases, Memᴰ·append-left, Memᴰ·append-right}
 use Prim.Native.Nat.{ℕ, zero, suc, _<_}
 use native.Mathlib.Omega.{arith}
 use native.Mathlib.Decide.{decLt}
 use Rattle.regex.specs.Ordered.{Entry, entry, Before, Rising}
+use Rattle.regex.proofs.Logic.{dec-some}
 
 pub record Lists (Q : Entry → Type 0) (l : List Entry) : Type 0 where
   pub rising : Rising l
@@ -67,63 +68,69 @@ module _ (key : Entry → ℕ) (P : Entry → Type 0) (order : (x y : Entry) →
       (λ x y p q. order x y (p .0) (q .0) (omega (arith, p .1, q .1))) (by-key n) (at n))
 
 abbrev pub moment : Entry → ℕ
-moment (entry m e i) = m
+moment (entry m e i s) = m
 
 abbrev pub offset : Entry → ℕ
-offset (entry m e i) = e
+offset (entry m e i s) = e
 
 abbrev pub id : Entry → ℕ
-id (entry m e i) = i
+id (entry m e i s) = i
 
-module _ (P : Entry → Type 0) (dec : (x : Entry) → Dec (P x)) (n : ℕ) where
+abbrev pub start : Entry → ℕ
+start (entry m e i s) = s
+
+module _ (P : Entry → Type 0) (dec : (x : Entry) → Dec (P x)) (n : ℕ) (bound : (x : Entry) → P x → (moment x < n) × (offset x < n) × (id x < n) × (start x < n))
+    (one : (m e i s u : ℕ) → P (entry m e i s) → P (entry m e i u) → s ≡ u) where
   abbrev At : ℕ → ℕ → ℕ → Entry → Type 0
   At m e i x = ((P x × (moment x ≡ m)) × (offset x ≡ e)) × (id x ≡ i)
 
-  only : (m e i : ℕ) (x : Entry) → moment x ≡ m → offset x ≡ e → id x ≡ i → x ≡ entry m e i
-  only m e i (entry a b c) p q r = cc
+  only : (m e i : ℕ) (x : Entry) → moment x ≡ m → offset x ≡ e → id x ≡ i → x ≡ entry m e i (start x)
+  only m e i (entry a b c d) p q r = cc
 
   cell : (m e i : ℕ) → Listed (At m e i)
   unfolding Rising
-  cell m e i = go (dec (entry m e i))
+  cell m e i = go (dec-some (λ s. P (entry m e i s)) n (λ s lt. dec (entry m e i s)))
     where
-      go : Dec (P (entry m e i)) → Listed (At m e i)
+      here : (x : Entry) → At m e i x → P (entry m e i (start x))
+      here x h = subst P (only m e i x (h .0 .0 .1) (h .0 .1) (h .1)) (h .0 .0 .0)
+
+      go : Dec ((s : ℕ) × (s < n) × P (entry m e i s)) → Listed (At m e i)
       go (yes p) = (
-        entry m e i ∷ [],
+        entry m e i (p .0) ∷ [],
         record {
           rising = (λ y k. absurd (List·Memᴰ·not-nil k), tt);
           exactly = λ x. (
             λ k. elim (List·Memᴰ·cases-cons k) [
-              | inl q ↦ subst (At m e i) (sym q) (((p, refl), refl), refl)
+              | inl q ↦ subst (At m e i) (sym q) (((p .2, refl), refl), refl)
               | inr k ↦ absurd (List·Memᴰ·not-nil k)
             ],
-            λ h. List·Memᴰ·head (only m e i x (h .0 .0 .1) (h .0 .1) (h .1)),
+            λ h. List·Memᴰ·head (only m e i x (h .0 .0 .1) (h .0 .1) (h .1) ∙ ap (entry m e i) (one m e i (start x) (p .0) (here x h) (p .2))),
           );
         },
       )
-      go (no p) = empty-list (At m e i) (λ x h. p (subst P (only m e i x (h .0 .0 .1) (h .0 .1) (h .1)) (h .0 .0 .0)))
+      go (no p) = empty-list (At m e i) (λ x h. p (start x, bound x (h .0 .0 .0) .3, here x h))
 
   row : (m e : ℕ) → Listed (λ x. ((P x × (moment x ≡ m)) × (offset x ≡ e)) × (id x < n))
   row m e = by-key id (λ x. (P x × (moment x ≡ m)) × (offset x ≡ e)) (λ x y p q lt. order x y (p .0 .1) (q .0 .1) (p .1) (q .1) lt) (cell m e) n
     where
       order : (x y : Entry) → moment x ≡ m → moment y ≡ m → offset x ≡ e → offset y ≡ e → id x < id y → Before x y
-      order (entry a b c) (entry a′ b′ c′) p q r s lt = inr (p ∙ sym q, inr (r ∙ sym s, lt))
+      order (entry a b c d) (entry a′ b′ c′ d′) p q r s lt = inr (p ∙ sym q, inr (r ∙ sym s, lt))
 
-  module _ (bound : (x : Entry) → P x → (moment x < n) × (offset x < n) × (id x < n)) where
-    column : (m : ℕ) → Listed (λ x. (P x × (moment x ≡ m)) × (offset x < n))
-    column m =
-        by-key offset (λ x. P x × (moment x ≡ m)) (λ x y p q lt. order x y (p .1) (q .1) lt)
-        (λ e. same-as (λ x. ((P x × (moment x ≡ m)) × (offset x ≡ e)) × (id x < n)) (λ x. (P x × (moment x ≡ m)) × (offset x ≡ e))
-        (λ x. (λ h. h .0, λ h. (h, bound x (h .0 .0) .2))) (row m e)) n
-      where
-        order : (x y : Entry) → moment x ≡ m → moment y ≡ m → offset x < offset y → Before x y
-        order (entry a b c) (entry a′ b′ c′) p q lt = inr (p ∙ sym q, inl lt)
+  column : (m : ℕ) → Listed (λ x. (P x × (moment x ≡ m)) × (offset x < n))
+  column m =
+      by-key offset (λ x. P x × (moment x ≡ m)) (λ x y p q lt. order x y (p .1) (q .1) lt)
+      (λ e. same-as (λ x. ((P x × (moment x ≡ m)) × (offset x ≡ e)) × (id x < n)) (λ x. (P x × (moment x ≡ m)) × (offset x ≡ e))
+      (λ x. (λ h. h .0, λ h. (h, bound x (h .0 .0) .2))) (row m e)) n
+    where
+      order : (x y : Entry) → moment x ≡ m → moment y ≡ m → offset x < offset y → Before x y
+      order (entry a b c d) (entry a′ b′ c′ d′) p q lt = inr (p ∙ sym q, inl lt)
 
-    pub all : Listed P
-    all =
-        same-as (λ x. P x × (moment x < n)) P (λ x. (λ h. h .0, λ h. (h, bound x h .0)))
-        (by-key moment P (λ x y p q lt. order x y lt)
-        (λ m. same-as (λ x. (P x × (moment x ≡ m)) × (offset x < n)) (λ x. P x × (moment x ≡ m))
-        (λ x. (λ h. h .0, λ h. (h, bound x (h .0) .1))) (column m)) n)
-      where
-        order : (x y : Entry) → moment x < moment y → Before x y
-        order (entry a b c) (entry a′ b′ c′) lt = inl lt
+  pub all : Listed P
+  all =
+      same-as (λ x. P x × (moment x < n)) P (λ x. (λ h. h .0, λ h. (h, bound x h .0)))
+      (by-key moment P (λ x y p q lt. order x y lt)
+      (λ m. same-as (λ x. (P x × (moment x ≡ m)) × (offset x < n)) (λ x. P x × (moment x ≡ m))
+      (λ x. (λ h. h .0, λ h. (h, bound x (h .0) .1))) (column m)) n)
+    where
+      order : (x y : Entry) → moment x < moment y → Before x y
+      order (entry a b c d) (entry a′ b′ c′ d′) lt = inl lt

@@ -1,25 +1,27 @@
 -- Worked cases. A busy figure: after the bytes `ba`, the rule `ba{0,2}` has one live position. Its optional copies are nested, so the second `a`
 -- can only follow the first; side by side either could have taken the byte, and two would be live. Pairs that wait: of `a(?:\b|\B)` and `ba\b|a\B` one way or
 -- the other holds whatever comes, and yet neither is known to hold before the next byte or the end. And `^` in line mode after a newline, the last byte or not.
--- Assumes nothing.
+-- Starts: `a|ba\z` on `ba` gives offset 2 with start 1, since that match alone is settled with the byte; `a|ba\b` with smallest length 2 gives it on `ba-` one byte
+-- late, with start 0; `(?:xa$)?\n$` on `xa` and a newline gives offset 3 with start 0, a way through a position that no live one leads to; `$\n` on
+-- `x` and a newline gives 2 with start 1, at the closing. And a window that a single-match rule's first match lies before. Assumes nothing.
 use mathlib.Core.Path.{_≡_, refl, subst}
 use mathlib.Core.Logic.{inl, inr}
 use mathlib.Core.Bool.{true, false}
-use mathlib.Core.List.{List, [], _∷_}
-use Prim.Native.Nat.{ℕ, _^_}
+use mathlib.Core.List.{List, [], _∷_, List·Memᴰ·head}
+use Prim.Native.Nat.{ℕ, _+_, _≤_, _^_}
 use native.Mathlib.Omega.{arith}
 use lib.Dec.{T}
 use Rattle.sets.specs.Set.{has, on}
-use Rattle.kinds.specs.Kind.{isWord, isLower}
+use Rattle.kinds.specs.Kind.{isWord, isLower, isUpper, isDigit}
 use Rattle.kinds.specs.Side.{sideOf}
-use Rattle.regex.specs.Tree.{Means, item, assertion, then, or, repeat, atMost}
+use Rattle.regex.specs.Tree.{Means, Allows, Times, item, assertion, then, or, repeat, atMost}
 use Rattle.regex.specs.Form.{write, repeated, copies, optionals, positions, Match, Reach}
 use Rattle.regex.specs.Gap.{known-before}
-use Rattle.regex.specs.Rule.{Rule, line-start, word-edge, no-word-edge, ByteSet, stream}
+use Rattle.regex.specs.Rule.{Rule, no-windows, at-last-line, at-end, line-start, word-edge, no-word-edge, ByteSet, stream}
 use Rattle.regex.specs.Live.{Live, none, one, skip, Busy}
-use Rattle.regex.specs.Ordered.{seen, Settled, Falls}
+use Rattle.regex.specs.Ordered.{seen, Settled, Falls, Earlier, entry, Owed}
 use Rattle.regex.proofs.Range.{reach-inside}
-use Rattle.regex.proofs.Moments.{falls-after}
+use Rattle.regex.proofs.Moments.{falls-at, falls-after}
 
 -- the sets of `a`, byte 97, and of `b`, byte 98
 abbrev a : ByteSet
@@ -29,7 +31,7 @@ abbrev b : ByteSet
 b = 0 ∷ 2 ^ 34 ∷ 0 ∷ 0 ∷ []
 
 abbrev rule : Rule
-rule = record { id = 1; single = false; tree = then (item b) (repeat (item a) 0 (atMost 2)) }
+rule = record { id = 1; single = false; starts = false; windows = no-windows; tree = then (item b) (repeat (item a) 0 (atMost 2)) }
 
 abbrev ba : List ℕ
 ba = 98 ∷ 97 ∷ []
@@ -58,11 +60,11 @@ one-live = (1, 0, skip third-dead (one second-live (skip first-dead none)), refl
 
 -- `a(?:\b|\B)`
 abbrev either : Rule
-either = record { id = 1; single = false; tree = then (item a) (or (assertion word-edge) (assertion no-word-edge)) }
+either = record { id = 1; single = false; starts = false; windows = no-windows; tree = then (item a) (or (assertion word-edge) (assertion no-word-edge)) }
 
 -- `ba\b|a\B`
 abbrev two : Rule
-two = record { id = 1; single = false; tree = or (then (item b) (then (item a) (assertion word-edge))) (then (item a) (assertion no-word-edge)) }
+two = record { id = 1; single = false; starts = false; windows = no-windows; tree = or (then (item b) (then (item a) (assertion word-edge))) (then (item a) (assertion no-word-edge)) }
 
 either-not-yet : (x : ℕ) → ¬ Settled (97 ∷ x ∷ []) either 1 1
 unfolding Means known-before sideOf
@@ -75,11 +77,11 @@ either-not-yet x h = go (h .matched .2)
 -- it falls with the next byte: another `a`, where no word ends, or a newline, where one does
 pub either-waits : Falls (97 ∷ 97 ∷ []) either 2 1
 unfolding Means known-before sideOf isWord isLower has on
-either-waits = falls-after (97 ∷ 97 ∷ []) either 1 1 (omega arith) (omega arith) .1 (record { start = 0; earlier = omega arith; matched = (1, (refl, tt), inr (refl, tt)) }, either-not-yet 97)
+either-waits = falls-after (97 ∷ 97 ∷ []) either 1 1 (omega arith) (omega arith) .1 (record { start = 0; earlier = omega arith; matched = (1, (refl, tt), inr (refl, tt)); inside = (omega arith, omega arith, omega arith) }, either-not-yet 97)
 
 pub either-waits-too : Falls (97 ∷ 10 ∷ []) either 2 1
 unfolding Means known-before sideOf isWord isLower has on
-either-waits-too = falls-after (97 ∷ 10 ∷ []) either 1 1 (omega arith) (omega arith) .1 (record { start = 0; earlier = omega arith; matched = (1, (refl, tt), inl (refl, tt)) }, either-not-yet 10)
+either-waits-too = falls-after (97 ∷ 10 ∷ []) either 1 1 (omega arith) (omega arith) .1 (record { start = 0; earlier = omega arith; matched = (1, (refl, tt), inl (refl, tt)); inside = (omega arith, omega arith, omega arith) }, either-not-yet 10)
 
 two-not-yet : ¬ Settled ba two 2 2
 unfolding Means known-before sideOf
@@ -92,7 +94,7 @@ two-not-yet h = go (h .start) (h .matched)
 -- it falls at the closing, where a word ends
 pub two-waits : Falls ba two 3 2
 unfolding Means known-before sideOf isWord isLower has on
-two-waits = falls-after ba two 2 2 (omega arith) (omega arith) .1 (record { start = 0; earlier = omega arith; matched = inl (1, (refl, tt), (2, (refl, tt), (refl, tt))) }, two-not-yet)
+two-waits = falls-after ba two 2 2 (omega arith) (omega arith) .1 (record { start = 0; earlier = omega arith; matched = inl (1, (refl, tt), (2, (refl, tt), (refl, tt))); inside = (omega arith, omega arith, omega arith) }, two-not-yet)
 
 -- ---- `^` in line mode: after a newline, unless it is the stream's last byte
 
@@ -103,3 +105,169 @@ line-starts = tt
 pub no-line-starts : ¬ T (stream (10 ∷ []) true .known line-start 1)
 unfolding known-before sideOf
 no-line-starts h = h
+
+-- ---- starts, and windows
+
+-- `a|ba\z`, leftmost start
+abbrev leftmost : Rule
+leftmost = record { id = 1; single = false; starts = true; windows = no-windows; tree = or (item a) (then (item b) (then (item a) (assertion at-end))) }
+
+pub starts-at-one : Owed (leftmost ∷ []) ba (entry 2 2 1 1)
+unfolding Means known-before sideOf isWord isLower has on
+starts-at-one = (
+  leftmost,
+  List·Memᴰ·head refl,
+  refl,
+  record {
+    falls = falls-at ba leftmost 2 (record { start = 1; earlier = omega arith; matched = inl (refl, tt); inside = (omega arith, omega arith, omega arith) });
+    first = λ j d f h. h .0;
+  },
+  record { leftmost = λ t. record { there = (omega arith, inl (refl, tt)); least = λ u h. only u (h .1) }; without = λ n. absurd (n tt) },
+)
+  where
+    only : (u : ℕ) → Means (seen ba 2) (leftmost .tree) u 2 → 1 ≤ u
+    only u (inl h) = omega (arith, h .0)
+    only u (inr h) = absurd (subst (λ (k : ℕ). T (seen ba 2 .known at-end k)) (h .2 .2 .0) (h .2 .2 .1))
+
+-- `a|ba\b`, leftmost start, smallest length 2
+abbrev long : Rule
+long = record {
+  id = 1;
+  single = false;
+  starts = true;
+  windows = record { smallest-end = 0; largest-end = 2; smallest-length = 2 };
+  tree = or (item a) (then (item b) (then (item a) (assertion word-edge)));
+}
+
+abbrev ba- : List ℕ
+ba- = 98 ∷ 97 ∷ 45 ∷ []
+
+long-not-yet : ¬ Settled ba- long 2 2
+unfolding Means known-before sideOf
+long-not-yet h = go (h .start) (h .inside .2) (h .matched)
+  where
+    go : (s : ℕ) → s + 2 ≤ 2 → Means (seen ba- 2) (long .tree) s 2 → ⊥
+    go s le (inl y) = omega (arith, y .0)
+    go s le (inr y) = subst (λ (k : ℕ). T (seen ba- 2 .known word-edge k)) (y .2 .2 .0) (y .2 .2 .1)
+
+pub comes-late : Owed (long ∷ []) ba- (entry 3 2 1 0)
+unfolding Means known-before sideOf isWord isLower isUpper isDigit has on
+comes-late = (
+  long,
+  List·Memᴰ·head refl,
+  refl,
+  record {
+    falls = falls-after ba- long 2 2 (omega arith) (omega arith) .1 (
+      record { start = 0; earlier = omega arith; matched = inr (1, (refl, tt), (2, (refl, tt), (refl, tt))); inside = (omega arith, omega arith, omega arith) },
+      long-not-yet,
+    );
+    first = λ j d f h. h .0;
+  },
+  record {
+    leftmost = λ t. record { there = (omega arith, inr (1, (refl, tt), (2, (refl, tt), (refl, tt)))); least = λ u h. omega arith };
+    without = λ n. absurd (n tt);
+  },
+)
+
+-- the sets of `x`, byte 120, and of the newline
+abbrev x : ByteSet
+x = 0 ∷ 2 ^ 56 ∷ 0 ∷ 0 ∷ []
+
+abbrev newline : ByteSet
+newline = 2 ^ 10 ∷ 0 ∷ 0 ∷ 0 ∷ []
+
+-- `(?:xa$)?\n$`, leftmost start
+abbrev held : Rule
+held = record {
+  id = 1;
+  single = false;
+  starts = true;
+  windows = no-windows;
+  tree = then (repeat (then (item x) (then (item a) (assertion at-last-line))) 0 (atMost 1)) (then (item newline) (assertion at-last-line));
+}
+
+abbrev xa↵ : List ℕ
+xa↵ = 120 ∷ 97 ∷ 10 ∷ []
+
+held-not-yet : ¬ Settled xa↵ held 3 3
+unfolding Means known-before sideOf
+held-not-yet h = let y = h .matched .2 in subst (λ (k : ℕ). T (seen xa↵ 3 .known at-last-line k)) (y .2 .0) (y .2 .1)
+
+held-matches : Means (seen xa↵ 4) (held .tree) 0 3
+unfolding Means Allows Times known-before sideOf has on
+held-matches = (2, (1, (omega arith, omega arith), (2, (1, (refl, tt), (2, (refl, tt), (refl, tt))), refl)), (3, (refl, tt), (refl, tt)))
+
+pub starts-before : Owed (held ∷ []) xa↵ (entry 4 3 1 0)
+starts-before = (
+  held,
+  List·Memᴰ·head refl,
+  refl,
+  record {
+    falls = falls-after xa↵ held 3 3 (omega arith) (omega arith) .1
+        (record { start = 0; earlier = omega arith; matched = held-matches; inside = (omega arith, omega arith, omega arith) }, held-not-yet);
+    first = λ j d f h. h .0;
+  },
+  record { leftmost = λ t. record { there = (omega arith, held-matches); least = λ u h. omega arith }; without = λ n. absurd (n tt) },
+)
+
+-- `$\n`, leftmost start: its one position is held alone, never live
+abbrev bare : Rule
+bare = record {
+  id = 1;
+  single = false;
+  starts = true;
+  windows = no-windows;
+  tree = then (assertion at-last-line) (item newline);
+}
+
+abbrev x↵ : List ℕ
+x↵ = 120 ∷ 10 ∷ []
+
+bare-not-yet : ¬ Settled x↵ bare 2 2
+unfolding Means known-before sideOf
+bare-not-yet h =
+    let y = h .matched in
+    let at-1 : h .start ≡ 1 = omega (arith, y .1 .0, y .2 .0) in
+    subst (λ (k : ℕ). T (seen x↵ 2 .known at-last-line k)) at-1 (y .1 .1)
+
+bare-matches : Means (seen x↵ 3) (bare .tree) 1 2
+unfolding Means known-before sideOf has on
+bare-matches = (1, (refl, tt), (refl, tt))
+
+pub starts-held : Owed (bare ∷ []) x↵ (entry 3 2 1 1)
+unfolding Means
+starts-held = (
+  bare,
+  List·Memᴰ·head refl,
+  refl,
+  record {
+    falls = falls-after x↵ bare 2 2 (omega arith) (omega arith) .1
+        (record { start = 1; earlier = omega arith; matched = bare-matches; inside = (omega arith, omega arith, omega arith) }, bare-not-yet);
+    first = λ j d f h. h .0;
+  },
+  record {
+    leftmost = λ t. record { there = (omega arith, bare-matches); least = λ u h. omega (arith, h .1 .1 .0, h .1 .2 .0) };
+    without = λ n. absurd (n tt);
+  },
+)
+
+-- `a`, single match, smallest end offset 2: on `aa` it reports 2, since the match that ends at 1 does not count
+abbrev windowed : Rule
+windowed = record { id = 1; single = true; starts = false; windows = record { smallest-end = 2; largest-end = 2; smallest-length = 0 }; tree = item a }
+
+pub counts-inside : Owed (windowed ∷ []) (97 ∷ 97 ∷ []) (entry 2 2 1 0)
+unfolding Means known-before sideOf isWord isLower has on
+counts-inside = (
+  windowed,
+  List·Memᴰ·head refl,
+  refl,
+  record {
+    falls = falls-at (97 ∷ 97 ∷ []) windowed 2 (record { start = 1; earlier = omega arith; matched = (refl, tt); inside = (omega arith, omega arith, omega arith) });
+    first = λ j d f h. earlier j d (f .from-last) (f .settled .inside .0) (h .1);
+  },
+  record { leftmost = λ t. absurd t; without = λ n. refl },
+)
+  where
+    earlier : (j d : ℕ) → d ≤ j → 2 ≤ d → Earlier j d 2 2 → ⊥
+    earlier j d le two (inl lt) = omega arith
+    earlier j d le two (inr h) = omega arith

@@ -13,10 +13,12 @@ pub mod Counted
 pub mod Stream
 pub mod Base
 pub mod Decidable
+pub mod Least
 pub mod Enumerated
 pub mod OneList
 pub mod Alone
 pub mod Moments
+pub mod Starts
 pub mod Reports
 pub mod Ways
 pub mod Busy

@@ -16,8 +16,8 @@ use Rattle.kinds.specs.Side.{sideOf}
 use Rattle.regex.specs.Tree.{Means}
 use Rattle.regex.specs.Form.{Form, Match, Reach, write}
 use Rattle.regex.specs.Gap.{last-line, Known, byte, edge, unknown, known-before, known-after}
-use Rattle.regex.specs.Rule.{Rule, Assertion, world, holds, ByteSet, stream, MatchEnds}
-use Rattle.regex.specs.Ordered.{closing-moment, end-known, seen, Settled, Falls}
+use Rattle.regex.specs.Rule.{Rule, InWindows, Assertion, world, holds, ByteSet, stream, MatchEnds}
+use Rattle.regex.specs.Ordered.{closing-moment, end-known, seen, SettledFrom, Settled, Falls}
 use Rattle.regex.proofs.Relations.{Last}
 use Rattle.regex.proofs.Logic.{and-T, true-T, false-T}
 use Rattle.regex.proofs.Written.{written, unwritten}
@@ -41,31 +41,44 @@ module _ (bytes : List ℕ) (r : Rule) where
   abbrev f : Form ByteSet Assertion
   f = write (r .tree)
 
-  -- some way through the rule ends with the byte before offset e, where this is known of the next byte, and the last line ends if z says so
+  -- some way through the rule from start s ends with the byte before offset e, where this is known of the next byte, and the last line ends if z says so
+  abbrev pub EndsFrom : ℕ → Known → Bool → ℕ → Type 0
+  EndsFrom e after z s = (p : ℕ) × Reach (stream (take e bytes) false) f 0 s p e × Last (world (known-before (take e bytes)) after z) f 0 p
+
+  -- from some start that the rule's windows let through
   abbrev pub EndsAt : ℕ → Known → Bool → Type 0
-  EndsAt e after z = (s : ℕ) × (p : ℕ) × Reach (stream (take e bytes) false) f 0 s p e × Last (world (known-before (take e bytes)) after z) f 0 p
+  EndsAt e after z = (s : ℕ) × EndsFrom e after z s × InWindows (r .windows) s e
 
   -- the next byte
   abbrev pub after : ℕ → Known
   after e = byte (sideOf (getD bytes e 0))
 
-  -- some way ends where the stream does
+  -- some way from start s ends where the stream does; from some start that the windows let through
+  abbrev pub LastFrom : ℕ → Type 0
+  LastFrom s = (p : ℕ) × Reach (stream bytes true) f 0 s p n × Last (world (known-before bytes) edge true) f 0 p
+
   abbrev pub EndsLast : Type 0
-  EndsLast = (s : ℕ) × (p : ℕ) × Reach (stream bytes true) f 0 s p n × Last (world (known-before bytes) edge true) f 0 p
+  EndsLast = (s : ℕ) × LastFrom s × InWindows (r .windows) s n
+
+  -- a pair is settled from some start that the windows let through
+  some-inside : (m e : ℕ) (Q : ℕ → Type 0) → ((s : ℕ) → SettledFrom bytes r m e s ↔ Q s) → Settled bytes r m e ↔ ((s : ℕ) × Q s × InWindows (r .windows) s e)
+  some-inside m e Q is = (
+    λ h. (h .start, is (h .start) .0 (h .earlier, h .matched), h .inside),
+    λ h. let g = is (h .0) .1 (h .1) in record { start = h .0; earlier = g .0; matched = g .1; inside = h .2 },
+  )
 
   -- the pair's own bytes, and those known after them
   split : (m e : ℕ) → e ≤ m → take e bytes ++ drop e (take m bytes) ≡ take m bytes
   split m e le = ap (λ (l : List ℕ). l ++ drop e (take m bytes)) (sym (take-take e m bytes le)) ∙ take-append-drop e (take m bytes)
 
   -- what is settled at moment m, where the bytes known after the pair's own tell nothing new of the gaps before
-  settled-is : (m e : ℕ) → e ≤ m → e ≤ n → Same has holds (take e bytes) (drop e (take m bytes)) false (end-known bytes m)
+  from-is : (m e : ℕ) → e ≤ m → e ≤ n → Same has holds (take e bytes) (drop e (take m bytes)) false (end-known bytes m)
       → (k : Known) (z : Bool) → known-after (drop e (take m bytes)) (end-known bytes m) ≡ k → (end-known bytes m && last-line (drop e (take m bytes))) ≡ z
-      → Settled bytes r m e ↔ EndsAt e k z
-  settled-is m e le ln same k z next line = (
-    λ h. let g = over (h .start) (h .earlier) .0 (written (seen bytes m) (r .tree) (h .start) e (h .matched)) in
-        (h .start, g .0, g .1, g .2),
-    λ h. let lt : h .0 < e = reach-up (stream (take e bytes) false) f 0 (h .0) (h .1) e (h .2) in
-        record { start = h .0; earlier = lt; matched = unwritten (seen bytes m) (r .tree) (h .0) e (over (h .0) lt .1 (h .1, h .2, h .3)) },
+      → (s : ℕ) → SettledFrom bytes r m e s ↔ EndsFrom e k z s
+  from-is m e le ln same k z next line s = (
+    λ h. over s (h .0) .0 (written (seen bytes m) (r .tree) s e (h .1)),
+    λ h. let lt : s < e = reach-up (stream (take e bytes) false) f 0 s (h .0) e (h .1) in
+        (lt, unwritten (seen bytes m) (r .tree) s e (over s lt .1 h)),
   )
     where
       over : (s : ℕ) → s < e
@@ -81,108 +94,123 @@ module _ (bytes : List ℕ) (r : Rule) where
           (base-over f 0 (take e bytes) (drop e (take m bytes)) (end-known bytes m) same s (omega arith)))
 
   -- a settled pair's offset is within the bytes known
-  pub within : (m e : ℕ) → Settled bytes r m e → (e ≤ m) × (e ≤ n)
-  within m e h =
+  pub within-from : (m e s : ℕ) → SettledFrom bytes r m e s → (e ≤ m) × (e ≤ n)
+  within-from m e s h =
       let t = seen bytes m in
-      let g = end t f 0 (h .start) e (h .earlier) .0 (written t (r .tree) (h .start) e (h .matched)) in
+      let g = end t f 0 s e (h .0) .0 (written t (r .tree) s e (h .1)) in
       let short : e ≤ length (take m bytes) =
       reach-short t (length (take m bytes)) (λ c j x. ltb→lt j (length (take m bytes)) (and-T (ltb j (length (take m bytes))) (has c (getD (take m bytes) j 0)) .0 x .0))
-      f 0 (h .start) (g .0) e (g .1) in
+      f 0 s (g .0) e (g .1) in
       omega (arith, short, length-take m bytes)
 
+  pub within : (m e : ℕ) → Settled bytes r m e → (e ≤ m) × (e ≤ n)
+  within m e h = within-from m e (h .start) (h .earlier, h .matched)
+
   -- while bytes come, no end is known
-  open-settled : (m e : ℕ) → e ≤ m → m ≤ n → (k : Known) → known-after (drop e (take m bytes)) false ≡ k → Settled bytes r m e ↔ EndsAt e k false
-  open-settled m e le ln k next =
+  open-from : (m e : ℕ) → e ≤ m → m ≤ n → (k : Known) → known-after (drop e (take m bytes)) false ≡ k → (s : ℕ) → SettledFrom bytes r m e s ↔ EndsFrom e k false s
+  open-from m e le ln k next =
       let open-end : end-known bytes m ≡ false = before-closing bytes m ln in
-      settled-is m e le (omega arith)
+      from-is m e le (omega arith)
       (subst (λ (z : Bool). Same has holds (take e bytes) (drop e (take m bytes)) false z) (sym open-end) (open-same (take e bytes) (drop e (take m bytes))))
       k false (ap (known-after (drop e (take m bytes))) open-end ∙ next) (ap (λ (z : Bool). z && last-line (drop e (take m bytes))) open-end)
 
   -- with the pair's last byte nothing is known of the next one
-  pub by-byte : (e : ℕ) → e ≤ n → Settled bytes r e e ↔ EndsAt e unknown false
-  by-byte e le =
+  pub from-byte : (e : ℕ) → e ≤ n → (s : ℕ) → SettledFrom bytes r e e s ↔ EndsFrom e unknown false s
+  from-byte e le =
       let none : drop e (take e bytes) ≡ [] = drop-of-length-le (take e bytes) {i = e} (omega (arith, length-take-le e bytes le)) in
-      open-settled e e (omega arith) le unknown (ap (λ (l : List ℕ). known-after l false) none)
+      open-from e e (omega arith) le unknown (ap (λ (l : List ℕ). known-after l false) none)
 
   -- from the next byte on it is known: the same pairs are settled at each of these moments
-  pub by-next : (m e : ℕ) → e < m → m ≤ n → Settled bytes r m e ↔ EndsAt e (after e) false
-  by-next m e lt ln =
-      open-settled m e (omega arith) ln (after e)
+  pub from-next : (m e : ℕ) → e < m → m ≤ n → (s : ℕ) → SettledFrom bytes r m e s ↔ EndsFrom e (after e) false s
+  from-next m e lt ln =
+      open-from m e (omega arith) ln (after e)
       (next-known (take m bytes) e false (omega (arith, length-take-le m bytes ln)) ∙ ap (λ (x : ℕ). byte (sideOf x)) (getD-take m bytes e 0 lt))
 
   -- at the closing, before the stream's end: `$` holds where one newline is left
-  pub by-closing : (e : ℕ) → e < n → Settled bytes r (closing-moment bytes) e ↔ EndsAt e (after e) (last-line (drop e bytes))
-  by-closing e lt =
+  pub from-closing : (e : ℕ) → e < n → (s : ℕ) → SettledFrom bytes r (closing-moment bytes) e s ↔ EndsFrom e (after e) (last-line (drop e bytes)) s
+  from-closing e lt =
       let all : take (suc n) bytes ≡ bytes = take-all (suc n) bytes (omega arith) in
       let known : end-known bytes (suc n) ≡ true = at-closing bytes in
       let rest : drop e (take (suc n) bytes) ≡ getD bytes e 0 ∷ drop (suc e) bytes = ap (drop e) all ∙ drop-cons bytes e 0 lt in
-      settled-is (suc n) e (omega arith) (omega arith)
+      from-is (suc n) e (omega arith) (omega arith)
       (subst₂ (λ (l : List ℕ) (k : Bool). Same has holds (take e bytes) l false k) (sym rest) (sym known) (ended-same (take e bytes) (getD bytes e 0) (drop (suc e) bytes)))
       (after e) (last-line (drop e bytes)) (ap₂ known-after rest known) (ap₂ (λ (l : List ℕ) (k : Bool). k && last-line (drop e l)) all known)
 
   -- and at its end
-  pub by-end : Settled bytes r (closing-moment bytes) n ↔ EndsLast
-  by-end =
+  pub from-end : (s : ℕ) → SettledFrom bytes r (closing-moment bytes) n s ↔ LastFrom s
+  from-end s =
       let whole : seen bytes (suc n) ≡ stream bytes true = ap₂ stream (take-all (suc n) bytes (omega arith)) (at-closing bytes) in (
-        λ h. let g = base-end f 0 bytes (h .start) (h .earlier) .0 (written (stream bytes true) (r .tree) (h .start) n (subst (λ t. Means t (r .tree) (h .start) n) whole (h .matched))) in
-            (h .start, g .0, g .1, g .2),
-        λ h. let lt : h .0 < n = reach-up (stream bytes true) f 0 (h .0) (h .1) n (h .2) in
-            record {
-              start = h .0;
-              earlier = lt;
-              matched = subst (λ t. Means t (r .tree) (h .0) n) (sym whole) (unwritten (stream bytes true) (r .tree) (h .0) n (base-end f 0 bytes (h .0) lt .1 (h .1, h .2, h .3)));
-            },
+        λ h. base-end f 0 bytes s (h .0) .0 (written (stream bytes true) (r .tree) s n (subst (λ t. Means t (r .tree) s n) whole (h .1))),
+        λ h. let lt : s < n = reach-up (stream bytes true) f 0 s (h .0) n (h .1) in
+            (lt, subst (λ t. Means t (r .tree) s n) (sym whole) (unwritten (stream bytes true) (r .tree) s n (base-end f 0 bytes s lt .1 h))),
       )
 
+  -- the same of pairs
+  pub by-byte : (e : ℕ) → e ≤ n → Settled bytes r e e ↔ EndsAt e unknown false
+  by-byte e le = some-inside e e (EndsFrom e unknown false) (from-byte e le)
+
+  pub by-next : (m e : ℕ) → e < m → m ≤ n → Settled bytes r m e ↔ EndsAt e (after e) false
+  by-next m e lt ln = some-inside m e (EndsFrom e (after e) false) (from-next m e lt ln)
+
+  pub by-closing : (e : ℕ) → e < n → Settled bytes r (closing-moment bytes) e ↔ EndsAt e (after e) (last-line (drop e bytes))
+  by-closing e lt = some-inside (closing-moment bytes) e (EndsFrom e (after e) (last-line (drop e bytes))) (from-closing e lt)
+
+  pub by-end : Settled bytes r (closing-moment bytes) n ↔ EndsLast
+  by-end = some-inside (closing-moment bytes) n LastFrom from-end
+
   -- what is known only grows
-  pub ends-next : (e : ℕ) (k : Known) (z : Bool) → EndsAt e unknown false → EndsAt e k z
-  ends-next e k z h =
-      (h .0, h .1, h .2, last-more (world (known-before (take e bytes)) unknown false) (world (known-before (take e bytes)) k z) (known-more (known-before (take e bytes)) k z) f 0 (h .1) (h .3))
+  pub ends-next : (e : ℕ) (k : Known) (z : Bool) (s : ℕ) → EndsFrom e unknown false s → EndsFrom e k z s
+  ends-next e k z s h =
+      (h .0, h .1, last-more (world (known-before (take e bytes)) unknown false) (world (known-before (take e bytes)) k z) (known-more (known-before (take e bytes)) k z) f 0 (h .0) (h .2))
 
-  pub ends-line : (e : ℕ) (k : Known) (z : Bool) → EndsAt e k false → EndsAt e k z
-  ends-line e k z h =
-      (h .0, h .1, h .2, last-more (world (known-before (take e bytes)) k false) (world (known-before (take e bytes)) k z) (line-more (known-before (take e bytes)) k z) f 0 (h .1) (h .3))
+  pub ends-line : (e : ℕ) (k : Known) (z : Bool) (s : ℕ) → EndsFrom e k false s → EndsFrom e k z s
+  ends-line e k z s h =
+      (h .0, h .1, last-more (world (known-before (take e bytes)) k false) (world (known-before (take e bytes)) k z) (line-more (known-before (take e bytes)) k z) f 0 (h .0) (h .2))
 
-  pub ends-ended : EndsAt n unknown false → EndsLast
-  ends-ended h =
+  pub ends-ended : (s : ℕ) → EndsFrom n unknown false s → LastFrom s
+  ends-ended s h =
       let whole : take n bytes ≡ bytes = take-all n bytes (omega arith) in (
         h .0,
-        h .1,
-        reach-ended f 0 bytes (h .0) (h .1) (subst (λ (l : List ℕ). Reach (stream l false) f 0 (h .0) (h .1) n) whole (h .2)),
-        last-more (world (known-before bytes) unknown false) (world (known-before bytes) edge true) (known-more (known-before bytes) edge true) f 0 (h .1)
-            (subst (λ (l : List ℕ). Last (world (known-before l) unknown false) f 0 (h .1)) whole (h .3)),
+        reach-ended f 0 bytes s (h .0) (subst (λ (l : List ℕ). Reach (stream l false) f 0 s (h .0) n) whole (h .1)),
+        last-more (world (known-before bytes) unknown false) (world (known-before bytes) edge true) (known-more (known-before bytes) edge true) f 0 (h .0)
+            (subst (λ (l : List ℕ). Last (world (known-before l) unknown false) f 0 (h .0)) whole (h .2)),
       )
 
   -- what is settled at one moment is settled at the next
-  stays-next : (m e : ℕ) → e ≤ m → e ≤ n → m ≤ n → Settled bytes r m e → Settled bytes r (suc m) e
-  stays-next m e le ln lm h = go (decLt e m) (decLt m n) (decLt e n)
+  stays-next : (m e s : ℕ) → e ≤ m → e ≤ n → m ≤ n → SettledFrom bytes r m e s → SettledFrom bytes r (suc m) e s
+  stays-next m e s le ln lm h = go (decLt e m) (decLt m n) (decLt e n)
     where
-      own : m ≡ e → EndsAt e unknown false
-      own q = by-byte e ln .0 (subst (λ (k : ℕ). Settled bytes r k e) q h)
+      own : m ≡ e → EndsFrom e unknown false s
+      own q = from-byte e ln s .0 (subst (λ (k : ℕ). SettledFrom bytes r k e s) q h)
 
-      closes : m ≡ n → Settled bytes r (closing-moment bytes) e → Settled bytes r (suc m) e
-      closes q = subst (λ (k : ℕ). Settled bytes r (suc k) e) (sym q)
+      closes : m ≡ n → SettledFrom bytes r (closing-moment bytes) e s → SettledFrom bytes r (suc m) e s
+      closes q = subst (λ (k : ℕ). SettledFrom bytes r (suc k) e s) (sym q)
 
-      go : Dec (e < m) → Dec (m < n) → Dec (e < n) → Settled bytes r (suc m) e
-      go (yes lt) (yes l) d = by-next (suc m) e (omega arith) l .1 (by-next m e lt lm .0 h)
-      go (no ge) (yes l) d = by-next (suc m) e (omega arith) l .1 (ends-next e (after e) false (own (omega arith)))
-      go (yes lt) (no g) (yes d) = closes (omega arith) (by-closing e d .1 (ends-line e (after e) (last-line (drop e bytes)) (by-next m e lt lm .0 h)))
+      go : Dec (e < m) → Dec (m < n) → Dec (e < n) → SettledFrom bytes r (suc m) e s
+      go (yes lt) (yes l) d = from-next (suc m) e (omega arith) l s .1 (from-next m e lt lm s .0 h)
+      go (no ge) (yes l) d = from-next (suc m) e (omega arith) l s .1 (ends-next e (after e) false s (own (omega arith)))
+      go (yes lt) (no g) (yes d) = closes (omega arith) (from-closing e d s .1 (ends-line e (after e) (last-line (drop e bytes)) s (from-next m e lt lm s .0 h)))
       go (no ge) (no g) (yes d) = absurd (omega arith)
       go (yes lt) (no g) (no d) = absurd (omega arith)
       go (no ge) (no g) (no d) =
           let q : e ≡ n = omega arith in
-          closes (omega arith) (subst (λ (k : ℕ). Settled bytes r (closing-moment bytes) k) (sym q)
-          (by-end .1 (ends-ended (subst (λ (k : ℕ). EndsAt k unknown false) q (own (omega arith))))))
+          closes (omega arith) (subst (λ (k : ℕ). SettledFrom bytes r (closing-moment bytes) k s) (sym q)
+          (from-end s .1 (ends-ended s (subst (λ (k : ℕ). EndsFrom k unknown false s) q (own (omega arith))))))
 
   -- what is settled stays settled
-  pub stays-settled : (j m e : ℕ) → j ≤ m → m ≤ closing-moment bytes → Settled bytes r j e → Settled bytes r m e
-  stays-settled j m e le lc h = let q : j + (m - j) ≡ m = omega arith in subst (λ (k : ℕ). Settled bytes r k e) q (go (m - j) (omega arith))
+  pub stays-from : (j m e s : ℕ) → j ≤ m → m ≤ closing-moment bytes → SettledFrom bytes r j e s → SettledFrom bytes r m e s
+  stays-from j m e s le lc h = let q : j + (m - j) ≡ m = omega arith in subst (λ (k : ℕ). SettledFrom bytes r k e s) q (go (m - j) (omega arith))
     where
-      go : (d : ℕ) → j + d ≤ closing-moment bytes → Settled bytes r (j + d) e
-      go zero l = let q : j ≡ j + 0 = omega arith in subst (λ (k : ℕ). Settled bytes r k e) q h
+      go : (d : ℕ) → j + d ≤ closing-moment bytes → SettledFrom bytes r (j + d) e s
+      go zero l = let q : j ≡ j + 0 = omega arith in subst (λ (k : ℕ). SettledFrom bytes r k e s) q h
       go (suc d) l =
           let q : suc (j + d) ≡ j + suc d = omega arith in
-          subst (λ (k : ℕ). Settled bytes r k e) q (stays-next (j + d) e (omega (arith, within j e h)) (within j e h .1) (omega arith) (go d (omega arith)))
+          subst (λ (k : ℕ). SettledFrom bytes r k e s) q (stays-next (j + d) e s (omega (arith, within-from j e s h)) (within-from j e s h .1) (omega arith) (go d (omega arith)))
+
+  pub stays-settled : (j m e : ℕ) → j ≤ m → m ≤ closing-moment bytes → Settled bytes r j e → Settled bytes r m e
+  stays-settled j m e le lc h =
+      let g = stays-from j m e (h .start) le lc (h .earlier, h .matched) in
+      record { start = h .start; earlier = g .0; matched = g .1; inside = h .inside }
 
   -- a pair settled with its last byte falls there
   pub falls-at : (e : ℕ) → Settled bytes r e e → Falls bytes r e e
@@ -278,21 +306,21 @@ module _ (bytes : List ℕ) (r : Rule) where
   pub settled-whole : (e : ℕ) → Settled bytes r (closing-moment bytes) e ↔ MatchEnds r bytes e
   settled-whole e =
       let whole : stream (take (suc n) bytes) (end-known bytes (closing-moment bytes)) ≡ stream bytes true = ap₂ stream (take-all (suc n) bytes (omega arith)) (at-closing bytes) in (
-        λ h. (h .start, h .earlier, subst (λ t. Means t (r .tree) (h .start) e) whole (h .matched)),
-        λ h. record { start = h .0; earlier = h .1; matched = subst (λ t. Means t (r .tree) (h .0) e) (sym whole) (h .2) },
+        λ h. (h .start, h .earlier, subst (λ t. Means t (r .tree) (h .start) e) whole (h .matched), h .inside),
+        λ h. record { start = h .0; earlier = h .1; matched = subst (λ t. Means t (r .tree) (h .0) e) (sym whole) (h .2); inside = h .3 },
       )
 
   -- With all bytes known and not the end, what is settled is what matches by what is known then.
-  pub open-end : (e : ℕ) → Settled bytes r n e ↔ ((s : ℕ) × (s < e) × Means (stream bytes false) (r .tree) s e)
+  pub open-end : (e : ℕ) → Settled bytes r n e ↔ ((s : ℕ) × (s < e) × Means (stream bytes false) (r .tree) s e × InWindows (r .windows) s e)
   open-end e =
       let known : stream (take n bytes) (end-known bytes n) ≡ stream bytes false = ap₂ stream (take-all n bytes (omega arith)) (before-closing bytes n (omega arith)) in (
-        λ h. (h .start, h .earlier, subst (λ t. Means t (r .tree) (h .start) e) known (h .matched)),
-        λ h. record { start = h .0; earlier = h .1; matched = subst (λ t. Means t (r .tree) (h .0) e) (sym known) (h .2) },
+        λ h. (h .start, h .earlier, subst (λ t. Means t (r .tree) (h .start) e) known (h .matched), h .inside),
+        λ h. record { start = h .0; earlier = h .1; matched = subst (λ t. Means t (r .tree) (h .0) e) (sym known) (h .2); inside = h .3 },
       )
 
   -- A pair falls at the closing exactly if it matches, and does not match while the end is not known.
   pub falls-at-closing : (e : ℕ) → Falls bytes r (closing-moment bytes) e
-      ↔ (MatchEnds r bytes e × (¬ ((s : ℕ) × (s < e) × Means (stream bytes false) (r .tree) s e)))
+      ↔ (MatchEnds r bytes e × (¬ ((s : ℕ) × (s < e) × Means (stream bytes false) (r .tree) s e × InWindows (r .windows) s e)))
   falls-at-closing e = (
     λ h. let g = after-n (within (closing-moment bytes) e (h .settled) .1) .0 h in (settled-whole e .0 (g .0), λ x. g .1 (open-end e .1 x)),
     λ h. let s : Settled bytes r (closing-moment bytes) e = settled-whole e .1 (h .0) in

@@ -1,6 +1,6 @@
 -- The automaton over a stream of bytes: what is reached up to the bytes so far does not depend on what comes later, what one byte more
 -- reaches, and where a match ends. For any assertions, where what is known at the gaps so far stays as it is (`Same`). Assumes nothing.
-use mathlib.Core.Path.{_≡_, sym, subst, ap, ap₂, _∙_, fun-ext}
+use mathlib.Core.Path.{_≡_, refl, sym, subst, ap, ap₂, _∙_, fun-ext}
 use mathlib.Core.Logic.{_⊎_, inl, inr, _↔_}
 use mathlib.Core.Bool.{Bool}
 use mathlib.Core.List.{List, [], _∷_, _++_}
@@ -15,7 +15,7 @@ use Rattle.regex.specs.Live.{Reached}
 use Rattle.regex.specs.Gap.{Gap, text}
 use Rattle.regex.proofs.Relations.{First, Last, Follow, Takes}
 use Rattle.regex.proofs.Logic.{and-T}
-use Rattle.regex.proofs.Step.{step-anywhere, end}
+use Rattle.regex.proofs.Step.{step, end}
 use Rattle.regex.proofs.Local.{reach-local, reach-up}
 
 -- the gap between these bytes and those, after which the stream has ended or may go on
@@ -70,37 +70,49 @@ module _ {C A : Type 0} (has : C → ℕ → Bool) (holds : A → Gap → Bool) 
         )
 
   module _ (tab : ℕ → C) (f : Form C A) (b : ℕ) (takes : Takes tab f b) (bs : List ℕ) (x : ℕ) (d e : Bool) (same : Same bs (x ∷ []) d e) where
-    -- One byte more: from what bs reached to what bs and x reach. The world is that of the gap between bs and x.
-    pub next : (q : ℕ) → Reached (On (bs ++ x ∷ []) e) f b q (suc (length bs))
+    -- One byte more, for the ways that begin at s: from what bs reached to what bs and x reach. The world is that of the gap between bs and x.
+    pub next-from : (s q : ℕ) → Reach (On (bs ++ x ∷ []) e) f b s q (suc (length bs))
         ↔ (T (has (tab q) x)
-        × (First (λ a. holds a (between bs (x ∷ []) e)) f b q
-        ⊎ ((p : ℕ) × Reached (On bs d) f b p (length bs) × Follow (λ a. holds a (between bs (x ∷ []) e)) f b p q)))
-    next q =
+        × (((s ≡ length bs) × First (λ a. holds a (between bs (x ∷ []) e)) f b q)
+        ⊎ ((p : ℕ) × Reach (On bs d) f b s p (length bs) × Follow (λ a. holds a (between bs (x ∷ []) e)) f b p q)))
+    next-from s q =
         let k : ℕ = length bs in
         let new : List ℕ = bs ++ x ∷ [] in
         let is-x : getD new k 0 ≡ x = getD-append-seam bs x [] 0 in
         let w : _≡_ {A = A → Bool} (λ a. On new e .known a k) (λ a. holds a (between bs (x ∷ []) e)) =
         seam bs (x ∷ []) e in
-        let both = step-anywhere (On new e) tab f b takes q k in (
+        let both = step (On new e) tab f b takes s q k in (
           λ l.
               let h = both .0 l in (
                 subst (λ (y : ℕ). T (has (tab q) y)) is-x (and-T (ltb k (length new)) (has (tab q) (getD new k 0)) .0 (h .0) .1),
                 elim (h .1) [
-                  | inl v ↦ inl (subst (λ (u : A → Bool). First u f b q) w v)
-                  | inr v ↦ inr
-                      (v .0, (v .1 .0, prefix bs (x ∷ []) d e same f b (v .1 .0) (v .0) .0 (v .1 .1)), subst (λ (u : A → Bool). Follow u f b (v .0) q) w (v .2))
+                  | inl v ↦ inl (v .0, subst (λ (u : A → Bool). First u f b q) w (v .1))
+                  | inr v ↦ inr (v .0, prefix bs (x ∷ []) d e same f b s (v .0) .0 (v .1), subst (λ (u : A → Bool). Follow u f b (v .0) q) w (v .2))
                 ],
               ),
           λ h. both .1 (
             and-T (ltb k (length new)) (has (tab q) (getD new k 0)) .1
                 (lt→ltb k (length new) (omega (arith, length-append bs (x ∷ []))), subst (λ (y : ℕ). T (has (tab q) y)) (sym is-x) (h .0)),
             elim (h .1) [
-              | inl v ↦ inl (subst (λ (u : A → Bool). First u f b q) (sym w) v)
-              | inr v ↦ inr
-                  (v .0, (v .1 .0, prefix bs (x ∷ []) d e same f b (v .1 .0) (v .0) .1 (v .1 .1)), subst (λ (u : A → Bool). Follow u f b (v .0) q) (sym w) (v .2))
+              | inl v ↦ inl (v .0, subst (λ (u : A → Bool). First u f b q) (sym w) (v .1))
+              | inr v ↦ inr (v .0, prefix bs (x ∷ []) d e same f b s (v .0) .1 (v .1), subst (λ (u : A → Bool). Follow u f b (v .0) q) (sym w) (v .2))
             ],
           ),
         )
+
+    -- and for a search that begins anywhere
+    pub next : (q : ℕ) → Reached (On (bs ++ x ∷ []) e) f b q (suc (length bs))
+        ↔ (T (has (tab q) x)
+        × (First (λ a. holds a (between bs (x ∷ []) e)) f b q
+        ⊎ ((p : ℕ) × Reached (On bs d) f b p (length bs) × Follow (λ a. holds a (between bs (x ∷ []) e)) f b p q)))
+    next q = (
+      λ l. let h = next-from (l .0) q .0 (l .1) in
+          (h .0, elim (h .1) [ inl v ↦ inl (v .1) | inr v ↦ inr (v .0, (l .0, v .1), v .2) ]),
+      λ h. elim (h .1) [
+        | inl v ↦ (length bs, next-from (length bs) q .1 (h .0, inl (refl, v)))
+        | inr v ↦ (v .1 .0, next-from (v .1 .0) q .1 (h .0, inr (v .0, v .1 .1, v .2)))
+      ],
+    )
 
   -- Before the first byte nothing is reached.
   pub nothing-yet : (f : Form C A) (b : ℕ) (e : Bool) (q : ℕ) → ¬ Reached (On [] e) f b q 0

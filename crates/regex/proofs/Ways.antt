@@ -19,7 +19,7 @@ use Rattle.regex.specs.Tree.{Text}
 use Rattle.regex.specs.Form.{Form, eps, take, check, seq, alt, plus, opt, Star, done, more, Match, write}
 use Rattle.regex.specs.Way.{Step, takes, passes, Way, w-eps, w-take, w-check, w-seq, w-left, w-right, w-one, w-more, w-none, w-some, Runs, SomeWay, Passes}
 use Rattle.regex.specs.Gap.{last-line, Known, byte, edge, unknown, known-before, known-after}
-use Rattle.regex.specs.Rule.{Rule, Assertion, at-start, at-last-line, at-end, line-start, line-end, word-edge, no-word-edge, world, holds, ByteSet, stream, MatchEnds}
+use Rattle.regex.specs.Rule.{Rule, InWindows, Assertion, at-start, at-last-line, at-end, line-start, line-end, word-edge, no-word-edge, world, holds, ByteSet, stream, MatchEnds}
 use Rattle.regex.specs.Ordered.{closing-moment, seen, Settled, Falls}
 use Rattle.regex.proofs.Logic.{and-T}
 use Rattle.regex.proofs.Written.{written, unwritten}
@@ -229,9 +229,9 @@ module _ (bytes : List ℕ) (r : Rule) (e : ℕ) where
   abbrev n : ℕ
   n = length bytes
 
-  -- the ways of the pair's matches on the whole stream
+  -- the ways of the pair's matches on the whole stream, from starts that the rule's windows let through
   abbrev pub WayOf : List (Step ByteSet Assertion) → Type 0
-  WayOf u = (s : ℕ) × (s < e) × Way (write (r .tree)) u × Runs (stream bytes true) s u e
+  WayOf u = (s : ℕ) × (s < e) × Way (write (r .tree)) u × Runs (stream bytes true) s u e × InWindows (r .windows) s e
 
   -- some way passes no `$`; and some way passes none and takes its last byte last
   abbrev pub Plain : Type 0
@@ -241,13 +241,15 @@ module _ (bytes : List ℕ) (r : Rule) (e : ℕ) where
   Prompt = (u : List (Step ByteSet Assertion)) × WayOf u × (¬ Passes at-last-line u) × TakesLast u
 
   -- what is settled while bytes come, by ways over the bytes known
-  settled-way : (m : ℕ) → m ≤ n → Settled bytes r m e ↔ ((u : List (Step ByteSet Assertion)) × (s : ℕ) × (s < e) × Way (write (r .tree)) u × Runs (stream (front m bytes) false) s u e)
+  settled-way : (m : ℕ) → m ≤ n → Settled bytes r m e
+      ↔ ((u : List (Step ByteSet Assertion)) × (s : ℕ) × (s < e) × Way (write (r .tree)) u × Runs (stream (front m bytes) false) s u e × InWindows (r .windows) s e)
   settled-way m le =
       let known : seen bytes m ≡ stream (front m bytes) false = ap (stream (front m bytes)) (before-closing bytes m le) in
-      subst (λ (t : Text ByteSet Assertion). Settled bytes r m e ↔ ((u : List (Step ByteSet Assertion)) × (s : ℕ) × (s < e) × Way (write (r .tree)) u × Runs t s u e)) known (
+      subst (λ (t : Text ByteSet Assertion). Settled bytes r m e
+      ↔ ((u : List (Step ByteSet Assertion)) × (s : ℕ) × (s < e) × Way (write (r .tree)) u × Runs t s u e × InWindows (r .windows) s e)) known (
         λ h. let w = match-way (seen bytes m) (write (r .tree)) (h .start) e (written (seen bytes m) (r .tree) (h .start) e (h .matched)) in
-            (w .0, h .start, h .earlier, w .1, w .2),
-        λ h. record { start = h .1; earlier = h .2; matched = unwritten (seen bytes m) (r .tree) (h .1) e (way-match (seen bytes m) (h .3) (h .1) e (h .4)) },
+            (w .0, h .start, h .earlier, w .1, w .2, h .inside),
+        λ h. record { start = h .1; earlier = h .2; matched = unwritten (seen bytes m) (r .tree) (h .1) e (way-match (seen bytes m) (h .3) (h .1) e (h .4)); inside = h .5 },
       )
 
   whole : (m : ℕ) → front m bytes ++ drop m bytes ≡ bytes
@@ -271,7 +273,7 @@ module _ (bytes : List ℕ) (r : Rule) (e : ℕ) where
           | inl q ↦ absurd (omega (arith, w .2, subst (λ (v : List (Step ByteSet Assertion)). Runs (stream (front e bytes) false) (w .1) v e) q (w .4)))
           | inr x ↦ x
         ] in
-        (w .0, (w .1, w .2, w .3, g .0), g .1, last),
+        (w .0, (w .1, w .2, w .3, g .0, w .5), g .1, last),
     λ h.
         let runs : Runs (stream (front e bytes ++ drop e bytes) true) (h .1 .0) (h .0) e = subst (λ (l : List ℕ). Runs (stream l true) (h .1 .0) (h .0) e) (sym (whole e)) (h .1 .3) in
         settled-way e le .1 (
@@ -280,6 +282,7 @@ module _ (bytes : List ℕ) (r : Rule) (e : ℕ) where
           h .1 .1,
           h .1 .2,
           shrinks-last (front e bytes) (drop e bytes) (h .0) (h .1 .0) e (omega (arith, length-take-le e bytes le)) runs (h .2) (h .3),
+          h .1 .4,
         ),
   )
 
@@ -288,7 +291,7 @@ module _ (bytes : List ℕ) (r : Rule) (e : ℕ) where
     λ h.
         let w = settled-way (suc e) lt .0 h in
         let g = grown-way (suc e) lt (omega arith) (w .0) (w .1) (w .4) in
-        (w .0, (w .1, w .2, w .3, g .0), g .1),
+        (w .0, (w .1, w .2, w .3, g .0, w .5), g .1),
     λ h.
         let runs : Runs (stream (front (suc e) bytes ++ drop (suc e) bytes) true) (h .1 .0) (h .0) e = subst (λ (l : List ℕ). Runs (stream l true) (h .1 .0) (h .0) e) (sym (whole (suc e))) (h .1 .3) in
         settled-way (suc e) lt .1 (
@@ -297,6 +300,7 @@ module _ (bytes : List ℕ) (r : Rule) (e : ℕ) where
           h .1 .1,
           h .1 .2,
           shrinks (front (suc e) bytes) (drop (suc e) bytes) (h .0) (h .1 .0) e (omega (arith, length-take-le (suc e) bytes lt)) runs (h .2),
+          h .1 .4,
         ),
   )
 

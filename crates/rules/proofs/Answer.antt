@@ -25,7 +25,7 @@ use Rattle.pattern.specs.declared.Reading.{Reading}
 use Rattle.pattern.proofs.Answers.{within, accepted-tree}
 use Rattle.rules.specs.Gaps.{partsAt}
 use Rattle.rules.specs.Words.{added}
-use Rattle.rules.specs.Add.{Addition, readingOf, answer, unknownFlag, hasId, placed, addAnswer, withRule, addWords}
+use Rattle.rules.specs.Add.{Addition, readingOf, answer, unknownFlag, singleStart, hasId, placed, addAnswer, withRule, addWords}
 use Rattle.rules.specs.Invariants.{firstFault}
 use Rattle.rules.specs.declared.Added.{Added}
 
@@ -64,17 +64,21 @@ module _ (t : List ℕ) (id flags : ℕ) where
   unfolding firstFault unknownFlag
   fault-2 a b = rw (a, ne-eqb (bitAnd flags knownFlags) flags b)
 
-  pub fault-3 : isTable t ≡ true → bitAnd flags knownFlags ≡ flags → hasId t id ≡ true → 3 ≡ firstFault t id flags
+  pub fault-24 : isTable t ≡ true → bitAnd flags knownFlags ≡ flags → singleStart flags ≡ true → 24 ≡ firstFault t id flags
   unfolding firstFault unknownFlag
-  fault-3 a b c = rw (a, eq-eqb (bitAnd flags knownFlags) flags b, c)
+  fault-24 a b s = rw (a, eq-eqb (bitAnd flags knownFlags) flags b, s)
 
-  pub fault-4 : isTable t ≡ true → bitAnd flags knownFlags ≡ flags → hasId t id ≡ false → maxRules ≤ rulesOf t → 4 ≡ firstFault t id flags
+  pub fault-3 : isTable t ≡ true → bitAnd flags knownFlags ≡ flags → singleStart flags ≡ false → hasId t id ≡ true → 3 ≡ firstFault t id flags
   unfolding firstFault unknownFlag
-  fault-4 a b c d = rw (a, eq-eqb (bitAnd flags knownFlags) flags b, c, le-leb maxRules (rulesOf t) d)
+  fault-3 a b s c = rw (a, eq-eqb (bitAnd flags knownFlags) flags b, s, c)
 
-  pub fault-0 : isTable t ≡ true → bitAnd flags knownFlags ≡ flags → hasId t id ≡ false → rulesOf t < maxRules → 0 ≡ firstFault t id flags
+  pub fault-4 : isTable t ≡ true → bitAnd flags knownFlags ≡ flags → singleStart flags ≡ false → hasId t id ≡ false → maxRules ≤ rulesOf t → 4 ≡ firstFault t id flags
   unfolding firstFault unknownFlag
-  fault-0 a b c d = rw (a, eq-eqb (bitAnd flags knownFlags) flags b, c, lt-leb maxRules (rulesOf t) d)
+  fault-4 a b s c d = rw (a, eq-eqb (bitAnd flags knownFlags) flags b, s, c, le-leb maxRules (rulesOf t) d)
+
+  pub fault-0 : isTable t ≡ true → bitAnd flags knownFlags ≡ flags → singleStart flags ≡ false → hasId t id ≡ false → rulesOf t < maxRules → 0 ≡ firstFault t id flags
+  unfolding firstFault unknownFlag
+  fault-0 a b s c d = rw (a, eq-eqb (bitAnd flags knownFlags) flags b, s, c, lt-leb maxRules (rulesOf t) d)
 
 -- ---- the answer and the words
 
@@ -95,37 +99,40 @@ module _ (t : List ℕ) (a : Addition) where
   -- by the first checks
   pub early : (f : ℕ) → f ≡ firstFault t (a .id) (a .flags) → (f ≡ 0 → ⊥) → Answers (answer f 0) t
   unfolding addAnswer firstFault
-  early f e n = kept (answer f 0) (go (isTable t) (unknownFlag (a .flags)) (hasId t (a .id)) (leb maxRules (rulesOf t)) e) n
+  early f e n = kept (answer f 0) (go (isTable t) (unknownFlag (a .flags)) (singleStart (a .flags)) (hasId t (a .id)) (leb maxRules (rulesOf t)) e) n
     where
       last : Added
       last = cond (tooLong (a .pattern)) (answer 5 0) (placed (positionsOf t) (length (a .pattern)) (readingOf a))
 
-      go : (t b c d : Bool) → f ≡ cond t (cond b 2 (cond c 3 (cond d 4 0))) 1
-          → answer f 0 ≡ cond t (cond b (answer 2 0) (cond c (answer 3 0) (cond d (answer 4 0) last))) (answer 1 0)
-      go true true c d z = ap (λ (k : ℕ). answer k 0) z
-      go true false true d z = ap (λ (k : ℕ). answer k 0) z
-      go true false false true z = ap (λ (k : ℕ). answer k 0) z
-      go true false false false z = absurd (n z)
-      go false b c d z = ap (λ (k : ℕ). answer k 0) z
+      go : (t b s c d : Bool) → f ≡ cond t (cond b 2 (cond s 24 (cond c 3 (cond d 4 0)))) 1
+          → answer f 0 ≡ cond t (cond b (answer 2 0) (cond s (answer 24 0) (cond c (answer 3 0) (cond d (answer 4 0) last)))) (answer 1 0)
+      go true true s c d z = ap (λ (k : ℕ). answer k 0) z
+      go true false true c d z = ap (λ (k : ℕ). answer k 0) z
+      go true false false true d z = ap (λ (k : ℕ). answer k 0) z
+      go true false false false true z = ap (λ (k : ℕ). answer k 0) z
+      go true false false false false z = absurd (n z)
+      go false b s c d z = ap (λ (k : ℕ). answer k 0) z
 
   -- the first checks are passed
   module _ (passed : 0 ≡ firstFault t (a .id) (a .flags)) where
-    through : (t b c d : Bool) → _≡_ {A = ℕ} 0 (cond t (cond b 2 (cond c 3 (cond d 4 0))) 1) → (t ≡ true) × (b ≡ false) × (c ≡ false) × (d ≡ false)
-    through true true c d z = absurd (omega (arith, z))
-    through true false true d z = absurd (omega (arith, z))
-    through true false false true z = absurd (omega (arith, z))
-    through true false false false z = (refl, refl, refl, refl)
-    through false b c d z = absurd (omega (arith, z))
+    through : (t b s c d : Bool) → _≡_ {A = ℕ} 0 (cond t (cond b 2 (cond s 24 (cond c 3 (cond d 4 0)))) 1)
+        → (t ≡ true) × (b ≡ false) × (s ≡ false) × (c ≡ false) × (d ≡ false)
+    through true true s c d z = absurd (omega (arith, z))
+    through true false true c d z = absurd (omega (arith, z))
+    through true false false true d z = absurd (omega (arith, z))
+    through true false false false true z = absurd (omega (arith, z))
+    through true false false false false z = (refl, refl, refl, refl, refl)
+    through false b s c d z = absurd (omega (arith, z))
 
-    checks : (isTable t ≡ true) × (unknownFlag (a .flags) ≡ false) × (hasId t (a .id) ≡ false) × (leb maxRules (rulesOf t) ≡ false)
+    checks : (isTable t ≡ true) × (unknownFlag (a .flags) ≡ false) × (singleStart (a .flags) ≡ false) × (hasId t (a .id) ≡ false) × (leb maxRules (rulesOf t) ≡ false)
     unfolding firstFault
-    checks = through (isTable t) (unknownFlag (a .flags)) (hasId t (a .id)) (leb maxRules (rulesOf t)) passed
+    checks = through (isTable t) (unknownFlag (a .flags)) (singleStart (a .flags)) (hasId t (a .id)) (leb maxRules (rulesOf t)) passed
 
     pub passed-table : Passes t
     passed-table = passes t (checks .0)
 
     pub passed-few : rulesOf t < maxRules
-    passed-few = leb-false maxRules (rulesOf t) (checks .3)
+    passed-few = leb-false maxRules (rulesOf t) (checks .4)
 
     -- what the reader gives of the pattern
     abbrev given : Read
@@ -133,7 +140,7 @@ module _ (t : List ℕ) (a : Addition) where
 
     then-read : addAnswer t a ≡ placed (positionsOf t) (length (a .pattern)) given
     unfolding addAnswer limitedRead placed
-    then-read = rw (checks .0, checks .1, checks .2, checks .3) (go (tooLong (a .pattern)))
+    then-read = rw (checks .0, checks .1, checks .2, checks .3, checks .4) (go (tooLong (a .pattern)))
       where
         go : (b : Bool) → cond b (answer 5 0) (placed (positionsOf t) (length (a .pattern)) (readingOf a)) ≡ placed (positionsOf t) (length (a .pattern)) (cond b (refused 5 0) (readingOf a))
         go true = refl

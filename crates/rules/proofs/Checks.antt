@@ -24,7 +24,7 @@ use Rattle.pattern.specs.Read.{longest, tooLong, optionsOf}
 use Rattle.automaton.specs.declared.Parts.{Parts}
 use Rattle.rules.specs.Gaps.{holdingAt, partsAt}
 use Rattle.rules.specs.Words.{added}
-use Rattle.rules.specs.Add.{Addition, readingOf, answer, unknownFlag, hasId, placed, addAnswer, withRule, addWords}
+use Rattle.rules.specs.Add.{Addition, readingOf, answer, unknownFlag, singleStart, hasId, placed, addAnswer, withRule, addWords}
 use Rattle.rules.specs.declared.Added.{Added}
 use Rattle.rules.proofs.Kept.{passes-added}
 use Rattle.rules.proofs.Parts.{sized-parts}
@@ -37,6 +37,7 @@ module _ (there : Bool) (rules used : ℕ) (a : Addition) where
   -- each reason to refuse fails
   pub record Admits : Type 0 where
     pub known : bitAnd (a .flags) knownFlags ≡ a .flags
+    pub not-both : singleStart (a .flags) ≡ false
     pub free : there ≡ false
     pub few : rules < maxRules
     pub short : length (a .pattern) ≤ longest
@@ -45,25 +46,33 @@ module _ (there : Bool) (rules used : ℕ) (a : Addition) where
     pub room : used + positions (write read) ≤ maxPositions
 
   abbrev pub checked : Added
-  checked = cond (unknownFlag (a .flags)) (answer 2 0) (cond there (answer 3 0) (cond (leb maxRules rules) (answer 4 0) (cond (tooLong (a .pattern)) (answer 5 0) (placed used (length (a .pattern)) (readingOf a)))))
+  checked =
+      cond (unknownFlag (a .flags)) (answer 2 0)
+      (cond (singleStart (a .flags)) (answer 24 0)
+      (cond there (answer 3 0)
+      (cond (leb maxRules rules) (answer 4 0)
+      (cond (tooLong (a .pattern)) (answer 5 0)
+      (placed used (length (a .pattern)) (readingOf a))))))
 
   admits : checked .number ≡ 0 → Admits
   unfolding unknownFlag placed
-  admits = go (unknownFlag (a .flags)) there (leb maxRules rules) (tooLong (a .pattern)) (readingOf a) refl refl refl refl refl
+  admits = go (unknownFlag (a .flags)) (singleStart (a .flags)) there (leb maxRules rules) (tooLong (a .pattern)) (readingOf a) refl refl refl refl refl refl
     where
       fits : (x : Syntax) (c : Bool) → ltb limit (used + positions (write x)) ≡ c → cond c (answer 17 (length (a .pattern))) (answer 0 0) .number ≡ 0 → used + positions (write x) ≤ limit
       fits x true e h = absurd (omega (arith, h))
       fits x false e h = ltb-false limit (used + positions (write x)) e
 
-      go : (u k f l : Bool) (d : Read) → unknownFlag (a .flags) ≡ u → there ≡ k → leb maxRules rules ≡ f → tooLong (a .pattern) ≡ l → readingOf a ≡ d
-          → cond u (answer 2 0) (cond k (answer 3 0) (cond f (answer 4 0) (cond l (answer 5 0) (placed used (length (a .pattern)) d)))) .number ≡ 0 → Admits
-      go true k f l d p q r m s h = absurd (omega (arith, h))
-      go false true f l d p q r m s h = absurd (omega (arith, h))
-      go false false true l d p q r m s h = absurd (omega (arith, h))
-      go false false false true d p q r m s h = absurd (omega (arith, h))
-      go false false false false (refused number place) p q r m s h = absurd (refusal-numbered (a .pattern) (optionsOf (a .flags)) number place m s h)
-      go false false false false (tree x) p q r m s h = record {
+      go : (u b k f l : Bool) (d : Read) → unknownFlag (a .flags) ≡ u → singleStart (a .flags) ≡ b → there ≡ k → leb maxRules rules ≡ f → tooLong (a .pattern) ≡ l → readingOf a ≡ d
+          → cond u (answer 2 0) (cond b (answer 24 0) (cond k (answer 3 0) (cond f (answer 4 0) (cond l (answer 5 0) (placed used (length (a .pattern)) d))))) .number ≡ 0 → Admits
+      go true b k f l d p o q r m s h = absurd (omega (arith, h))
+      go false true k f l d p o q r m s h = absurd (omega (arith, h))
+      go false false true f l d p o q r m s h = absurd (omega (arith, h))
+      go false false false true l d p o q r m s h = absurd (omega (arith, h))
+      go false false false false true d p o q r m s h = absurd (omega (arith, h))
+      go false false false false false (refused number place) p o q r m s h = absurd (refusal-numbered (a .pattern) (optionsOf (a .flags)) number place m s h)
+      go false false false false false (tree x) p o q r m s h = record {
         known = eqb-true (bitAnd (a .flags) knownFlags) (a .flags) (not-false (eqb (bitAnd (a .flags) knownFlags) (a .flags)) p);
+        not-both = o;
         free = q;
         few = leb-false maxRules rules r;
         short = ltb-false longest (length (a .pattern)) m;
@@ -74,7 +83,7 @@ module _ (there : Bool) (rules used : ℕ) (a : Addition) where
 
   admitted : Admits → checked ≡ answer 0 0
   unfolding unknownFlag placed
-  admitted c = rw (eq-eqb (bitAnd (a .flags) knownFlags) (a .flags) (c .known), c .free, lt-leb maxRules rules (c .few), le-ltb longest (length (a .pattern)) (c .short), c .reading, le-ltb limit (used + positions (write (c .read))) (c .room))
+  admitted c = rw (eq-eqb (bitAnd (a .flags) knownFlags) (a .flags) (c .known), c .not-both, c .free, lt-leb maxRules rules (c .few), le-ltb longest (length (a .pattern)) (c .short), c .reading, le-ltb limit (used + positions (write (c .read))) (c .room))
 
   -- the answer is 0 exactly where each fails
   pub zero-if : (checked .number ≡ 0) ↔ Admits

@@ -33,7 +33,7 @@ use Rattle.regex.proofs.Reports.{Distinct}
 use Rattle.automaton.specs.Parts.{worldOf, formParts}
 use Rattle.automaton.specs.declared.Parts.{Parts}
 use Rattle.rules.specs.Gaps.{holdingAt}
-use Rattle.rules.specs.Words.{raised}
+use Rattle.rules.specs.Words.{raised, isSingle, isLeftmost}
 use Rattle.rules.specs.Additions.{Accepted, size, ruleOf}
 use Rattle.rules.proofs.Views.{putIn, Extended}
 use Rattle.rules.proofs.Parts.{parts-positions, parts-first, parts-last, parts-follow, parts-takes}
@@ -60,7 +60,9 @@ worldAt g = worldOf (holdingAt g)
 -- the rule p stands in place a of the automaton w
 pub record Stands (w : Automaton) (a : ℕ) (p : Placed) : Type 0 where
   pub id-is : w .id a ≡ p .rule .id
-  pub once-is : w .once a ≡ eqb (p .rule .flags / 8 % 2) 1
+  pub once-is : w .once a ≡ isSingle (p .rule .flags)
+  pub leftmost-is : w .leftmost a ≡ isLeftmost (p .rule .flags)
+  pub keeps-is : (q : ℕ) → Of p q → w .keeps q ≡ isLeftmost (p .rule .flags)
   -- it takes a byte at least
   pub full : nullable (p .rule .tree) ≡ false
   pub within : p .from + size (p .rule) ≤ w .positions
@@ -175,7 +177,7 @@ module _ (w v : Automaton) (k : ℕ) (r : Accepted) (parts : ℕ → Parts) (x :
 
   -- ---- an old rule
 
-  module _ (p : Placed) (a c : ℕ) (s : Stands w a p) (id-kept : v .id c ≡ w .id a) (once-kept : v .once c ≡ w .once a)
+  module _ (p : Placed) (a c : ℕ) (s : Stands w a p) (id-kept : v .id c ≡ w .id a) (once-kept : v .once c ≡ w .once a) (leftmost-kept : v .leftmost c ≡ w .leftmost a)
       (last-kept : (g q : ℕ) → g < lastGaps → q < n + positions f → lastIn v g c q ≡ (ltb q n && lastIn w g a q)) where
     -- its positions are old ones
     old : (q : ℕ) → Of p q → q < n
@@ -214,6 +216,13 @@ module _ (w v : Automaton) (k : ℕ) (r : Accepted) (parts : ℕ → Parts) (x :
         record {
           id-is = id-kept ∙ s .id-is;
           once-is = once-kept ∙ s .once-is;
+          leftmost-is = leftmost-kept ∙ s .leftmost-is;
+          keeps-is = λ q h.
+              let below : q < n = old q h in
+              x .keeps-in q (omega arith)
+              ∙ joined q below (w .keeps q) (isLeftmost (r .flags) && from-to n (n + parts 0 .positions) q)
+              (ap (λ (b : Bool). isLeftmost (r .flags) && b) (from-to-below n (n + parts 0 .positions) q below) ∙ and-false (isLeftmost (r .flags)))
+              ∙ s .keeps-is q h;
           full = s .full;
           within = omega (arith, s .within, grown);
           takes-is = λ y q l h.
@@ -233,7 +242,8 @@ module _ (w v : Automaton) (k : ℕ) (r : Accepted) (parts : ℕ → Parts) (x :
 
   -- ---- the new rule
 
-  module _ (full : nullable (r .tree) ≡ false) (id-new : v .id k ≡ r .id) (once-new : v .once k ≡ eqb (r .flags / 8 % 2) 1)
+  module _ (full : nullable (r .tree) ≡ false) (id-new : v .id k ≡ r .id) (once-new : v .once k ≡ isSingle (r .flags))
+      (leftmost-new : v .leftmost k ≡ isLeftmost (r .flags))
       (last-here : (g q : ℕ) → g < lastGaps → q < n + positions f → lastIn v g k q ≡ has (parts g .last) q)
       (nothing-after : (g o q : ℕ) → n ≤ o → w .follow g o q ≡ false) where
     -- an old set has none of its positions
@@ -255,6 +265,11 @@ module _ (w v : Automaton) (k : ℕ) (r : Accepted) (parts : ℕ → Parts) (x :
         record {
           id-is = id-new;
           once-is = once-new;
+          leftmost-is = leftmost-new;
+          keeps-is = λ q h.
+              x .keeps-in q (omega arith)
+              ∙ masked q (h .0) (w .keeps q) (isLeftmost (r .flags) && from-to n (n + parts 0 .positions) q)
+              ∙ ap (λ (b : Bool). isLeftmost (r .flags) && b) (from-to-in n (n + parts 0 .positions) q (h .0) (omega (arith, more, h .1))) ∙ and-true (isLeftmost (r .flags));
           full = full;
           within = omega (arith, grown);
           takes-is = λ y q l h.
@@ -396,13 +411,15 @@ module _ (w v : Automaton) (k : ℕ) (r : Accepted) (parts : ℕ → Parts) (x :
             subst (Stands v a) (sym (at-before a l))
             (stands-old (at ps a) a a (e .rule a (omega (arith, k-le)))
             (x .id-in a (omega (arith, e .rules)) ∙ put-before (r .id) (w .id) a l)
-            (x .once-in a (omega (arith, e .rules)) ∙ put-before (eqb (r .flags / 8 % 2) 1) (w .once) a l)
+            (x .once-in a (omega (arith, e .rules)) ∙ put-before (isSingle (r .flags)) (w .once) a l)
+            (x .leftmost-in a (omega (arith, e .rules)) ∙ put-before (isLeftmost (r .flags)) (w .leftmost) a l)
             (last-old a a (inl (l, refl)) (omega (arith, k-le))))
         go (no l) (yes m) =
             subst (Stands v a) (sym (at-after a m))
             (stands-old (at ps (a - 1)) (a - 1) a (e .rule (a - 1) (omega arith))
             (x .id-in a (omega (arith, e .rules)) ∙ put-after (r .id) (w .id) a m)
-            (x .once-in a (omega (arith, e .rules)) ∙ put-after (eqb (r .flags / 8 % 2) 1) (w .once) a m)
+            (x .once-in a (omega (arith, e .rules)) ∙ put-after (isSingle (r .flags)) (w .once) a m)
+            (x .leftmost-in a (omega (arith, e .rules)) ∙ put-after (isLeftmost (r .flags)) (w .leftmost) a m)
             (last-old (a - 1) a (inr (omega arith, omega arith)) (omega arith)))
         go (no l) (no m) =
             let z : k ≡ a = omega arith in
@@ -410,7 +427,8 @@ module _ (w v : Automaton) (k : ℕ) (r : Accepted) (parts : ℕ → Parts) (x :
             (subst (Stands v k) (sym (at-here k refl))
             (stands-new full
             (x .id-in k (omega (arith, e .rules)) ∙ put-here (r .id) (w .id))
-            (x .once-in k (omega (arith, e .rules)) ∙ put-here (eqb (r .flags / 8 % 2) 1) (w .once))
+            (x .once-in k (omega (arith, e .rules)) ∙ put-here (isSingle (r .flags)) (w .once))
+            (x .leftmost-in k (omega (arith, e .rules)) ∙ put-here (isLeftmost (r .flags)) (w .leftmost))
             last-new
             (e .rest)))
 

@@ -11,7 +11,7 @@ use lib.Seq.{take-at, drop-at}
 use borrow.Author.Tests.{leb-true, ltb-true}
 use Rattle.sets.specs.Set.{has, setOf, any, asOne, count}
 use Rattle.sets.proofs.Laws.{any-ext, count-ext, setOf-ext}
-use Rattle.table.specs.Layout.{tableWords, maxRules, maxPositions, bytes, rulesOf, positionsOf, firstAt, idAt, idWord, openerAt, ownerAt, lastAt, latesAt, followAt, takersAt, rowHas, from-to}
+use Rattle.table.specs.Layout.{tableWords, maxRules, maxPositions, bytes, rulesOf, positionsOf, leftmostsAt, keepersAt, firstAt, idAt, idWord, openerAt, ownerAt, lastAt, latesAt, followAt, takersAt, rowHas, from-to}
 use Rattle.table.specs.Gaps.{firstGaps, followGaps, lastGaps, innerGaps, unsettled}
 use Rattle.table.specs.Table.{isTable}
 use Rattle.table.proofs.Rows.{row-same}
@@ -20,7 +20,7 @@ use Rattle.table.proofs.Local.{same-word, isTable-local}
 use Rattle.pattern.specs.Walk.{Read, tree, refused}
 use Rattle.automaton.specs.declared.Parts.{Parts}
 use Rattle.rules.specs.Gaps.{partsAt}
-use Rattle.rules.specs.Words.{wordsOf, oldRow, joinedRow, placeOf, singlesWith, ownerWith, idWords, singlesWord, ownerWords, lastWords, lateWords, opener, firstWords, followWords, newTaker, takersWords, addedWord, added}
+use Rattle.rules.specs.Words.{wordsOf, oldRow, joinedRow, placeOf, digitsWith, ownerWith, isSingle, isLeftmost, idWords, singlesWord, leftmostsWord, newKeeper, keeperWords, ownerWords, lastWords, lateWords, opener, firstWords, followWords, newTaker, takersWords, addedWord, added}
 use Rattle.rules.specs.Add.{Addition, readingOf, hasId, addAnswer, withRule, addWords}
 use Rattle.rules.specs.declared.Added.{Added}
 use Rattle.rules.proofs.Regions.{length-wordsOf}
@@ -79,7 +79,15 @@ module _ (t u : List ℕ) (same : take tableWords t ≡ take tableWords u) where
 
       singles-word : singlesWord t id flags parts ≡ singlesWord u id flags parts
       unfolding singlesWord
-      singles-word = λ j. singlesWith (place j) (eqb (flags / 8 % 2) 1) (same-word t u same 3 (omega arith) j)
+      singles-word = λ j. digitsWith (place j) (isSingle flags) (same-word t u same 3 (omega arith) j)
+
+      leftmosts-word : leftmostsWord t id flags parts ≡ leftmostsWord u id flags parts
+      unfolding leftmostsWord
+      leftmosts-word = λ j. digitsWith (place j) (isLeftmost flags) (same-word t u same leftmostsAt (omega arith) j)
+
+      keeper-words : (i : ℕ) → keeperWords t id flags parts i ≡ keeperWords u id flags parts i
+      unfolding keeperWords newKeeper
+      keeper-words i = λ j. getD (setOf (λ q. old-row keepersAt (omega arith) j q || (isLeftmost flags && from-to (positions j) (positions j + parts 0 .positions) q))) i 0
 
       owner-words : (q : ℕ) → q < maxPositions → ownerWords t id flags parts q ≡ ownerWords u id flags parts q
       unfolding ownerWords
@@ -137,7 +145,9 @@ module _ (t u : List ℕ) (same : take tableWords t ≡ take tableWords u) where
           (within (takersAt 0) (takersAt bytes) w _ _ _ _ (λ a b. takers-words ((w - takersAt 0) / 4) ((w - takersAt 0) % 4) (omega arith))
           (within (followAt 0 0) (followAt followGaps 0) w _ _ _ _
           (λ a b. follow-words ((w - followAt 0 0) / 1024) ((w - followAt 0 0) % 1024 / 4) ((w - followAt 0 0) % 4) (omega arith) (omega arith) (omega arith))
-          (same-word t u same w h)))))))))
+          (ap₂ (λ (x y : ℕ). cond (eqb w leftmostsAt) x y) leftmosts-word
+          (within keepersAt (keepersAt + 4) w _ _ _ _ (λ a b. keeper-words (w - keepersAt))
+          (same-word t u same w h)))))))))))
         where
           header : (r r' p p' s s' x x' : ℕ) → r ≡ r' → p ≡ p' → s ≡ s' → x ≡ x'
               → cond (eqb w 1) (r + 1) (cond (eqb w 2) (p + parts 0 .positions) (cond (eqb w 3) s x)) ≡ cond (eqb w 1) (r' + 1) (cond (eqb w 2) (p' + parts 0 .positions) (cond (eqb w 3) s' x'))

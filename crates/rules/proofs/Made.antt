@@ -12,7 +12,7 @@ use lib.Seq.{ext-getD}
 use borrow.Author.Tests.{lt-ltb, le-ltb, le-leb, lt-leb, eq-eqb, ne-eqb}
 use Rattle.sets.specs.Set.{has, setOf, emptySet, any, asOne}
 use Rattle.sets.proofs.Laws.{setOf-ext, any-ext}
-use Rattle.table.specs.Layout.{tableWords, maxRules, maxPositions, bytes, rulesOf, positionsOf, singlesOf, firstAt, idAt, openerAt, ownerAt, lastAt, latesAt, followAt, takersAt, rowHas}
+use Rattle.table.specs.Layout.{tableWords, maxRules, maxPositions, bytes, rulesOf, positionsOf, leftmostsAt, keepersAt, firstAt, idAt, openerAt, ownerAt, lastAt, latesAt, followAt, takersAt, rowHas}
 use Rattle.table.specs.Gaps.{firstGaps, lastGaps, followGaps, innerGaps, unsettled}
 use Rattle.table.proofs.Over.{length-over, over-in, over-below, over-above}
 use Rattle.table.specs.Invariants.{movedUp}
@@ -20,12 +20,12 @@ use Rattle.regex.specs.Form.{write, positions}
 use Rattle.nodes.specs.Nodes.{Syntax}
 use Rattle.automaton.specs.declared.Parts.{Parts}
 use Rattle.rules.specs.Gaps.{holdingAt, partsAt}
-use Rattle.rules.specs.Words.{oldRow, joinedRow, placeOf, singlesWith, ownerWith, idWords, singlesWord, ownerWords, lastWords, lateWords, opener, firstWords, followWords, newTaker, takersWords, addedWord, added}
-use Rattle.rules.specs.Invariants.{mergedRow, rowsWord, mergedRows, idPut, singlesPut, ownersPut, placePut, followPut, newTakers, takersPut, gapPut, gapsPut, openerOf, openersPut, lateSet, latesPut, countsPut}
+use Rattle.rules.specs.Words.{oldRow, joinedRow, placeOf, digitsWith, ownerWith, isSingle, isLeftmost, idWords, singlesWord, leftmostsWord, newKeeper, keeperWords, ownerWords, lastWords, lateWords, opener, firstWords, followWords, newTaker, takersWords, addedWord, added}
+use Rattle.rules.specs.Invariants.{merged, mergedRow, rowsWord, mergedRows, idPut, digitsPut, ownersPut, newKeepers, keepersPut, placePut, followPut, newTakers, takersPut, gapPut, gapsPut, openerOf, openersPut, lateSet, latesPut, countsPut}
 use Rattle.rules.proofs.Rows.{row-set, merged-same, merged-none, merged-new}
 use Rattle.rules.proofs.Parts.{sized-parts}
 use Rattle.rules.proofs.Place.{place-le}
-use Rattle.rules.proofs.Regions.{word-other, word-last, word-late, word-first, word-id, word-opener, word-owner, word-takers, word-follow, length-added, added-word, added-beyond}
+use Rattle.rules.proofs.Regions.{word-other, word-keeper, word-last, word-late, word-first, word-id, word-opener, word-owner, word-takers, word-follow, length-added, added-word, added-beyond}
 use Rattle.rules.proofs.GapSets.{Out, side, split, from-to-out, over-out, follow-high, follow-old, follow-new, Free, withLast, length-last, first-out, last-out, gap-first, gap-last, gap-follow, length-gaps, gaps-out, gaps-at}
 
 -- ---- the takers of each byte
@@ -153,23 +153,43 @@ module _ (t : List ℕ) (id flags : ℕ) (parts : ℕ → Parts) (long : tableWo
       go (no p) (yes q) (yes r) =
           rw (le-ltb a k (omega arith), ne-eqb a k (λ z. omega arith), lt-leb a (rulesOf t) r) (put-high (idAt a) (omega arith))
 
--- ---- the digits of the single-match rules
+-- ---- the digits of the single-match rules, and of those that report starts
 
-module _ (k : ℕ) (single : Bool) (s : List ℕ) where
+module _ (at k : ℕ) (new : Bool) (s : List ℕ) where
   abbrev marked : ℕ → ℕ
-  marked w = getD (singlesWith k single (singlesOf s) ∷ []) (w - 3) 0
+  marked w = getD (digitsWith k new (getD s at 0) ∷ []) (w - at) 0
 
-  length-singles : length (singlesPut k single s) ≡ length s
-  unfolding singlesPut
-  length-singles = length-over 3 (3 + 1) marked s
+  length-digits : length (digitsPut at k new s) ≡ length s
+  unfolding digitsPut
+  length-digits = length-over at (at + 1) marked s
 
-  singles-out : (w : ℕ) → Out 3 4 w → getD (singlesPut k single s) w 0 ≡ getD s w 0
-  unfolding singlesPut
-  singles-out w o = over-out 3 (3 + 1) marked s w o
+  digits-out : (w : ℕ) → Out at (at + 1) w → getD (digitsPut at k new s) w 0 ≡ getD s w 0
+  unfolding digitsPut
+  digits-out w o = over-out at (at + 1) marked s w o
 
-  singles-in : tableWords ≤ length s → getD (singlesPut k single s) 3 0 ≡ singlesWith k single (singlesOf s)
-  unfolding singlesPut
-  singles-in m = over-in 3 (3 + 1) marked s 3 (omega arith) (omega arith) (omega arith)
+  digits-in : at < length s → getD (digitsPut at k new s) at 0 ≡ digitsWith k new (getD s at 0)
+  unfolding digitsPut
+  digits-in m =
+      let here : at - at ≡ 0 = omega arith in
+      over-in at (at + 1) marked s at (omega arith) (omega arith) m ∙ ap (λ (i : ℕ). getD (digitsWith k new (getD s at 0) ∷ []) i 0) here
+
+-- ---- the positions that keep a start
+
+module _ (n more : ℕ) (leftmost : Bool) (s : List ℕ) where
+  abbrev kept : List ℕ
+  kept = mergedRow s keepersAt n (newKeepers n more leftmost)
+
+  length-keepers : length (keepersPut n more leftmost s) ≡ length s
+  unfolding keepersPut merged
+  length-keepers = length-over keepersAt (keepersAt + 4) (λ w. getD kept (w - keepersAt) 0) s
+
+  keepers-out : (w : ℕ) → Out keepersAt (keepersAt + 4) w → getD (keepersPut n more leftmost s) w 0 ≡ getD s w 0
+  unfolding keepersPut merged
+  keepers-out w o = over-out keepersAt (keepersAt + 4) (λ w. getD kept (w - keepersAt) 0) s w o
+
+  keepers-in : tableWords ≤ length s → (w : ℕ) → keepersAt ≤ w → w < keepersAt + 4 → getD (keepersPut n more leftmost s) w 0 ≡ getD kept (w - keepersAt) 0
+  unfolding keepersPut merged
+  keepers-in m w h l = over-in keepersAt (keepersAt + 4) (λ w. getD kept (w - keepersAt) 0) s w h l (omega arith)
 
 -- ---- the owners
 
@@ -278,18 +298,21 @@ module _ (t : List ℕ) (id flags : ℕ) (parts : ℕ → Parts) (even : (g : �
   place-few : place < maxRules
   place-few = omega (arith, place-le t id)
 
-  abbrev single : Bool
-  single = eqb (flags / 8 % 2) 1
-
-  -- the id, its digit, the owners
+  -- the id, its digits, the owners, the keepers
   abbrev a1 : List ℕ
   a1 = idPut (rulesOf t) place id t
 
   abbrev a2 : List ℕ
-  a2 = singlesPut place single a1
+  a2 = digitsPut 3 place (isSingle flags) a1
+
+  abbrev a3 : List ℕ
+  a3 = digitsPut leftmostsAt place (isLeftmost flags) a2
+
+  abbrev a4 : List ℕ
+  a4 = ownersPut n more place a3
 
   abbrev s1 : List ℕ
-  s1 = ownersPut n more place a2
+  s1 = keepersPut n more (isLeftmost flags) a4
 
   abbrev before : ℕ → List ℕ
   before g = gapsPut g n parts s1
@@ -316,10 +339,16 @@ module _ (t : List ℕ) (id flags : ℕ) (parts : ℕ → Parts) (even : (g : �
   length-a1 = length-put t id flags parts long few
 
   length-a2 : length a2 ≡ length t
-  length-a2 = length-singles place single a1 ∙ length-a1
+  length-a2 = length-digits 3 place (isSingle flags) a1 ∙ length-a1
+
+  length-a3 : length a3 ≡ length t
+  length-a3 = length-digits leftmostsAt place (isLeftmost flags) a2 ∙ length-a2
+
+  length-a4 : length a4 ≡ length t
+  length-a4 = length-owners n more place a3 ∙ length-a3
 
   length-1 : length s1 ≡ length t
-  length-1 = length-owners n more place a2 ∙ length-a2
+  length-1 = length-keepers n more (isLeftmost flags) a4 ∙ length-a4
 
   length-before : (g : ℕ) → length (before g) ≡ length t
   length-before g = length-gaps n parts rooms s1 g ∙ length-1
@@ -348,10 +377,16 @@ module _ (t : List ℕ) (id flags : ℕ) (parts : ℕ → Parts) (even : (g : �
   at-gap = gaps-at n parts rooms s1 firstGaps
 
   -- a word that the rule's place does not touch
-  still : (w : ℕ) → Out (idAt 0) (idAt maxRules) w → Out 3 4 w → Out (ownerAt 0) (ownerAt maxPositions) w → getD s1 w 0 ≡ getD t w 0
-  still w i d o = owners-out n more place a2 w o ∙ singles-out place single a1 w d ∙ put-out t id flags parts long few w i
+  untouched : (w : ℕ) → Out (idAt 0) (idAt maxRules) w → Out 3 4 w → Out (ownerAt 0) (ownerAt maxPositions) w → Out leftmostsAt (leftmostsAt + 1) w → Out keepersAt (keepersAt + 4) w
+      → getD s1 w 0 ≡ getD t w 0
+  untouched w i d o m k =
+      keepers-out n more (isLeftmost flags) a4 w k ∙ owners-out n more place a3 w o ∙ digits-out leftmostsAt place (isLeftmost flags) a2 w m
+      ∙ digits-out 3 place (isSingle flags) a1 w d ∙ put-out t id flags parts long few w i
 
-  was : (g w : ℕ) → ((h : ℕ) → h < g → Free n h w) → Out (idAt 0) (idAt maxRules) w → Out 3 4 w → Out (ownerAt 0) (ownerAt maxPositions) w → getD (before g) w 0 ≡ getD t w 0
+  still : (w : ℕ) → Out (idAt 0) (idAt maxRules) w → Out 3 4 w → Out (ownerAt 0) (keepersAt + 4) w → getD s1 w 0 ≡ getD t w 0
+  still w i d o = untouched w i d (λ a b. o a (omega arith)) (λ a b. o (omega arith) (omega arith)) (λ a b. o (omega arith) b)
+
+  was : (g w : ℕ) → ((h : ℕ) → h < g → Free n h w) → Out (idAt 0) (idAt maxRules) w → Out 3 4 w → Out (ownerAt 0) (keepersAt + 4) w → getD (before g) w 0 ≡ getD t w 0
   was g w f i d o = gaps-out n parts rooms s1 g w f ∙ still w i d o
 
   -- ---- the sets of first positions, and of last ones
@@ -409,7 +444,8 @@ module _ (t : List ℕ) (id flags : ℕ) (parts : ℕ → Parts) (even : (g : �
   id-word w h l =
       let e : w ≡ idAt (w - idAt 0) = omega arith in
       after-gaps w (omega arith) (λ a b. omega arith) (λ a b. omega arith) (λ a b. omega arith) ∙ no-gap w (λ a b. omega arith) (λ a b. omega arith) (λ a b. omega arith)
-      ∙ owners-out n more place a2 w (λ a b. omega arith) ∙ singles-out place single a1 w (λ a b. omega arith)
+      ∙ keepers-out n more (isLeftmost flags) a4 w (λ a b. omega arith) ∙ owners-out n more place a3 w (λ a b. omega arith)
+      ∙ digits-out leftmostsAt place (isLeftmost flags) a2 w (λ a b. omega arith) ∙ digits-out 3 place (isSingle flags) a1 w (λ a b. omega arith)
       ∙ ap (λ (j : ℕ). getD a1 j 0) e ∙ put-id t id flags parts long few (w - idAt 0) (omega arith) ∙ sym (word-id t id flags parts w h l)
 
   owner-word : (w : ℕ) → ownerAt 0 ≤ w → w < ownerAt maxPositions → getD s6 w 0 ≡ addedWord t id flags parts w
@@ -417,9 +453,10 @@ module _ (t : List ℕ) (id flags : ℕ) (parts : ℕ → Parts) (even : (g : �
   owner-word w h l =
       let e : w ≡ ownerAt (w - ownerAt 0) = omega arith in
       after-gaps w (omega arith) (λ a b. omega arith) (λ a b. omega arith) (λ a b. omega arith) ∙ no-gap w (λ a b. omega arith) (λ a b. omega arith) (λ a b. omega arith)
-      ∙ owners-in n more place a2 (omega (arith, length-a2)) w h l
+      ∙ keepers-out n more (isLeftmost flags) a4 w (λ a b. omega arith) ∙ owners-in n more place a3 (omega (arith, length-a3)) w h l
       ∙ ap (ownerWith n more place (w - ownerAt 0))
-      (singles-out place single a1 w (λ a b. omega arith) ∙ put-out t id flags parts long few w (λ a b. omega arith) ∙ ap (λ (j : ℕ). getD t j 0) e)
+      (digits-out leftmostsAt place (isLeftmost flags) a2 w (λ a b. omega arith) ∙ digits-out 3 place (isSingle flags) a1 w (λ a b. omega arith)
+      ∙ put-out t id flags parts long few w (λ a b. omega arith) ∙ ap (λ (j : ℕ). getD t j 0) e)
       ∙ sym (word-owner t id flags parts w h l)
 
   follow-word : (w : ℕ) → followAt 0 0 ≤ w → w < followAt followGaps 0 → getD s6 w 0 ≡ addedWord t id flags parts w
@@ -492,9 +529,33 @@ module _ (t : List ℕ) (id flags : ℕ) (parts : ℕ → Parts) (even : (g : �
   header-word (suc (suc zero)) h = counts-positions (rulesOf t + 1) (n + more) s5 (omega (arith, length-5))
   header-word (suc (suc (suc zero))) h =
       after-gaps 3 (omega arith) (λ a b. omega arith) (λ a b. omega arith) (λ a b. omega arith) ∙ no-gap 3 (λ a b. omega arith) (λ a b. omega arith) (λ a b. omega arith)
-      ∙ owners-out n more place a2 3 (λ a b. omega arith) ∙ singles-in place single a1 (omega (arith, length-a1))
-      ∙ ap (singlesWith place single) (put-out t id flags parts long few 3 (λ a b. omega arith))
+      ∙ keepers-out n more (isLeftmost flags) a4 3 (λ a b. omega arith) ∙ owners-out n more place a3 3 (λ a b. omega arith)
+      ∙ digits-out leftmostsAt place (isLeftmost flags) a2 3 (λ a b. omega arith) ∙ digits-in 3 place (isSingle flags) a1 (omega (arith, length-a1))
+      ∙ ap (digitsWith place (isSingle flags)) (put-out t id flags parts long few 3 (λ a b. omega arith))
   header-word (suc (suc (suc (suc w)))) h = absurd (omega arith)
+
+  leftmosts-word : (w : ℕ) → leftmostsAt ≤ w → w < leftmostsAt + 1 → getD s6 w 0 ≡ addedWord t id flags parts w
+  unfolding addedWord leftmostsWord
+  leftmosts-word w h l =
+      let here : w ≡ leftmostsAt = omega arith in
+      ap (λ (j : ℕ). getD s6 j 0) here
+      ∙ after-gaps leftmostsAt (omega arith) (λ a b. omega arith) (λ a b. omega arith) (λ a b. omega arith) ∙ no-gap leftmostsAt (λ a b. omega arith) (λ a b. omega arith) (λ a b. omega arith)
+      ∙ keepers-out n more (isLeftmost flags) a4 leftmostsAt (λ a b. omega arith) ∙ owners-out n more place a3 leftmostsAt (λ a b. omega arith)
+      ∙ digits-in leftmostsAt place (isLeftmost flags) a2 (omega (arith, length-a2))
+      ∙ ap (digitsWith place (isLeftmost flags)) (digits-out 3 place (isSingle flags) a1 leftmostsAt (λ a b. omega arith) ∙ put-out t id flags parts long few leftmostsAt (λ a b. omega arith))
+      ∙ ap (addedWord t id flags parts) (sym here)
+
+  keeper-word : (w : ℕ) → keepersAt ≤ w → w < keepersAt + 4 → getD s6 w 0 ≡ addedWord t id flags parts w
+  unfolding keeperWords newKeeper oldRow newKeepers
+  keeper-word w h l =
+      after-gaps w (omega arith) (λ a b. omega arith) (λ a b. omega arith) (λ a b. omega arith) ∙ no-gap w (λ a b. omega arith) (λ a b. omega arith) (λ a b. omega arith)
+      ∙ keepers-in n more (isLeftmost flags) a4 (omega (arith, length-a4)) w h l
+      ∙ ap (λ (r : List ℕ). getD r (w - keepersAt) 0)
+      (merged-same a4 t keepersAt n (newKeepers n more (isLeftmost flags)) (λ j k.
+      owners-out n more place a3 (keepersAt + j) (λ a b. omega arith) ∙ digits-out leftmostsAt place (isLeftmost flags) a2 (keepersAt + j) (λ a b. omega arith)
+      ∙ digits-out 3 place (isSingle flags) a1 (keepersAt + j) (λ a b. omega arith) ∙ put-out t id flags parts long few (keepersAt + j) (λ a b. omega arith))
+      ∙ merged-new t keepersAt n (newKeeper t id flags parts))
+      ∙ sym (word-keeper t id flags parts w h l)
 
   -- no region has word w
   pub record Nowhere (w : ℕ) : Type 0 where
@@ -507,6 +568,8 @@ module _ (t : List ℕ) (id flags : ℕ) (parts : ℕ → Parts) (even : (g : �
     pub owners : Out (ownerAt 0) (ownerAt maxPositions) w
     pub takers : Out (takersAt 0) (takersAt bytes) w
     pub follows : Out (followAt 0 0) (followAt followGaps 0) w
+    pub leftmosts : Out leftmostsAt (leftmostsAt + 1) w
+    pub keepers : Out keepersAt (keepersAt + 4) w
 
   -- it stays
   no-region : (w : ℕ) → Nowhere w → getD t w 0 ≡ addedWord t id flags parts w
@@ -523,12 +586,14 @@ module _ (t : List ℕ) (id flags : ℕ) (parts : ℕ → Parts) (even : (g : �
         owner = from-to-out (ownerAt 0) (ownerAt maxPositions) w (o .owners);
         takers = from-to-out (takersAt 0) (takersAt bytes) w (o .takers);
         follow = from-to-out (followAt 0 0) (followAt followGaps 0) w (o .follows);
+        leftmosts = ne-eqb w leftmostsAt (λ z. o .leftmosts (omega arith) (omega arith));
+        keepers = from-to-out keepersAt (keepersAt + 4) w (o .keepers);
       }))
 
   plain-word : (w : ℕ) → Nowhere w → getD s6 w 0 ≡ addedWord t id flags parts w
   plain-word w o =
       side 0 4 w (λ a. absurd (omega arith)) (λ a b. absurd (o .header a b)) (λ a. after-gaps w (omega arith) (o .lates) (o .openers) (o .takers))
-      ∙ no-gap w (o .firsts) (o .lasts) (o .follows) ∙ still w (o .ids) (λ a b. o .header (omega arith) (omega arith)) (o .owners) ∙ no-region w o
+      ∙ no-gap w (o .firsts) (o .lasts) (o .follows) ∙ untouched w (o .ids) (λ a b. o .header (omega arith) (omega arith)) (o .owners) (o .leftmosts) (o .keepers) ∙ no-region w o
 
   word-is : (w : ℕ) → getD s6 w 0 ≡ addedWord t id flags parts w
   word-is w =
@@ -541,7 +606,9 @@ module _ (t : List ℕ) (id flags : ℕ) (parts : ℕ → Parts) (even : (g : �
       (λ j. split (ownerAt 0) (ownerAt maxPositions) w (owner-word w)
       (λ l. split (takersAt 0) (takersAt bytes) w (takers-word w)
       (λ k. split (followAt 0 0) (followAt followGaps 0) w (follow-word w)
-      (λ m. plain-word w (record { header = h; lasts = e; lates = d; firsts = f; ids = i; openers = j; owners = l; takers = k; follows = m }))))))))))
+      (λ m. split leftmostsAt (leftmostsAt + 1) w (leftmosts-word w)
+      (λ y. split keepersAt (keepersAt + 4) w (keeper-word w)
+      (λ z. plain-word w (record { header = h; lasts = e; lates = d; firsts = f; ids = i; openers = j; owners = l; takers = k; follows = m; leftmosts = y; keepers = z }))))))))))))
 
   made : s6 ≡ added t id flags parts
   made =
@@ -561,6 +628,8 @@ module _ (t : List ℕ) (id flags : ℕ) (parts : ℕ → Parts) (even : (g : �
             owners = λ a b. omega arith;
             takers = λ a b. omega arith;
             follows = λ a b. omega arith;
+            leftmosts = λ a b. omega arith;
+            keepers = λ a b. omega arith;
           }))
           ∙ sym (added-beyond t id flags parts long w (omega arith))
 
@@ -572,15 +641,15 @@ module _ (t : List ℕ) (id flags : ℕ) (x : Syntax) (long : tableWords ≤ len
   sizes : (g : ℕ) → parts g .positions ≡ positions (write x)
   sizes g = sized-parts x (positionsOf t) (holdingAt g) room
 
-  pub added-is : (p : Parts) → p ≡ partsAt x (positionsOf t) 0 → (single : Bool) → single ≡ eqb (flags / 8 % 2) 1 → (a b c d d' e : List ℕ)
-      → a ≡ placePut (rulesOf t) (positionsOf t) (p .positions) id single t → b ≡ gapsPut firstGaps (positionsOf t) (partsAt x (positionsOf t)) a
+  pub added-is : (p : Parts) → p ≡ partsAt x (positionsOf t) 0 → (a b c d d' e : List ℕ)
+      → a ≡ placePut (rulesOf t) (positionsOf t) (p .positions) id (isSingle flags) (isLeftmost flags) t → b ≡ gapsPut firstGaps (positionsOf t) (partsAt x (positionsOf t)) a
       → c ≡ takersPut (positionsOf t) (p .takes) (p .positions) b → d ≡ openersPut c → d' ≡ latesPut d
       → e ≡ countsPut (rulesOf t + 1) (positionsOf t + p .positions) d'
       → e ≡ added t id flags (partsAt x (positionsOf t))
   unfolding placeOf placePut
-  added-is p is single one a b c d d' e f g h i i' j =
-      let first : a ≡ placePut (rulesOf t) (positionsOf t) (parts 0 .positions) id (eqb (flags / 8 % 2) 1) t =
-      f ∙ ap₂ (λ (q : Parts) (s : Bool). placePut (rulesOf t) (positionsOf t) (q .positions) id s t) is one in
+  added-is p is a b c d d' e f g h i i' j =
+      let first : a ≡ placePut (rulesOf t) (positionsOf t) (parts 0 .positions) id (isSingle flags) (isLeftmost flags) t =
+      f ∙ ap (λ (q : Parts). placePut (rulesOf t) (positionsOf t) (q .positions) id (isSingle flags) (isLeftmost flags) t) is in
       j ∙ ap₂ (λ (q : Parts) (l : List ℕ). countsPut (rulesOf t + 1) (positionsOf t + q .positions) l) is
       (i' ∙ ap latesPut (i ∙ ap openersPut
       (h ∙ ap₂ (λ (q : Parts) (l : List ℕ). takersPut (positionsOf t) (q .takes) (q .positions) l) is

@@ -1,6 +1,6 @@
 -- The table with one rule more, read region by region: the header, the last sets at each gap, the late
 -- positions, the first sets at each gap, the ids, the openers, the owners, the takers of each byte, the
--- follow sets at each gap. Each word lies in one region, so the tests of the others fail.
+-- follow sets at each gap, the rules and the positions with starts. Each word lies in one region, so the tests of the others fail.
 use mathlib.Core.Path.{_≡_, refl, sym, ap, ap₂, _∙_}
 use mathlib.Core.Bool.{false}
 use mathlib.Core.List.{List, [], _∷_, _++_}
@@ -13,11 +13,11 @@ use lib.Dec.{eqb}
 use lib.ListN.{length, getD, drop, length-append, length-drop, List·getD-append}
 use lib.Seq.{getD-append-add, getD-drop, getD-at}
 use borrow.Author.Tests.{ne-eqb}
-use Rattle.table.specs.Layout.{tableWords, maxRules, maxPositions, bytes, rulesOf, positionsOf, singlesOf, firstAt, lastAt, latesAt, idAt, openerAt, ownerAt, followAt, takersAt, from-to}
+use Rattle.table.specs.Layout.{tableWords, maxRules, maxPositions, bytes, rulesOf, positionsOf, singlesOf, leftmostsAt, leftmostsOf, keepersAt, firstAt, lastAt, latesAt, idAt, openerAt, ownerAt, followAt, takersAt, from-to}
 use Rattle.table.specs.Gaps.{firstGaps, followGaps, lastGaps}
-use Rattle.table.proofs.Over.{from-to-in, from-to-above}
+use Rattle.table.proofs.Over.{from-to-in, from-to-below, from-to-above}
 use Rattle.automaton.specs.declared.Parts.{Parts}
-use Rattle.rules.specs.Words.{wordsOf, idWords, singlesWord, opener, ownerWords, lastWords, lateWords, firstWords, followWords, takersWords, addedWord, added}
+use Rattle.rules.specs.Words.{wordsOf, idWords, singlesWord, leftmostsWord, keeperWords, opener, ownerWords, lastWords, lateWords, firstWords, followWords, takersWords, addedWord, added}
 
 -- ---- words by their index
 
@@ -50,6 +50,8 @@ pub record Apart (w : ℕ) : Type 0 where
   pub owner : from-to (ownerAt 0) (ownerAt maxPositions) w ≡ false
   pub takers : from-to (takersAt 0) (takersAt bytes) w ≡ false
   pub follow : from-to (followAt 0 0) (followAt followGaps 0) w ≡ false
+  pub leftmosts : eqb w leftmostsAt ≡ false
+  pub keepers : from-to keepersAt (keepersAt + 4) w ≡ false
 
 -- ---- the table with one rule more
 
@@ -58,7 +60,7 @@ module _ (t : List ℕ) (id flags : ℕ) (parts : ℕ → Parts) where
 
   pub word-other : (w : ℕ) → Apart w → addedWord t id flags parts w ≡ getD t w 0
   unfolding addedWord
-  word-other w a = rw (a .rules, a .positions, a .singles, a .last, a .late, a .first, a .ids, a .opener, a .owner, a .takers, a .follow)
+  word-other w a = rw (a .rules, a .positions, a .singles, a .last, a .late, a .first, a .ids, a .opener, a .owner, a .takers, a .follow, a .leftmosts, a .keepers)
 
   pub word-last : (w : ℕ) → lastAt 0 ≤ w → w < lastAt lastGaps → addedWord t id flags parts w ≡ lastWords t id flags parts ((w - lastAt 0) / 4) ((w - lastAt 0) % 4)
   unfolding addedWord
@@ -91,6 +93,25 @@ module _ (t : List ℕ) (id flags : ℕ) (parts : ℕ → Parts) where
   pub word-follow : (w : ℕ) → followAt 0 0 ≤ w → w < followAt followGaps 0 → addedWord t id flags parts w ≡ followWords t id flags parts ((w - followAt 0 0) / 1024) ((w - followAt 0 0) % 1024 / 4) ((w - followAt 0 0) % 4)
   unfolding addedWord
   word-follow w h l = rw (ne-eqb w 1 (λ z. omega arith), ne-eqb w 2 (λ z. omega arith), ne-eqb w 3 (λ z. omega arith), from-to-above (lastAt 0) (lastAt lastGaps) w (omega arith), from-to-above latesAt (latesAt + 4) w (omega arith), from-to-above (firstAt 0) (firstAt firstGaps) w (omega arith), from-to-above (idAt 0) (idAt maxRules) w (omega arith), from-to-above (openerAt 0) (openerAt bytes) w (omega arith), from-to-above (ownerAt 0) (ownerAt maxPositions) w (omega arith), from-to-above (takersAt 0) (takersAt bytes) w (omega arith), from-to-in (followAt 0 0) (followAt followGaps 0) w h l)
+
+  pub word-keeper : (w : ℕ) → keepersAt ≤ w → w < keepersAt + 4 → addedWord t id flags parts w ≡ keeperWords t id flags parts (w - keepersAt)
+  unfolding addedWord
+  word-keeper w h l =
+      rw (
+        ne-eqb w 1 (λ z. omega arith),
+        ne-eqb w 2 (λ z. omega arith),
+        ne-eqb w 3 (λ z. omega arith),
+        from-to-above (lastAt 0) (lastAt lastGaps) w (omega arith),
+        from-to-above latesAt (latesAt + 4) w (omega arith),
+        from-to-above (firstAt 0) (firstAt firstGaps) w (omega arith),
+        from-to-above (idAt 0) (idAt maxRules) w (omega arith),
+        from-to-above (openerAt 0) (openerAt bytes) w (omega arith),
+        from-to-above (ownerAt 0) (ownerAt maxPositions) w (omega arith),
+        from-to-below (takersAt 0) (takersAt bytes) w (omega arith),
+        from-to-below (followAt 0 0) (followAt followGaps 0) w (omega arith),
+        ne-eqb w leftmostsAt (λ z. omega arith),
+        from-to-in keepersAt (keepersAt + 4) w h l,
+      )
 
   module _ (long : tableWords ≤ length t) where
     -- ---- the list of words
@@ -125,7 +146,7 @@ module _ (t : List ℕ) (id flags : ℕ) (parts : ℕ → Parts) where
     pub added-format : getD (added t id flags parts) 0 0 ≡ getD t 0 0
     added-format =
         added-word 0 (omega arith)
-        ∙ word-other 0 (record { rules = refl; positions = refl; singles = refl; last = refl; late = refl; first = refl; ids = refl; opener = refl; owner = refl; takers = refl; follow = refl })
+        ∙ word-other 0 (record { rules = refl; positions = refl; singles = refl; last = refl; late = refl; first = refl; ids = refl; opener = refl; owner = refl; takers = refl; follow = refl; leftmosts = refl; keepers = refl })
 
     pub added-rules : rulesOf (added t id flags parts) ≡ rulesOf t + 1
     unfolding addedWord
@@ -138,6 +159,15 @@ module _ (t : List ℕ) (id flags : ℕ) (parts : ℕ → Parts) where
     pub added-singles : singlesOf (added t id flags parts) ≡ singlesWord t id flags parts
     unfolding addedWord
     added-singles = added-word 3 (omega arith)
+
+    pub added-leftmosts : leftmostsOf (added t id flags parts) ≡ leftmostsWord t id flags parts
+    unfolding addedWord
+    added-leftmosts = added-word leftmostsAt (omega arith)
+
+    pub added-keeper : (i : ℕ) → i < 4 → getD (added t id flags parts) (keepersAt + i) 0 ≡ keeperWords t id flags parts i
+    added-keeper i l =
+        let e : keepersAt + i - keepersAt ≡ i = omega arith in
+        added-word (keepersAt + i) (omega arith) ∙ word-keeper (keepersAt + i) (omega arith) (omega arith) ∙ ap (keeperWords t id flags parts) e
 
     pub added-last : (g i : ℕ) → g < lastGaps → i < 4 → getD (added t id flags parts) (lastAt g + i) 0 ≡ lastWords t id flags parts g i
     added-last g i h l =

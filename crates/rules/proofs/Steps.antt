@@ -7,12 +7,12 @@ use native.Mathlib.Nat.{add-zero}
 use native.Mathlib.Numerals.{add-one}
 use native.Mathlib.Decide.{decLt}
 use native.Mathlib.Omega.{arith}
-use lib.Dec.{eqb}
+use lib.Dec.{eqb, ltb}
 use lib.ListN.{length, getD}
 use borrow.Author.Tests.{lt-ltb, le-ltb, eq-eqb, ne-eqb}
-use Rattle.sets.specs.Set.{has, setOf, emptySet, inserted, unionOf, intersectionOf, complementOf, keptBelow, isEmpty, any, count, asOne}
-use Rattle.sets.proofs.Laws.{has-setOf, has-intersection, setOf-ext, inserted-setOf, union-setOf, intersection-setOf, complement-setOf, any-ext}
-use Rattle.table.specs.Layout.{maxPositions, singlesOf, firstAt, idAt, idWord, lastAt, latesAt, followAt, takersAt, rowHas, from-to}
+use Rattle.sets.specs.Set.{has, setOf, emptySet, fullSet, inserted, unionOf, intersectionOf, complementOf, keptBelow, isEmpty, any, count, asOne}
+use Rattle.sets.proofs.Laws.{has-setOf, has-full, has-intersection, setOf-ext, inserted-setOf, union-setOf, intersection-setOf, complement-setOf, any-ext}
+use Rattle.table.specs.Layout.{maxPositions, leftmostsAt, keepersAt, firstAt, idAt, idWord, lastAt, latesAt, followAt, takersAt, rowHas, from-to}
 use Rattle.table.specs.Gaps.{lastGaps, followGaps, innerGaps, unsettled}
 use Rattle.table.proofs.Over.{from-to-in, from-to-below, from-to-above, over, Written, written-none, written-above, written-block, written-all}
 use Rattle.table.specs.Invariants.{copied, movedUp}
@@ -20,8 +20,8 @@ use Rattle.nodes.specs.Nodes.{Syntax, asserts}
 use Rattle.automaton.specs.declared.Parts.{Parts}
 use Rattle.automaton.proofs.Unasserted.{same-parts}
 use Rattle.rules.specs.Gaps.{holdingAt, partsAt}
-use Rattle.rules.specs.Words.{singlesWith}
-use Rattle.rules.specs.Invariants.{merged, mergedRow, rowsWord, mergedRows, smaller, idPut, singlesPut, ownersPut, placePut, newTakers, followPut, gapPut, gapsPut, innerRows, lateSet, latesPut, openerOf}
+use Rattle.rules.specs.Words.{digitsWith}
+use Rattle.rules.specs.Invariants.{merged, mergedRow, rowsWord, mergedRows, smaller, idPut, digitsPut, ownersPut, newKeepers, keepersPut, placePut, newTakers, followPut, gapPut, gapsPut, innerRows, lateSet, latesPut, openerOf}
 use Rattle.rules.proofs.Rows.{merged-words, merged-same}
 
 -- ---- one row
@@ -128,15 +128,42 @@ pub id-is : (rules k id : ℕ) (t s1 s2 : List ℕ) → s1 ≡ movedUp (idAt k) 
 unfolding idPut
 id-is rules k id t s1 s2 a b = b ∙ ap (copied (idAt k) 1 (id ∷ [])) a
 
-pub singles-is : (k : ℕ) (single : Bool) (new : ℕ) (t s : List ℕ) → new ≡ singlesWith k single (singlesOf t) → s ≡ copied 3 1 (new ∷ []) t → s ≡ singlesPut k single t
-unfolding singlesPut
-singles-is k single new t s a b = b ∙ ap (λ (x : ℕ). copied 3 1 (x ∷ []) t) a
+pub digits-is : (at k : ℕ) (new : Bool) (word : ℕ) (t s : List ℕ) → word ≡ digitsWith k new (getD t at 0) → s ≡ copied at 1 (word ∷ []) t → s ≡ digitsPut at k new t
+unfolding digitsPut
+digits-is at k new word t s a b = b ∙ ap (λ (x : ℕ). copied at 1 (x ∷ []) t) a
 
-pub place-is : (rules n more id k : ℕ) (single : Bool) (t s1 s2 s3 : List ℕ) → k ≡ count rules (smaller t id) → s1 ≡ idPut rules k id t → s2 ≡ singlesPut k single s1
-    → s3 ≡ ownersPut n more k s2 → s3 ≡ placePut rules n more id single t
+-- the positions from n on: below n + more, and not below n
+pub keepers-new : (n more : ℕ) (all old rest : List ℕ) → all ≡ keptBelow fullSet (n + more) → old ≡ keptBelow fullSet n → rest ≡ complementOf old
+    → intersectionOf all rest ≡ newKeepers n more true
+unfolding newKeepers keptBelow
+keepers-new n more all old rest a b c =
+    ap₂ intersectionOf (a ∙ under (n + more)) (c ∙ ap complementOf (b ∙ under n) ∙ complement-setOf (λ q. ltb q n))
+    ∙ intersection-setOf (λ q. ltb q (n + more)) (λ q. not (ltb q n))
+    ∙ setOf-ext (λ q. ltb q (n + more) && not (ltb q n)) (λ q. true && from-to n (n + more) q) (λ q h. go q (decLt q n) (decLt q (n + more)))
+  where
+    under : (m : ℕ) → setOf (λ q. has fullSet q && ltb q m) ≡ setOf (λ q. ltb q m)
+    under m = setOf-ext (λ q. has fullSet q && ltb q m) (λ q. ltb q m) (λ q h. ap (λ (b : Bool). b && ltb q m) (has-full q h))
+
+    go : (q : ℕ) → Dec (q < n) → Dec (q < n + more) → (ltb q (n + more) && not (ltb q n)) ≡ from-to n (n + more) q
+    go q (yes l) d = ap (λ (b : Bool). ltb q (n + more) && not b) (lt-ltb q n l) ∙ and-false (ltb q (n + more)) ∙ sym (from-to-below n (n + more) q l)
+    go q (no l) (yes m) = ap₂ (λ (b c : Bool). b && not c) (lt-ltb q (n + more) m) (le-ltb q n (omega arith)) ∙ sym (from-to-in n (n + more) q (omega arith) m)
+    go q (no l) (no m) = ap (λ (b : Bool). b && not (ltb q n)) (le-ltb q (n + more) (omega arith)) ∙ sym (from-to-above n (n + more) q (omega arith))
+
+pub keepers-none : (n more : ℕ) → emptySet ≡ newKeepers n more false
+unfolding emptySet newKeepers
+keepers-none n more = refl
+
+pub keepers-is : (n more : ℕ) (leftmost : Bool) (new t s : List ℕ) → new ≡ newKeepers n more leftmost → s ≡ merged keepersAt n new t → s ≡ keepersPut n more leftmost t
+unfolding keepersPut
+keepers-is n more leftmost new t s a b = b ∙ ap (λ (l : List ℕ). merged keepersAt n l t) a
+
+pub place-is : (rules n more id k : ℕ) (single leftmost : Bool) (t s1 s2 s3 s4 s5 : List ℕ) → k ≡ count rules (smaller t id) → s1 ≡ idPut rules k id t
+    → s2 ≡ digitsPut 3 k single s1 → s3 ≡ digitsPut leftmostsAt k leftmost s2 → s4 ≡ ownersPut n more k s3 → s5 ≡ keepersPut n more leftmost s4
+    → s5 ≡ placePut rules n more id single leftmost t
 unfolding placePut
-place-is rules n more id k single t s1 s2 s3 place a b c =
-    c ∙ ap (ownersPut n more k) (b ∙ ap (singlesPut k single) a) ∙ ap (λ (j : ℕ). ownersPut n more j (singlesPut j single (idPut rules j id t))) place
+place-is rules n more id k single leftmost t s1 s2 s3 s4 s5 place a b c d e =
+    e ∙ ap (keepersPut n more leftmost) (d ∙ ap (ownersPut n more k) (c ∙ ap (digitsPut leftmostsAt k leftmost) (b ∙ ap (digitsPut 3 k single) a))
+    ∙ ap (λ (j : ℕ). ownersPut n more j (digitsPut leftmostsAt j leftmost (digitsPut 3 j single (idPut rules j id t)))) place)
 
 -- ---- the sets of the gaps between two bytes
 

@@ -12,16 +12,16 @@ use borrow.Author.Tests.{lt-ltb, le-ltb, eq-eqb, ne-eqb}
 use Rattle.sets.specs.Set.{on, has, any, asOne}
 use Rattle.sets.proofs.Digits.{on-wordOf}
 use Rattle.sets.proofs.Laws.{any-ext}
-use Rattle.table.specs.Layout.{tableWords, maxRules, maxPositions, bytes, rulesOf, positionsOf, singlesOf, firstAt, idWord, ownerAt, lastAt, followAt, takersAt, rowHas, from-to, latesAt}
+use Rattle.table.specs.Layout.{tableWords, maxRules, maxPositions, bytes, rulesOf, positionsOf, singlesOf, leftmostsOf, keepersAt, firstAt, idWord, ownerAt, lastAt, followAt, takersAt, rowHas, from-to, latesAt}
 use Rattle.table.specs.Gaps.{firstGaps, lastGaps, followGaps, innerGaps, unsettled}
 use Rattle.table.specs.Automaton.{Automaton, automaton}
 use Rattle.table.proofs.Lates.{LatesAre}
 use Rattle.table.proofs.Rows.{row-same, under}
 use Rattle.automaton.specs.declared.Parts.{Parts}
-use Rattle.rules.specs.Words.{oldRow, joinedRow, placeOf, raised, singlesWith, singlesWord, ownerWith, ownerWords, lastWords, lateWords, opener, firstWords, followWords, newTaker, takersWords, added}
+use Rattle.rules.specs.Words.{oldRow, joinedRow, placeOf, raised, digitsWith, isSingle, isLeftmost, singlesWord, leftmostsWord, newKeeper, keeperWords, ownerWith, ownerWords, lastWords, lateWords, opener, firstWords, followWords, newTaker, takersWords, added}
 use Rattle.rules.proofs.Rows.{row-set}
 use Rattle.rules.proofs.Place.{place-le}
-use Rattle.rules.proofs.Regions.{added-rules, added-positions, added-singles, added-last, added-late, added-first, added-opener, added-owner, added-follow, added-takers}
+use Rattle.rules.proofs.Regions.{added-rules, added-positions, added-singles, added-leftmosts, added-keeper, added-last, added-late, added-first, added-opener, added-owner, added-follow, added-takers}
 use Rattle.rules.proofs.Kept.{id-before, id-there, id-after}
 
 -- what stands at place a once x is put in at place k
@@ -34,7 +34,10 @@ pub record Extended (w v : Automaton) (k id flags : ℕ) (parts : ℕ → Parts)
   pub positions : v .positions ≡ w .positions + parts 0 .positions
   pub id-in : (a : ℕ) → a ≤ w .rules → v .id a ≡ putIn k id (w .id) a
   pub few : w .rules < maxRules
-  pub once-in : (a : ℕ) → a ≤ w .rules → v .once a ≡ putIn k (eqb (flags / 8 % 2) 1) (w .once) a
+  pub once-in : (a : ℕ) → a ≤ w .rules → v .once a ≡ putIn k (isSingle flags) (w .once) a
+  pub leftmost-in : (a : ℕ) → a ≤ w .rules → v .leftmost a ≡ putIn k (isLeftmost flags) (w .leftmost) a
+  pub keeps-in : (q : ℕ) → q < maxPositions → v .keeps q
+      ≡ ((ltb q (w .positions) && w .keeps q) || (isLeftmost flags && from-to (w .positions) (w .positions + parts 0 .positions) q))
   pub opens : (x : ℕ) → x < bytes → v .opens x ≡ any maxPositions (λ q. v .takes x q && any innerGaps (λ g. v .first g q))
   pub takes : (x q : ℕ) → x < bytes → q < maxPositions → v .takes x q
       ≡ ((ltb q (w .positions) && w .takes x q)
@@ -84,11 +87,22 @@ module _ (t : List ℕ) (id flags : ℕ) (parts : ℕ → Parts) (long : tableWo
           rw (le-ltb a k (omega arith), eq-eqb a k same) (ap (idWord u) same ∙ id-there t id flags parts long few)
       go (no y) (yes z) = rw (le-ltb a k (omega arith), ne-eqb a k (λ m. omega arith)) (id-after t id flags parts long few a z h ∙ old (a - 1) (omega arith))
 
-  once-in : (a : ℕ) → a ≤ rulesOf t → v .once a ≡ putIn k (eqb (flags / 8 % 2) 1) (w .once) a
-  unfolding automaton singlesWord singlesWith
-  once-in a h =
-      ap (λ (x : ℕ). on x a) (added-singles t id flags parts long)
-      ∙ on-wordOf 64 (λ a. cond (ltb a k) (on (singlesOf t) a) (cond (eqb a k) (eqb (flags / 8 % 2) 1) (on (singlesOf t) (a - 1)))) a (omega arith)
+  -- the digit of place a, once one is put in
+  digit-in : (new : Bool) (old a : ℕ) → a ≤ rulesOf t → on (digitsWith k new old) a ≡ putIn k new (on old) a
+  unfolding digitsWith
+  digit-in new old a h = on-wordOf 64 (λ a. cond (ltb a k) (on old a) (cond (eqb a k) new (on old (a - 1)))) a (omega arith)
+
+  once-in : (a : ℕ) → a ≤ rulesOf t → v .once a ≡ putIn k (isSingle flags) (w .once) a
+  unfolding automaton singlesWord
+  once-in a h = ap (λ (x : ℕ). on x a) (added-singles t id flags parts long) ∙ digit-in (isSingle flags) (singlesOf t) a h
+
+  leftmost-in : (a : ℕ) → a ≤ rulesOf t → v .leftmost a ≡ putIn k (isLeftmost flags) (w .leftmost) a
+  unfolding automaton leftmostsWord
+  leftmost-in a h = ap (λ (x : ℕ). on x a) (added-leftmosts t id flags parts long) ∙ digit-in (isLeftmost flags) (leftmostsOf t) a h
+
+  keeps-in : (q : ℕ) → q < maxPositions → v .keeps q ≡ ((ltb q n && w .keeps q) || (isLeftmost flags && from-to n (n + parts 0 .positions) q))
+  unfolding automaton keeperWords newKeeper oldRow
+  keeps-in q l = row-set u keepersAt (λ q. oldRow t keepersAt q || newKeeper t id flags parts q) (λ i m. added-keeper t id flags parts long i m) q l
 
   -- ---- the sets of last positions, and the owners
 
@@ -206,6 +220,8 @@ module _ (t : List ℕ) (id flags : ℕ) (parts : ℕ → Parts) (long : tableWo
         id-in = id-in;
         few = few;
         once-in = once-in;
+        leftmost-in = leftmost-in;
+        keeps-in = keeps-in;
         opens = opens-in;
         takes = takes-in;
         first = first-in;

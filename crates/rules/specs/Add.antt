@@ -1,5 +1,5 @@
 -- The answer of an addition, and the words afterwards. Assumes nothing: these are definitions.
-use mathlib.Core.Bool.{Bool, cond, not}
+use mathlib.Core.Bool.{Bool, cond, not, _&&_}
 use mathlib.Core.List.{List}
 use Prim.Native.Nat.{ℕ, _+_}
 use lib.Bits.{bitAnd}
@@ -13,7 +13,7 @@ use Rattle.regex.specs.Count.{limit}
 use Rattle.pattern.specs.Walk.{Read, tree, refused}
 use Rattle.pattern.specs.Read.{tooLong, readOf, optionsOf}
 use Rattle.rules.specs.Gaps.{partsAt}
-use Rattle.rules.specs.Words.{added}
+use Rattle.rules.specs.Words.{isSingle, isLeftmost, added}
 use Rattle.rules.specs.declared.Added.{Added}
 
 -- what an addition is handed besides the words: "Ids: any 32-bit number", flags, pattern bytes
@@ -33,11 +33,15 @@ readingOf a = readOf (a .pattern) (optionsOf (a .flags))
 abbrev pub answer : (number place : ℕ) → Added
 answer number place = record { number = number; place = place }
 
--- 2: "a flag bit other than 1, 2, 8", and "Refusal 2 lets 4 through"; 3: "id already in the table";
+-- 2: "a flag bit other than 1, 2, 8", and it lets 4 and 256 through; 3: "id already in the table";
 -- 4 and 5: "Raise the rules in a table to 64 and the pattern to 1,024 bytes; refusals 4 and 5 move
 -- with them."
 unfoldable pub unknownFlag : ℕ → Bool
 unknownFlag flags = not (eqb (bitAnd flags knownFlags) flags)
+
+-- 24: "Flag 256 with flag 8 is refused with 24, checked right after 2, place 0."
+unfoldable pub singleStart : ℕ → Bool
+singleStart flags = isSingle flags && isLeftmost flags
 
 unfoldable pub hasId : List ℕ → ℕ → Bool
 hasId t id = any (rulesOf t) (λ a. eqb (idWord t a) id)
@@ -48,16 +52,17 @@ unfoldable pub placed : (used len : ℕ) → Read → Added
 placed used len (refused number place) = answer number place
 placed used len (tree x) = cond (ltb limit (used + positions (write x))) (answer 17 len) (answer 0 0)
 
--- "Additions check 1 to 5 in order, then read the pattern left to right"; "1 to 5 have place 0";
--- "An accepted one has place 0."
+-- "Additions check 1 to 5 in order", 24 right after 2, "then read the pattern left to right"; "1 to
+-- 5 have place 0"; "An accepted one has place 0."
 unfoldable pub addAnswer : List ℕ → Addition → Added
 addAnswer t a =
     cond (isTable t)
     (cond (unknownFlag (a .flags)) (answer 2 0)
+    (cond (singleStart (a .flags)) (answer 24 0)
     (cond (hasId t (a .id)) (answer 3 0)
     (cond (leb maxRules (rulesOf t)) (answer 4 0)
     (cond (tooLong (a .pattern)) (answer 5 0)
-    (placed (positionsOf t) (length (a .pattern)) (readingOf a))))))
+    (placed (positionsOf t) (length (a .pattern)) (readingOf a)))))))
     (answer 1 0)
 
 -- the words with an accepted rule

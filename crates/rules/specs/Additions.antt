@@ -2,16 +2,17 @@
 -- of the table. Assumes nothing: these are definitions.
 use mathlib.Core.Bool.{Bool, false, cond, _||_}
 use mathlib.Core.List.{List, [], _∷_, _++_}
-use Prim.Native.Nat.{ℕ, _+_, _/_, _%_, _^_, _<_}
+use Prim.Native.Nat.{ℕ, _+_, _^_, _<_}
 use lib.Dec.{eqb, leb}
 use lib.ListN.{length}
 use Rattle.table.specs.Layout.{maxRules}
 use Rattle.regex.specs.Form.{write, positions}
-use Rattle.regex.specs.Rule.{Rule}
+use Rattle.regex.specs.Rule.{Rule, no-windows}
 use Rattle.nodes.specs.Nodes.{Syntax}
 use Rattle.pattern.specs.Walk.{Read, tree, refused}
 use Rattle.pattern.specs.Read.{tooLong}
-use Rattle.rules.specs.Add.{Addition, readingOf, answer, unknownFlag, placed}
+use Rattle.rules.specs.Words.{isSingle, isLeftmost}
+use Rattle.rules.specs.Add.{Addition, readingOf, answer, unknownFlag, singleStart, placed}
 use Rattle.rules.specs.declared.Added.{Added}
 
 -- "Ids: any 32-bit number"
@@ -25,9 +26,15 @@ pub record Accepted : Type 0 where
   pub flags : ℕ
   pub tree : Syntax
 
--- as a rule that has a meaning: flag 8 is "single match"
+-- as a rule that has a meaning; no addition brings windows
 abbrev pub ruleOf : Accepted → Rule
-ruleOf r = record { id = r .id; single = eqb (r .flags / 8 % 2) 1; tree = r .tree }
+ruleOf r = record {
+  id = r .id;
+  single = isSingle (r .flags);
+  starts = isLeftmost (r .flags);
+  windows = no-windows;
+  tree = r .tree;
+}
 
 -- a rule's positions, and those of all the rules
 abbrev pub size : Accepted → ℕ
@@ -42,15 +49,16 @@ unfoldable pub taken : List Accepted → ℕ → Bool
 taken [] id = false
 taken (r ∷ rs) id = eqb (r .id) id || taken rs id
 
--- The answer of the next addition to a table with these rules: 2, 3, 4, 5, then the reader's 6 to
--- 16 and 23, then 17.
+-- The answer of the next addition to a table with these rules: 2, 24, 3, 4, 5, then the reader's 6
+-- to 16 and 23, then 17.
 unfoldable pub nextAnswer : List Accepted → Addition → Added
 nextAnswer rs a =
     cond (unknownFlag (a .flags)) (answer 2 0)
+    (cond (singleStart (a .flags)) (answer 24 0)
     (cond (taken rs (a .id)) (answer 3 0)
     (cond (leb maxRules (length rs)) (answer 4 0)
     (cond (tooLong (a .pattern)) (answer 5 0)
-    (placed (used rs) (length (a .pattern)) (readingOf a)))))
+    (placed (used rs) (length (a .pattern)) (readingOf a))))))
 
 -- the rules after it: an accepted one comes last, a refused one changes nothing
 unfoldable pub withNew : List Accepted → Addition → Read → List Accepted

@@ -6,19 +6,25 @@ use Prim.Native.Nat.{ℕ, zero, suc, _+_, _-_, _*_, _/_, _%_}
 use lib.Dec.{leb, ltb}
 use lib.ListN.{getD}
 use Rattle.sets.specs.Set.{has, setOf, emptySet, any, asOne, count}
-use Rattle.table.specs.Layout.{maxRules, maxPositions, bytes, rulesOf, singlesOf, firstAt, idAt, idWord, openerAt, ownerAt, lastAt, latesAt, followAt, takersAt, rowHas, from-to}
+use Rattle.table.specs.Layout.{maxRules, maxPositions, bytes, rulesOf, leftmostsAt, keepersAt, firstAt, idAt, idWord, openerAt, ownerAt, lastAt, latesAt, followAt, takersAt, rowHas, from-to}
 use Rattle.table.specs.Gaps.{lastGaps, followGaps, innerGaps, unsettled}
 use Rattle.table.specs.Table.{isTable}
 use Rattle.table.specs.Invariants.{over, copied, movedUp}
 use Rattle.automaton.specs.declared.Parts.{Parts}
-use Rattle.rules.specs.Words.{singlesWith, ownerWith}
-use Rattle.rules.specs.Add.{unknownFlag, hasId}
+use Rattle.rules.specs.Words.{digitsWith, ownerWith}
+use Rattle.rules.specs.Add.{unknownFlag, singleStart, hasId}
 
 -- ---- the checks before the pattern is read
 
--- the number of the first of 1 to 4 that is due, or 0
+-- the number of the first of 1, 2, 24, 3 and 4 that is due, or 0
 unfoldable pub firstFault : List ℕ → (id flags : ℕ) → ℕ
-firstFault t id flags = cond (isTable t) (cond (unknownFlag flags) 2 (cond (hasId t id) 3 (cond (leb maxRules (rulesOf t)) 4 0))) 1
+firstFault t id flags =
+    cond (isTable t)
+    (cond (unknownFlag flags) 2
+    (cond (singleStart flags) 24
+    (cond (hasId t id) 3
+    (cond (leb maxRules (rulesOf t)) 4 0))))
+    1
 
 -- ---- the writers
 
@@ -47,19 +53,27 @@ smaller t id a = ltb (idWord t a) id
 unfoldable pub idPut : (rules k id : ℕ) → List ℕ → List ℕ
 idPut rules k id t = copied (idAt k) 1 (id ∷ []) (movedUp (idAt k) (rules - k) t)
 
--- the digits of the single-match rules with that of the rule in place k
-unfoldable pub singlesPut : (k : ℕ) → Bool → List ℕ → List ℕ
-singlesPut k single t = copied 3 1 (singlesWith k single (singlesOf t) ∷ []) t
+-- the digits of some rules, in the word at `at`, with that of the rule in place k
+unfoldable pub digitsPut : (at k : ℕ) → Bool → List ℕ → List ℕ
+digitsPut at k new t = copied at 1 (digitsWith k new (getD t at 0) ∷ []) t
 
 -- the owners of the positions, with the rule in place k
 unfoldable pub ownersPut : (n more k : ℕ) → List ℕ → List ℕ
 ownersPut n more k t = over (ownerAt 0) (ownerAt maxPositions) (λ w. ownerWith n more k (w - ownerAt 0) (getD t w 0)) t
 
--- these three, for a rule in the place of its id
-unfoldable pub placePut : (rules n more id : ℕ) → Bool → List ℕ → List ℕ
-placePut rules n more id single t =
+-- the positions that keep a start, with those of the new rule if it reports one
+unfoldable pub newKeepers : (n more : ℕ) → Bool → List ℕ
+newKeepers n more leftmost = setOf (λ q. leftmost && from-to n (n + more) q)
+
+unfoldable pub keepersPut : (n more : ℕ) → Bool → List ℕ → List ℕ
+keepersPut n more leftmost t = merged keepersAt n (newKeepers n more leftmost) t
+
+-- all these, for a rule in the place of its id; the single-match rules have word 3
+unfoldable pub placePut : (rules n more id : ℕ) → (single leftmost : Bool) → List ℕ → List ℕ
+placePut rules n more id single leftmost t =
     let k : ℕ = count rules (smaller t id) in
-    ownersPut n more k (singlesPut k single (idPut rules k id t))
+    keepersPut n more leftmost (ownersPut n more k
+    (digitsPut leftmostsAt k leftmost (digitsPut 3 k single (idPut rules k id t))))
 
 -- follow sets from `at` on: those of the n old positions, and after them the new ones
 unfoldable pub followPut : (at n : ℕ) → List ℕ → ℕ → List ℕ → List ℕ

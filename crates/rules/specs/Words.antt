@@ -8,7 +8,7 @@ use Prim.Native.Nat.{ℕ, zero, suc, _+_, _-_, _*_, _/_, _%_}
 use lib.Dec.{eqb, leb, ltb}
 use lib.ListN.{getD, drop}
 use Rattle.sets.specs.Set.{on, has, setOf, wordOf, any, asOne, count}
-use Rattle.table.specs.Layout.{tableWords, maxRules, maxPositions, bytes, rulesOf, positionsOf, singlesOf, firstAt, idAt, idWord, openerAt, ownerAt, lastAt, latesAt, followAt, takersAt, rowHas, from-to}
+use Rattle.table.specs.Layout.{tableWords, maxRules, maxPositions, bytes, rulesOf, positionsOf, singlesOf, leftmostsAt, leftmostsOf, keepersAt, firstAt, idAt, idWord, openerAt, ownerAt, lastAt, latesAt, followAt, takersAt, rowHas, from-to}
 use Rattle.table.specs.Gaps.{firstGaps, followGaps, lastGaps, innerGaps, unsettled}
 use Rattle.automaton.specs.declared.Parts.{Parts}
 
@@ -30,8 +30,9 @@ unfoldable pub placeOf : List ℕ → ℕ → ℕ
 placeOf t id = count (rulesOf t) (λ a. ltb (idWord t a) id)
 
 -- the digits of some places, with one put in at place k and those from there on moved up by one
-unfoldable pub singlesWith : (k : ℕ) → Bool → ℕ → ℕ
-singlesWith k new old = wordOf 64 (λ a. cond (ltb a k) (on old a) (cond (eqb a k) new (on old (a - 1))))
+unfoldable pub digitsWith : (k : ℕ) → Bool → ℕ → ℕ
+digitsWith k new old =
+    wordOf 64 (λ a. cond (ltb a k) (on old a) (cond (eqb a k) new (on old (a - 1))))
 
 -- a place, once a rule is put in at place k: those from there on are moved up by one
 unfoldable pub raised : (k o : ℕ) → ℕ
@@ -41,6 +42,13 @@ raised k o = cond (ltb o k) o (cond (ltb o maxRules) (o + 1) o)
 -- them have the rule in place k
 unfoldable pub ownerWith : (n more k q o : ℕ) → ℕ
 ownerWith n more k q o = cond (ltb q n) (raised k o) (cond (ltb q (n + more)) k o)
+
+-- flag 8 is "single match", flag 256 "leftmost start"
+abbrev pub isSingle : ℕ → Bool
+isSingle flags = eqb (flags / 8 % 2) 1
+
+abbrev pub isLeftmost : ℕ → Bool
+isLeftmost flags = eqb (flags / 256 % 2) 1
 
 -- the new rule's parts are given for each gap; how many positions it has, and which bytes they
 -- take, is the same at all
@@ -60,9 +68,20 @@ module _ (t : List ℕ) (id flags : ℕ) (parts : ℕ → Parts) where
       (cond (leb a (rulesOf t)) (idWord t (a - 1))
       (idWord t a)))
 
-  -- the single-match rules, the digits of the later old ones moved up likewise
+  -- the single-match rules, the digits of the later old ones moved up likewise; and the rules that
+  -- report the leftmost start
   unfoldable pub singlesWord : ℕ
-  singlesWord = singlesWith (placeOf t id) (eqb (flags / 8 % 2) 1) (singlesOf t)
+  singlesWord = digitsWith (placeOf t id) (isSingle flags) (singlesOf t)
+
+  unfoldable pub leftmostsWord : ℕ
+  leftmostsWord = digitsWith (placeOf t id) (isLeftmost flags) (leftmostsOf t)
+
+  -- word i of the set of the positions that keep a start: those of such a rule
+  unfoldable pub newKeeper : ℕ → Bool
+  newKeeper q = isLeftmost flags && from-to (positionsOf t) (positionsOf t + more) q
+
+  unfoldable pub keeperWords : ℕ → ℕ
+  keeperWords i = getD (setOf (λ q. oldRow t keepersAt q || newKeeper q)) i 0
 
   -- the owner of position q
   unfoldable pub ownerWords : ℕ → ℕ
@@ -119,7 +138,9 @@ module _ (t : List ℕ) (id flags : ℕ) (parts : ℕ → Parts) where
       (cond (from-to (takersAt 0) (takersAt bytes) w) (takersWords ((w - takersAt 0) / 4) ((w - takersAt 0) % 4))
       (cond (from-to (followAt 0 0) (followAt followGaps 0) w)
       (followWords ((w - followAt 0 0) / 1024) ((w - followAt 0 0) % 1024 / 4) ((w - followAt 0 0) % 4))
-      (getD t w 0)))))))))))
+      (cond (eqb w leftmostsAt) leftmostsWord
+      (cond (from-to keepersAt (keepersAt + 4) w) (keeperWords (w - keepersAt))
+      (getD t w 0)))))))))))))
 
   -- the table with the rule; words beyond 16,384 are untouched
   unfoldable pub added : List ℕ

@@ -5,10 +5,12 @@ mod write;
 
 use table::layout::IDS_AT;
 use table::layout::KNOWN_FLAGS;
+use table::layout::LEFTMOST;
 use table::layout::MAX_POSITIONS;
 use table::layout::MAX_RULES;
 use table::layout::POSITIONS_AT;
 use table::layout::RULES_AT;
+use table::layout::SINGLE;
 ghost use mathlib.Core.Path.{_≡_};
 ghost use Prim.Native.Nat.{_≤_};
 ghost use lib.ListN.{length};
@@ -44,6 +46,9 @@ fn first_fault(words: &[u64], id: u32, flags: u32) -> u32
     if table::is_table(words) {
         if flags as u64 & KNOWN_FLAGS != flags as u64 {
             return 2;
+        }
+        if (flags / SINGLE % 2 == 1) & (flags / LEFTMOST % 2 == 1) {
+            return 24;
         }
         if has_id(words, words[RULES_AT] as usize, id as u64) {
             return 3;

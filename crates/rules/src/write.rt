@@ -11,21 +11,25 @@ use table::layout::FIRST_AT;
 use table::layout::FOLLOW_AT;
 use table::layout::FOLLOW_WORDS;
 use table::layout::IDS_AT;
+use table::layout::KEEPERS_AT;
 use table::layout::LAST_AT;
 use table::layout::LATES_AT;
+use table::layout::LEFTMOST;
+use table::layout::LEFTMOSTS_AT;
 use table::layout::MAX_RULES;
 use table::layout::OPENERS_AT;
 use table::layout::OWNERS_AT;
 use table::layout::POSITIONS_AT;
 use table::layout::RULES_AT;
 use table::layout::SET_WORDS;
+use table::layout::SINGLE;
 use table::layout::SINGLES_AT;
 use table::layout::TAKERS_AT;
 ghost use mathlib.Core.Path.{_≡_};
 ghost use mathlib.Core.Bool.{cond};
 ghost use Prim.Native.Nat.{_+_, _*_, _-_, _≤_, _<_};
 ghost use lib.Dec.{eqb, ltb};
-ghost use lib.ListN.{length};
+ghost use lib.ListN.{length, getD};
 ghost use Rattle.sets.specs.Set.{on, count};
 ghost use Rattle.table.specs.Layout.{tableWords, maxRules, maxPositions, rulesOf, positionsOf, firstAt};
 ghost use Rattle.table.specs.Invariants.{copied, movedUp};
@@ -33,8 +37,8 @@ ghost use Rattle.table.specs.Gaps.{firstGaps};
 ghost use Rattle.regex.specs.Form.{write, positions};
 ghost use Rattle.nodes.specs.Nodes.{treeAt};
 ghost use Rattle.rules.specs.Gaps.{holdingAt, partsAt};
-ghost use Rattle.rules.specs.Words.{singlesWith, ownerWith, added};
-ghost use Rattle.rules.specs.Invariants.{merged, maskedRows, smaller, idPut, singlesPut, ownersPut, placePut, newTakers, takersPut, followPut, gapPut, gapsPut, innerRows, latesPut, openerOf, openersPut, countsPut};
+ghost use Rattle.rules.specs.Words.{digitsWith, ownerWith, added};
+ghost use Rattle.rules.specs.Invariants.{merged, maskedRows, smaller, idPut, digitsPut, ownersPut, newKeepers, keepersPut, placePut, newTakers, takersPut, followPut, gapPut, gapsPut, innerRows, latesPut, openerOf, openersPut, countsPut};
 
 // The assertions that are known to hold at each gap, as specs/Gaps.antt has them.
 const HOLDING: [u64; 17] = [
@@ -153,27 +157,27 @@ fn put_id(words: &mut [u64], rules: usize, k: usize, id: u64)
 }
 
 // The digit of place a, once a rule is put in at place k.
-fn single_at(old: u64, k: usize, single: bool, a: usize) -> bool
+fn digit_at(old: u64, k: usize, new: bool, a: usize) -> bool
     requires { ⌜ a < 64 ⌝ }
-    ensures { λ r. ⌜ r ≡ cond (ltb a k) (on old a) (cond (eqb a k) single (on old (a - 1))) ⌝ }
+    ensures { λ r. ⌜ r ≡ cond (ltb a k) (on old a) (cond (eqb a k) new (on old (a - 1))) ⌝ }
 {
     if a < k {
         return old >> a & 1 == 1;
     }
     if a == k {
-        return single;
+        return new;
     }
     old >> (a - 1) & 1 == 1
 }
 
-// The digits of the single-match rules, once one is put in at place k.
-fn singles_with(old: u64, k: usize, single: bool) -> u64
-    ensures { λ r. ⌜ r ≡ singlesWith k single old ⌝ }
+// The digits of some places, once one is put in at place k.
+fn digits_with(old: u64, k: usize, new: bool) -> u64
+    ensures { λ r. ⌜ r ≡ digitsWith k new old ⌝ }
 {
     let mut found: u64 = 0;
     let mut a: usize = 0;
     while a < 64 {
-        if single_at(old, k, single, a) {
+        if digit_at(old, k, new, a) {
             found = found | 1 << a;
         }
         a += 1;
@@ -181,13 +185,13 @@ fn singles_with(old: u64, k: usize, single: bool) -> u64
     found
 }
 
-// The same in the words.
-fn put_singles(words: &mut [u64], k: usize, single: bool)
-    requires { ⌜ tableWords ≤ length (now words) ⌝ }
-    ensures { λ r. ⌜ now (words .exit) ≡ singlesPut k single (now (words .entry)) ⌝ }
+// The same in the word at `at`.
+fn put_digits(words: &mut [u64], at: usize, k: usize, new: bool)
+    requires { ⌜ at < length (now words) ⌝ }
+    ensures { λ r. ⌜ now (words .exit) ≡ digitsPut at k new (now (words .entry)) ⌝ }
 {
-    let one = [singles_with(words[SINGLES_AT], k, single)];
-    put_words(words, SINGLES_AT, &one, 1);
+    let one = [digits_with(words[at], k, new)];
+    put_words(words, at, &one, 1);
 }
 
 // The owner of position q, which was `o`, once a rule with the positions from n on is put in at
@@ -224,15 +228,48 @@ fn put_owners(words: &mut [u64], n: usize, more: usize, k: usize)
     }
 }
 
-// Puts a rule in the place of its id: the id, its digit, and the owners of the positions.
-fn put_place(words: &mut [u64], rules: usize, n: usize, more: usize, id: u64, single: bool)
+// The new positions, from n on, that keep a start.
+fn new_keepers(n: usize, more: usize, leftmost: bool) -> [u64; 4]
+    requires { ⌜ n + more ≤ maxPositions ⌝ }
+    ensures { λ r. ⌜ r ≡ newKeepers n more leftmost ⌝ }
+{
+    if leftmost {
+        let all = sets::below(sets::full(), n + more);
+        let old = sets::below(sets::full(), n);
+        return sets::intersection(all, sets::complement(old));
+    }
+    sets::empty()
+}
+
+// The same in the words.
+fn put_keepers(words: &mut [u64], n: usize, more: usize, leftmost: bool)
+    requires { ⌜ (tableWords ≤ length (now words)) × (n + more ≤ maxPositions) ⌝ }
+    ensures { λ r. ⌜ now (words .exit) ≡ keepersPut n more leftmost (now (words .entry)) ⌝ }
+{
+    let new = new_keepers(n, more, leftmost);
+    merge_row(words, KEEPERS_AT, n, new);
+}
+
+// Puts a rule in the place of its id: the id, its digits, the owners of the positions, and those
+// that keep a start.
+fn put_place(
+    words: &mut [u64],
+    rules: usize,
+    n: usize,
+    more: usize,
+    id: u64,
+    single: bool,
+    leftmost: bool,
+)
     requires { ⌜ (tableWords ≤ length (now words)) × (rules < maxRules) × (n + more ≤ maxPositions) ⌝ }
-    ensures { λ r. ⌜ now (words .exit) ≡ placePut rules n more id single (now (words .entry)) ⌝ }
+    ensures { λ r. ⌜ now (words .exit) ≡ placePut rules n more id single leftmost (now (words .entry)) ⌝ }
 {
     let k = place_of(words, rules, id);
     put_id(words, rules, k, id);
-    put_singles(words, k, single);
+    put_digits(words, SINGLES_AT, k, single);
+    put_digits(words, LEFTMOSTS_AT, k, leftmost);
     put_owners(words, n, more, k);
+    put_keepers(words, n, more, leftmost);
 }
 
 // Follow sets from `at` on: those of the n old positions, and after them the new ones.
@@ -397,9 +434,6 @@ fn put_counts(words: &mut [u64], rules: u64, positions: u64)
     put_words(words, RULES_AT, &counts, 2);
 }
 
-// Flag 8: single match.
-const SINGLE: u32 = 8;
-
 // The table with one rule more, the tree of node `root`, whose positions come after those that the
 // table has. `parts` are its parts at the first gap.
 pub(super) fn add_rule(
@@ -417,7 +451,8 @@ pub(super) fn add_rule(
     let n = words[POSITIONS_AT] as usize;
     let more = parts.positions;
     let single = flags / SINGLE % 2 == 1;
-    put_place(words, rules, n, more, id as u64, single);
+    let leftmost = flags / LEFTMOST % 2 == 1;
+    put_place(words, rules, n, more, id as u64, single, leftmost);
     put_gaps(words, n, nodes, root, parts);
     let takes = parts.takes;
     put_takers(words, n, &takes, more);

@@ -1,8 +1,8 @@
 -- Sets of numbers below 256 (bytes, or positions of the automaton), each held in four 64-bit words.
 -- `has` says what a member is. What each operation makes is said by its members alone: `setOf` gives the one list of words that has them.
-use mathlib.Core.Bool.{Bool, true, false, not, _||_, _&&_}
+use mathlib.Core.Bool.{Bool, true, false, cond, not, _||_, _&&_}
 use mathlib.Core.List.{List, [], _∷_}
-use Prim.Native.Nat.{ℕ, zero, suc, _+_, _*_, _/_, _%_, _^_}
+use Prim.Native.Nat.{ℕ, zero, suc, _+_, _*_, _/_, _%_, _^_, min}
 use lib.Dec.{eqb, leb, ltb}
 use lib.ListN.{getD}
 
@@ -37,6 +37,11 @@ any (suc n) f = any n f || f n
 unfoldable pub count : ℕ → (ℕ → Bool) → ℕ
 count zero f = 0
 count (suc n) f = count n f + asOne (f n)
+
+-- the smallest of d and of the g q for the q below n where f q holds
+unfoldable pub smallest : ℕ → (ℕ → Bool) → (ℕ → ℕ) → ℕ → ℕ
+smallest zero f g d = d
+smallest (suc n) f g d = cond (f n) (min (g n) (smallest n f g d)) (smallest n f g d)
 
 -- no members
 unfoldable pub emptySet : List ℕ

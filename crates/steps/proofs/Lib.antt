@@ -6,5 +6,6 @@ pub mod Asked
 pub mod Steps
 pub mod Turned
 pub mod Walked
+pub mod Carrying
 pub mod Owned
 pub mod Late

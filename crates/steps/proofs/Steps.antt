@@ -89,7 +89,7 @@ module _ (t : List ℕ) where
   takers-row x h = ap (λ (b : Bool). setOf (λ q. b && rowHas t (takersAt x) q)) (sym (lt-ltb x bytes h))
 
   -- the row of a position
-  follow-row : (g p q : ℕ) → g < followGaps → p < maxPositions → rowHas t (followAt g p) q ≡ automaton t .follow g p q
+  pub follow-row : (g p q : ℕ) → g < followGaps → p < maxPositions → rowHas t (followAt g p) q ≡ automaton t .follow g p q
   unfolding automaton
   follow-row g p q h l = ap₂ (λ (b c : Bool). b && (c && rowHas t (followAt g p) q)) (sym (lt-ltb g followGaps h)) (sym (lt-ltb p maxPositions l))
 

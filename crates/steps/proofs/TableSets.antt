@@ -14,10 +14,10 @@ use borrow.Author.Tests.{lt-ltb, le-ltb, le-leb, lt-leb}
 use Rattle.sets.specs.Set.{on, has, setOf, any, intersectionOf, isEmpty, emptySet}
 use Rattle.sets.proofs.Digits.{on-and, on-ones, wordOf-ext}
 use Rattle.sets.proofs.Laws.{has-setOf, has-intersection, any-ext}
-use Rattle.table.specs.Layout.{tableWords, maxRules, maxPositions, rulesOf, singlesOf, lastAt, latesAt, idWord, ownerAt, rowHas}
+use Rattle.table.specs.Layout.{tableWords, maxRules, maxPositions, rulesOf, singlesOf, leftmostsOf, lastAt, latesAt, keepersAt, idWord, ownerAt, rowHas}
 use Rattle.table.specs.Gaps.{unsettled, lastGaps}
 use Rattle.table.specs.Automaton.{Automaton, automaton, single}
-use Rattle.steps.specs.Step.{setOn, numberOn, ends, endsNewly, lastsOf, latesOf, rulesWhere}
+use Rattle.steps.specs.Step.{setOn, numberOn, ends, endsNewly, lastsOf, latesOf, keepersOf, rulesWhere}
 use Rattle.steps.specs.Invariants.{ownersOf}
 use Rattle.table.proofs.Members.{word-is, places-without}
 
@@ -95,20 +95,34 @@ lates-set t = refl
 
 -- ---- the rules
 
--- the digits of the single-match rules, below the number of rules
-module _ (t : List ℕ) (small : singlesOf t < 2 ^ 64) where
-  pub singles-below : rulesOf t < maxRules → bitAnd (singlesOf t) (2 ^ rulesOf t - 1) ≡ rulesWhere (automaton t) (single (automaton t))
+-- the digits of a word, below the number of rules
+module _ (t : List ℕ) (word : ℕ) (small : word < 2 ^ 64) where
+  pub marked-below : rulesOf t < maxRules → bitAnd word (2 ^ rulesOf t - 1) ≡ rulesWhere (automaton t) (on word)
   unfolding automaton
-  singles-below h =
-      word-is (bitAnd (singlesOf t) (2 ^ rulesOf t - 1)) (λ a. ltb a (rulesOf t) && on (singlesOf t) a)
-      (lt-of-le-of-lt (and-le-l (singlesOf t) (2 ^ rulesOf t - 1)) small)
-      (λ a l. on-and (singlesOf t) (2 ^ rulesOf t - 1) a ∙ ap (λ (b : Bool). on (singlesOf t) a && b) (on-ones (rulesOf t) a) ∙ and-comm (on (singlesOf t) a) (ltb a (rulesOf t)))
+  marked-below h =
+      word-is (bitAnd word (2 ^ rulesOf t - 1)) (λ a. ltb a (rulesOf t) && on word a)
+      (lt-of-le-of-lt (and-le-l word (2 ^ rulesOf t - 1)) small)
+      (λ a l. on-and word (2 ^ rulesOf t - 1) a ∙ ap (λ (b : Bool). on word a && b) (on-ones (rulesOf t) a) ∙ and-comm (on word a) (ltb a (rulesOf t)))
 
-  pub singles-all : maxRules ≤ rulesOf t → singlesOf t ≡ rulesWhere (automaton t) (single (automaton t))
+  pub marked-all : maxRules ≤ rulesOf t → word ≡ rulesWhere (automaton t) (on word)
   unfolding automaton
-  singles-all h =
-      word-is (singlesOf t) (λ a. ltb a (rulesOf t) && on (singlesOf t) a) small
-      (λ a l. sym (ap (λ (b : Bool). b && on (singlesOf t) a) (lt-ltb a (rulesOf t) (omega arith))))
+  marked-all h =
+      word-is word (λ a. ltb a (rulesOf t) && on word a) small
+      (λ a l. sym (ap (λ (b : Bool). b && on word a) (lt-ltb a (rulesOf t) (omega arith))))
+
+-- the single-match rules, and those that report the leftmost start
+pub singles-word : (t : List ℕ) → rulesWhere (automaton t) (on (singlesOf t)) ≡ rulesWhere (automaton t) (single (automaton t))
+unfolding automaton
+singles-word t = refl
+
+pub leftmosts-word : (t : List ℕ) → rulesWhere (automaton t) (on (leftmostsOf t)) ≡ rulesWhere (automaton t) (automaton t .leftmost)
+unfolding automaton
+leftmosts-word t = refl
+
+-- the positions that keep a start
+pub keepers-set : (t : List ℕ) → setOf (rowHas t keepersAt) ≡ keepersOf (automaton t)
+unfolding automaton keepersOf
+keepers-set t = refl
 
 -- the id of the rule in place a
 pub id-word : (t : List ℕ) (a : ℕ) → a < maxRules → idWord t a ≡ automaton t .id a

@@ -1,13 +1,14 @@
 -- What the private functions promise, where that is not an equation with a definition that a reader
 -- must believe. Assumes nothing: these are definitions.
-use mathlib.Core.Bool.{cond, _&&_}
+use mathlib.Core.Path.{_≡_}
+use mathlib.Core.Bool.{Bool, cond, _&&_}
 use mathlib.Core.List.{List}
-use Prim.Native.Nat.{ℕ, zero, suc, _+_, _*_, _^_}
+use Prim.Native.Nat.{ℕ, zero, suc, _+_, _*_, _/_, _%_, _^_, _<_}
 use lib.Bits.{bitOr}
 use lib.Dec.{eqb, ltb}
-use lib.ListN.{getD}
-use Rattle.sets.specs.Set.{has, setOf, wordOf, any, unionOf}
-use Rattle.table.specs.Layout.{ownerAt, rowHas}
+use lib.ListN.{length, getD}
+use Rattle.sets.specs.Set.{on, has, setOf, wordOf, any, smallest, unionOf}
+use Rattle.table.specs.Layout.{maxPositions, ownerAt, rowHas}
 use Rattle.steps.specs.Walk.{asked}
 
 -- a set joined with the rows, which begin at word `rows`, of the positions that the first n turns
@@ -29,3 +30,32 @@ collected t rules word base found (suc n) = withOwner rules (getD t (ownerAt (ba
 -- the rules that own a position of a set, of the positions below n
 unfoldable pub ownersOf : (t : List ℕ) → (rules : ℕ) → (set : List ℕ) → ℕ → ℕ
 ownersOf t rules set n = wordOf 64 (λ a. ltb a rules && any n (λ p. has set p && eqb (getD t (ownerAt p) 0) a))
+
+-- ---- starts
+
+-- of two starts the new one, or the smaller
+abbrev pub chosenOf : (keep : Bool) → (old new : ℕ) → ℕ
+chosenOf keep old new = cond (keep && ltb old new) old new
+
+-- position q is a digit of the word i of a set
+abbrev pub inWord : (word i q : ℕ) → Bool
+inWord word i q = eqb (q / 64) i && on word (q % 64)
+
+-- each of the starts is what f makes of it, by its position
+pub record Changed (f : ℕ → ℕ → ℕ) (old new : List ℕ) : Type 0 where
+  pub as-long : length new ≡ length old
+  pub each : length old ≡ maxPositions → (q : ℕ) → q < maxPositions → getD new q 0 ≡ f q (getD old q 0)
+
+-- the start is put in for the positions that pass a test
+abbrev pub Put : (ℕ → Bool) → (keep : Bool) → (start : ℕ) → (old new : List ℕ) → Type 0
+Put test keep start = Changed (λ q x. cond (test q) (chosenOf keep x start) x)
+
+-- for each position of `next`, the smaller of its own and of the starts in `from` of the positions
+-- that pass a test and whose row has it
+abbrev pub Followed : (ℕ → Bool) → (next from : List ℕ) → (rows : ℕ) → (t : List ℕ) → (old new : List ℕ) → Type 0
+Followed test next from rows t =
+    Changed (λ q x. cond (has next q) (smallest maxPositions (λ p. test p && rowHas t (rows + p * 4) q) (λ p. getD from p 0) x) x)
+
+-- the smallest of d and of the starts of the positions that pass a test and have this owner
+unfoldable pub leastOwned : (t : List ℕ) → (ℕ → Bool) → (a : ℕ) → (starts : List ℕ) → (d : ℕ) → ℕ
+leastOwned t test a starts d = smallest maxPositions (λ p. test p && eqb (getD t (ownerAt p) 0) a) (λ p. getD starts p 0) d

@@ -1,13 +1,13 @@
 -- What one byte does to a live set, and which rules a live set ends. Over the automaton that the
 -- words describe, not over words. Assumes nothing: these are definitions.
 use mathlib.Core.Bool.{Bool, cond, not, _&&_, _||_}
-use mathlib.Core.List.{List}
-use Prim.Native.Nat.{ℕ}
+use mathlib.Core.List.{List, [], _∷_}
+use Prim.Native.Nat.{ℕ, zero, suc}
 use lib.Dec.{leb, ltb}
-use lib.ListN.{length}
+use lib.ListN.{length, getD}
 use Rattle.kinds.specs.declared.Side.{Side}
-use Rattle.sets.specs.Set.{has, setOf, wordOf, any, emptySet, intersectionOf}
-use Rattle.table.specs.Layout.{tableWords, maxPositions}
+use Rattle.sets.specs.Set.{on, has, setOf, wordOf, any, smallest, emptySet, intersectionOf}
+use Rattle.table.specs.Layout.{tableWords, maxRules, maxPositions}
 use Rattle.table.specs.Gaps.{unsettled, gapOf, firstGap}
 use Rattle.table.specs.Automaton.{Automaton, last, starts}
 
@@ -17,6 +17,15 @@ setOn t s = cond (leb tableWords (length t)) s emptySet
 
 unfoldable pub numberOn : (t : List ℕ) → ℕ → ℕ
 numberOn t n = cond (leb tableWords (length t)) n 0
+
+-- the numbers f i, f (i + 1), .. , n of them
+unfoldable pub listFrom : (i n : ℕ) → (ℕ → ℕ) → List ℕ
+listFrom i zero f = []
+listFrom i (suc n) f = f i ∷ listFrom (suc i) n f
+
+-- n numbers that are given of words enough for a table; of fewer each is 0
+unfoldable pub listOn : (t : List ℕ) → (n : ℕ) → (s : List ℕ) → List ℕ
+listOn t n s = cond (leb tableWords (length t)) s (listFrom 0 n (λ q. 0))
 
 module _ (w : Automaton) where
   -- The live set after byte x, `taken` bytes into the stream: the positions below n, the number
@@ -49,6 +58,30 @@ module _ (w : Automaton) where
   abbrev pub lateIn : List ℕ → List ℕ
   lateIn live = intersectionOf live latesOf
 
+  -- the positions that keep a start
+  unfoldable pub keepersOf : List ℕ
+  keepersOf = setOf (w .keeps)
+
   -- the rules that pass a test, as a word: digit a is the rule in place a
   abbrev pub rulesWhere : (ℕ → Bool) → ℕ
   rulesWhere test = wordOf 64 (λ a. ltb a (w .rules) && test a)
+
+  -- The start of a position after a byte, `taken` bytes into the stream: the smaller of this offset
+  -- and the starts of the positions of the set before it that it follows. The positions of `next`
+  -- have that one; every other has 0.
+  unfoldable pub startAfter : (line : Bool) → (before after : Side) → (live starts : List ℕ) → (taken q : ℕ) → ℕ
+  startAfter line before after live starts taken q =
+      smallest maxPositions (λ p. has live p && w .follow (gapOf line before after) p q) (λ p. getD starts p 0) taken
+
+  unfoldable pub steppedStarts : (line : Bool) → (before after : Side) → (live starts next : List ℕ) → (taken : ℕ) → List ℕ
+  steppedStarts line before after live starts next taken =
+      listFrom 0 maxPositions (λ q. cond (has next q) (startAfter line before after live starts taken q) 0)
+
+  -- the smallest start of a match of the rule in place a that ends at a gap with a position of the
+  -- set, or d if that is smaller
+  unfoldable pub startAt : (gap : ℕ) → (set starts : List ℕ) → (d a : ℕ) → ℕ
+  startAt gap set starts d a = smallest maxPositions (λ p. has set p && last w gap a p) (λ p. getD starts p 0) d
+
+  -- the same for each of some rules, a digit for each place; 0 for every other
+  unfoldable pub startsAt : (rules gap : ℕ) → (set starts from : List ℕ) → List ℕ
+  startsAt rules gap set starts from = listFrom 0 maxRules (λ a. cond (on rules a) (startAt gap set starts (getD from a 0) a) 0)

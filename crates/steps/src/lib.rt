@@ -6,6 +6,7 @@
 mod byte;
 mod line;
 mod rows;
+mod starts;
 mod walk;
 
 pub use byte::Stepped;
@@ -15,10 +16,14 @@ pub use byte::takers;
 pub use line::line_step;
 pub use rows::closing;
 pub use rows::ending;
+pub use rows::keepers;
 pub use rows::lasts;
 pub use rows::late_ending;
 pub use rows::lates;
+pub use rows::leftmosts;
 pub use rows::line_ending;
 pub use rows::meets;
 pub use rows::rule_id;
 pub use rows::singles;
+pub use starts::rule_starts;
+pub use starts::step_starts;

@@ -5,8 +5,10 @@
 use kinds::Side;
 use table::gaps::UNSETTLED;
 use table::layout::IDS_AT;
+use table::layout::KEEPERS_AT;
 use table::layout::LAST_AT;
 use table::layout::LATES_AT;
+use table::layout::LEFTMOSTS_AT;
 use table::layout::MAX_RULES;
 use table::layout::OWNERS_AT;
 use table::layout::RULES_AT;
@@ -17,13 +19,13 @@ ghost use mathlib.Core.Path.{_≡_};
 ghost use mathlib.Core.Bool.{_&&_};
 ghost use Prim.Native.Nat.{_+_, _≤_, _<_, min};
 ghost use lib.Count.{ones};
-ghost use lib.ListN.{length};
-ghost use Rattle.sets.specs.Set.{has, setOf, any, unionOf};
+ghost use lib.ListN.{length, getD};
+ghost use Rattle.sets.specs.Set.{on, has, setOf, any, unionOf};
 ghost use Rattle.kinds.specs.declared.Side.the-variants.{Newline};
 ghost use Rattle.table.specs.Layout.{tableWords, maxRules, maxPositions, rulesOf, rowHas};
 ghost use Rattle.table.specs.Gaps.{between, beforeLast, unsettled, atEnd, lastGaps};
 ghost use Rattle.table.specs.Automaton.{automaton, single};
-ghost use Rattle.steps.specs.Step.{setOn, numberOn, ends, endsNewly, lastsOf, latesOf, lateIn, rulesWhere};
+ghost use Rattle.steps.specs.Step.{setOn, numberOn, ends, endsNewly, lastsOf, latesOf, lateIn, keepersOf, rulesWhere};
 ghost use Rattle.steps.specs.Invariants.{withOwner, collected, ownersOf};
 
 // The set whose four words stand at `at`.
@@ -197,6 +199,19 @@ pub fn closing(before: Side, live: [u64; 4], held: [u64; 4], words: &[u64]) -> u
     at_end & !settled
 }
 
+// The rules whose digits the word at this place has.
+fn marked(words: &[u64], at: usize) -> u64
+    requires { ⌜ (tableWords ≤ length (now words)) × (at < tableWords) ⌝ }
+    ensures { λ r. ⌜ r ≡ rulesWhere (automaton (now (words .entry))) (on (getD (now (words .entry)) at 0)) ⌝ }
+{
+    let rules = words[RULES_AT];
+    let marks = words[at];
+    if rules < MAX_RULES {
+        return marks & ((1 << rules) - 1);
+    }
+    marks
+}
+
 // The single-match rules.
 pub fn singles(words: &[u64]) -> u64
     ensures { λ r. ⌜ r ≡ numberOn (now (words .entry)) (rulesWhere (automaton (now (words .entry))) (single (automaton (now (words .entry))))) ⌝ }
@@ -204,10 +219,25 @@ pub fn singles(words: &[u64]) -> u64
     if words.len() < TABLE_WORDS {
         return 0;
     }
-    let rules = words[RULES_AT];
-    let marks = words[SINGLES_AT];
-    if rules < MAX_RULES {
-        return marks & ((1 << rules) - 1);
+    marked(words, SINGLES_AT)
+}
+
+// The rules that report the leftmost start.
+pub fn leftmosts(words: &[u64]) -> u64
+    ensures { λ r. ⌜ r ≡ numberOn (now (words .entry)) (rulesWhere (automaton (now (words .entry))) (automaton (now (words .entry)) .leftmost)) ⌝ }
+{
+    if words.len() < TABLE_WORDS {
+        return 0;
     }
-    marks
+    marked(words, LEFTMOSTS_AT)
+}
+
+// The positions that keep a start.
+pub fn keepers(words: &[u64]) -> [u64; 4]
+    ensures { λ r. ⌜ r ≡ setOn (now (words .entry)) (keepersOf (automaton (now (words .entry)))) ⌝ }
+{
+    if words.len() < TABLE_WORDS {
+        return sets::empty();
+    }
+    row(words, KEEPERS_AT)
 }

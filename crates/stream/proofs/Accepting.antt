@@ -1,7 +1,7 @@
 -- When a call is accepted. Each test of a state is read off words, the number of a call is settled by the first test that fails, and number 0 says that all
 -- of them hold (`Accepted`).
 use mathlib.Core.Path.{_≡_, refl, sym, ap, ap₂, _∙_}
-use mathlib.Core.Bool.{Bool, true, false, true≢false, cond, not, _&&_, _||_, and-false, and-eq-true-iff}
+use mathlib.Core.Bool.{Bool, true, false, true≢false, cond, not, _&&_, _||_, and-false, and-assoc, and-eq-true-iff}
 use mathlib.Core.List.{List}
 use Prim.Native.Nat.{ℕ, zero, suc, _+_, _-_, _*_, _/_, _^_, _<_, _≤_}
 use native.Mathlib.Nat.{lt-of-le-of-lt, div-le-self}
@@ -9,16 +9,16 @@ use native.Mathlib.Omega.{arith}
 use lib.Bits.{bitAnd, and-le-l}
 use lib.Dec.{eqb, leb, ltb}
 use borrow.Author.Tests.{not-true, eq-eqb, ne-eqb, lt-ltb, le-ltb, ltb-false, le-leb, leb-true, eqb-true}
-use Rattle.sets.specs.Set.{on, has, wordOf, any, fullSet, unionOf, intersectionOf, complementOf, keptBelow, isEmpty}
+use Rattle.sets.specs.Set.{on, has, setOf, wordOf, any, fullSet, unionOf, intersectionOf, complementOf, keptBelow, isEmpty}
 use Rattle.sets.proofs.Digits.{on-zero, on-shr, on-bound, on-wordOf, wordOf-lt, off-zero}
-use Rattle.sets.proofs.Laws.{has-full, has-union, has-intersection, has-complement, has-below, any-none, any-some, any-never, any-ext, empty-none}
-use Rattle.table.specs.Layout.{maxPositions, rulesOf}
+use Rattle.sets.proofs.Laws.{has-full, has-setOf, has-union, has-intersection, has-complement, has-below, any-none, any-some, any-never, any-ext, empty-none}
+use Rattle.table.specs.Layout.{maxRules, maxPositions, rulesOf}
 use Rattle.table.specs.Table.{isTable}
 use Rattle.table.specs.Automaton.{Automaton, automaton}
 use Rattle.table.proofs.Members.{not-below, on-without, word-is}
-use Rattle.steps.specs.Step.{rulesWhere}
+use Rattle.steps.specs.Step.{keepersOf, rulesWhere}
 use Rattle.stream.specs.declared.Stream.{Stream}
-use Rattle.stream.specs.Valid.{streamLimit, sameCounts, liveInside, marksSingle, underLimit, heldInside, pendingInside, pendingLate, valid}
+use Rattle.stream.specs.Valid.{streamLimit, sameCounts, liveInside, marksSingle, underLimit, heldInside, pendingInside, pendingLate, begun, sound, needsStarts, valid}
 use Rattle.stream.specs.Calls.{spaceNumber, scanNumber, closeNumber}
 
 -- ---- the tests in words
@@ -65,14 +65,31 @@ beyond-union s t n =
     spread true false false = refl
     spread false b c = refl
 
-pub valid-order : (w : Automaton) (s : Stream)
+-- two sets are empty where their union is
+union-empty : (s t : List ℕ) → isEmpty (unionOf s t) ≡ (isEmpty s && isEmpty t)
+unfolding isEmpty
+union-empty s t =
+    ap not (any-ext maxPositions (has (unionOf s t)) (λ q. has s q || has t q) (has-union s t)
+    ∙ any-or maxPositions (has s) (has t))
+    ∙ apart (any maxPositions (has s)) (any maxPositions (has t))
+  where
+    apart : (a b : Bool) → not (a || b) ≡ (not a && not b)
+    apart true b = refl
+    apart false b = refl
+
+pub sound-order : (w : Automaton) (s : Stream)
     → (sameCounts w s && (not (beyond (unionOf (s .live) (s .held)) (w .positions))
-    && (marksSingle w s && (underLimit s && (pendingInside w s && pendingLate s))))) ≡ valid w s
-unfolding valid liveInside heldInside
-valid-order w s =
-    let rest : Bool = pendingInside w s && pendingLate s in
-    ap (λ (b : Bool). sameCounts w s && (not b && (marksSingle w s && (underLimit s && rest))))
-    (beyond-union (s .live) (s .held) (w .positions))
+    && (marksSingle w s && (underLimit s && ((pendingInside w s && pendingLate s)
+    && (isEmpty (unionOf (s .live) (s .held)) || ltb 0 (s .taken))))))) ≡ sound w s
+unfolding sound liveInside heldInside begun
+sound-order w s =
+    let rest : Bool = pendingInside w s && (pendingLate s && begun s) in
+    ap₂ (λ (b e : Bool). sameCounts w s && (not b && (marksSingle w s && (underLimit s
+    && ((pendingInside w s && pendingLate s) && (e || ltb 0 (s .taken)))))))
+    (beyond-union (s .live) (s .held) (w .positions)) (union-empty (s .live) (s .held))
+    ∙ ap (λ (b : Bool). sameCounts w s && (not (beyond (s .live) (w .positions)
+    || beyond (s .held) (w .positions)) && (marksSingle w s && (underLimit s && b))))
+    (and-assoc (pendingInside w s) (pendingLate s) (begun s))
     ∙ ap (λ (b : Bool). sameCounts w s && b)
     (order (beyond (s .live) (w .positions)) (beyond (s .held) (w .positions)) (marksSingle w s)
     (underLimit s) rest)
@@ -84,6 +101,47 @@ valid-order w s =
     order false true true true r = refl
     order false true true false r = refl
     order false true false u r = refl
+
+-- a set without a member has none below a number either
+pub none-below : (s : List ℕ) (n : ℕ) → isEmpty s ≡ true → isEmpty (keptBelow s n) ≡ true
+unfolding isEmpty
+none-below s n e =
+    ap not (any-never maxPositions (has (keptBelow s n)) (λ q h. has-below s n q h ∙ ap (λ (b : Bool). b && ltb q n) (empty-none s e q h)))
+
+-- a rule needs a start: by the keepers below the number of positions, and by the rules' digits
+pub starts-test : (w : Automaton) (keeping : List ℕ) (leftmosts : ℕ) → keeping ≡ keptBelow (keepersOf w) (w .positions)
+    → leftmosts ≡ rulesWhere w (w .leftmost)
+    → (not (isEmpty keeping) || not (eqb leftmosts 0)) ≡ needsStarts w
+unfolding needsStarts isEmpty keepersOf
+starts-test w keeping leftmosts is rules =
+    ap₂ (λ (a b : Bool). a || b)
+    (ap (λ (l : List ℕ). not (not (any maxPositions (has l)))) is
+    ∙ twice (any maxPositions (has (keptBelow (setOf (w .keeps)) (w .positions))))
+    ∙ any-ext maxPositions (has (keptBelow (setOf (w .keeps)) (w .positions)))
+    (λ q. w .keeps q && ltb q (w .positions))
+    (λ q h. has-below (setOf (w .keeps)) (w .positions) q h
+    ∙ ap (λ (b : Bool). b && ltb q (w .positions)) (has-setOf (w .keeps) q h)))
+    (ap (λ (n : ℕ). not (eqb n 0)) rules
+    ∙ some (any maxRules (λ a. ltb a (w .rules) && w .leftmost a)) refl)
+  where
+    twice : (b : Bool) → not (not b) ≡ b
+    twice true = refl
+    twice false = refl
+
+    word : ℕ
+    word = rulesWhere w (w .leftmost)
+
+    some : (b : Bool) → any maxRules (λ a. ltb a (w .rules) && w .leftmost a) ≡ b
+        → not (eqb word 0) ≡ any maxRules (λ a. ltb a (w .rules) && w .leftmost a)
+    some true e =
+        let r = any-some maxRules (λ a. ltb a (w .rules) && w .leftmost a) e in
+        ap not (ne-eqb word 0 (λ z. true≢false (sym (r .2)
+        ∙ sym (on-wordOf 64 (λ a. ltb a (w .rules) && w .leftmost a) (r .0) (r .1))
+        ∙ ap (λ (x : ℕ). on x (r .0)) z ∙ on-zero (r .0)))) ∙ sym e
+    some false e =
+        ap not (eq-eqb word 0 (off-zero 64 word (wordOf-lt 64 (λ a. ltb a (w .rules) && w .leftmost a))
+        (λ a l. on-wordOf 64 (λ a. ltb a (w .rules) && w .leftmost a) a l
+        ∙ any-none maxRules (λ a. ltb a (w .rules) && w .leftmost a) e a l))) ∙ sym e
 
 -- no digit is left where each that is set holds of f
 pub marks-test : (marks singles : ℕ) (f : ℕ → Bool) → marks < 2 ^ 64 → singles ≡ wordOf 64 f
@@ -148,9 +206,10 @@ pub record Fitting (w : Automaton) (s : Stream) : Type 0 where
   pub held : heldInside w s ≡ true
   pub pending : pendingInside w s ≡ true
   pub late : pendingLate s ≡ true
+  pub after-first : begun s ≡ true
 
-pub fitting : (w : Automaton) (s : Stream) → valid w s ≡ true → Fitting w s
-unfolding valid sameCounts underLimit
+pub fitting : (w : Automaton) (s : Stream) → sound w s ≡ true → Fitting w s
+unfolding sound sameCounts underLimit
 fitting w s e =
     let p = and-eq-true-iff (sameCounts w s) _ .0 e in
     let q = and-eq-true-iff (liveInside w s) _ .0 (p .1) in
@@ -158,6 +217,7 @@ fitting w s e =
     let u = and-eq-true-iff (leb (s .taken) streamLimit) _ .0 (r .1) in
     let g = and-eq-true-iff (heldInside w s) _ .0 (u .1) in
     let d = and-eq-true-iff (pendingInside w s) _ .0 (g .1) in
+    let f = and-eq-true-iff (pendingLate s) _ .0 (d .1) in
     let c = and-eq-true-iff (eqb (s .rules) (w .rules)) _ .0 (p .0) in
     record {
       rules-same = eqb-true (s .rules) (w .rules) (c .0);
@@ -167,16 +227,29 @@ fitting w s e =
       limit = leb-true (s .taken) streamLimit (u .0);
       held = g .0;
       pending = d .0;
-      late = d .1;
+      late = f .0;
+      after-first = f .1;
     }
 
-pub fitted : (w : Automaton) (s : Stream) → Fitting w s → valid w s ≡ true
-unfolding valid sameCounts underLimit
+-- a valid state: sound, on a table that needs no starts
+pub valid-parts : (w : Automaton) (s : Stream) → valid w s ≡ true → (sound w s ≡ true) × (needsStarts w ≡ false)
+unfolding valid
+valid-parts w s e =
+    let p = and-eq-true-iff (sound w s) (not (needsStarts w)) .0 e in
+    (p .0, not-true (needsStarts w) (p .1))
+
+pub valid-is : (w : Automaton) (s : Stream) → sound w s ≡ true → needsStarts w ≡ false → valid w s ≡ true
+unfolding valid
+valid-is w s e n = ap₂ (λ (a b : Bool). a && not b) e n
+
+pub fitted : (w : Automaton) (s : Stream) → Fitting w s → sound w s ≡ true
+unfolding sound sameCounts underLimit
 fitted w s h =
     ap₂ (λ (a b : Bool). a && b)
     (ap₂ (λ (a b : Bool). a && b) (eq-eqb (s .rules) (w .rules) (h .rules-same)) (eq-eqb (s .positions) (w .positions) (h .positions-same)))
     (ap₂ (λ (a b : Bool). a && b) (h .live) (ap₂ (λ (a b : Bool). a && b) (h .marks)
-    (ap₂ (λ (a b : Bool). a && b) (le-leb (s .taken) streamLimit (h .limit)) (ap₂ (λ (a b : Bool). a && b) (h .held) (ap₂ (λ (a b : Bool). a && b) (h .pending) (h .late))))))
+    (ap₂ (λ (a b : Bool). a && b) (le-leb (s .taken) streamLimit (h .limit)) (ap₂ (λ (a b : Bool). a && b) (h .held) (ap₂ (λ (a b : Bool). a && b) (h .pending)
+    (ap₂ (λ (a b : Bool). a && b) (h .late) (h .after-first)))))))
 
 -- the held pairs are those of rules
 pub pending-rules : (w : Automaton) (s : Stream) → pendingInside w s ≡ true → s .pending < 2 ^ 64
@@ -228,6 +301,7 @@ module _ (t : List ℕ) (s : Stream) (len room : ℕ) where
 pub record Accepted (t : List ℕ) (s : Stream) (len room : ℕ) : Type 0 where
   pub table : isTable t ≡ true
   pub state : Fitting (automaton t) s
+  pub no-starts : needsStarts (automaton t) ≡ false
   pub still-open : s .closed ≡ false
   pub short : s .taken + len ≤ streamLimit
   pub space : 2 * rulesOf t ≤ room
@@ -243,7 +317,8 @@ accepted t s len room e =
     go true a true b false c false d false f z =
         record {
           table = a;
-          state = fitting (automaton t) s b;
+          state = fitting (automaton t) s (valid-parts (automaton t) s b .0);
+          no-starts = valid-parts (automaton t) s b .1;
           still-open = c;
           short = ltb-false streamLimit (s .taken + len) d;
           space = ltb-false room (2 * rulesOf t) f;
@@ -273,7 +348,7 @@ close-number t s room =
         → cond b (cond (s .closed) 19 (cond (ltb streamLimit (s .taken + 0)) 21 (spaceNumber t room))) 18 ≡ cond b (cond (s .closed) 19 (spaceNumber t room)) 18
     go true e =
         ap (λ (c : Bool). cond (s .closed) 19 (cond c 21 (spaceNumber t room)))
-        (le-ltb streamLimit (s .taken + 0) (omega (arith, fitting (automaton t) s e .limit)))
+        (le-ltb streamLimit (s .taken + 0) (omega (arith, fitting (automaton t) s (valid-parts (automaton t) s e .0) .limit)))
     go false e = refl
 
 pub close-numbered : (t : List ℕ) (s : Stream) (room space number : ℕ) → number ≡ scanNumber t s 0 room → room ≡ space → number ≡ closeNumber t s space

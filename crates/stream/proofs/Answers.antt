@@ -21,7 +21,7 @@ use Rattle.steps.proofs.TableSets.{set-on, number-on}
 use Rattle.stream.specs.declared.Stream.{Stream}
 use Rattle.stream.specs.declared.Advance.{Advance}
 use Rattle.stream.specs.declared.scan.Turn.{Turn}
-use Rattle.stream.specs.Byte.{Machine, after, fitsBy, nextHeld, nextPending, byteState, plain, stateAfter, reportsOf, costOf}
+use Rattle.stream.specs.Byte.{Report, Machine, after, fitsBy, nextHeld, nextPending, byteState, plain, stateAfter, reportsOf, costOf}
 use Rattle.stream.specs.Calls.{Lists, Call, fresh, opened, space, closeNumber, callNumber, takenBy, written, scanned, scannedLists, shut, closed, closedLists}
 use Rattle.stream.specs.Invariants.{stateOf, sideAt, Left, Ended, Running, Ran, AdvancedBy, Advanced}
 use Rattle.stream.proofs.Machines.{after-more, fits-is}
@@ -144,7 +144,7 @@ opened-is t z e f = ap (λ (x : Stream). record { number = 0; stream = x }) f �
 -- ---- scanning
 
 -- a scan that may not pause takes as many bytes as fit
-pub advanced-fits : {S : Type 0} (m : Machine S) (out : S → Stream) (s : S) (allowance : ℕ) (block : List ℕ) (l : Lists) (r : Advance) (l′ : Lists)
+pub advanced-fits : {S : Type 0} (m : Machine S Report) (out : S → Stream) (s : S) (allowance : ℕ) (block : List ℕ) (l : Lists) (r : Advance) (l′ : Lists)
     → AdvancedBy m out s allowance block l false r l′ → r .taken ≡ fitsBy m s allowance block (space l) (length block)
 advanced-fits m out s allowance block l r l′ h =
     sym (fits-is m s block allowance (space l) (r .taken) (length block) (h .inside) (omega (arith, h .filled .count-is, h .filled .room)) (omega (arith, h .left-is))

@@ -13,15 +13,15 @@ use Rattle.stream.specs.Invariants.{columnAt, writtenAt, partAt, free, b
 
 -- ---- one list
 
-module _ (f : Report → ℕ) where
-  map-join : (a b : List Report) → map f (a ++ b) ≡ map f a ++ map f b
+module _ {R A : Type 0} (f : R → A) where
+  map-join : (a b : List R) → map f (a ++ b) ≡ map f a ++ map f b
   map-join [] b = refl
-  map-join (x ∷ a) b = ap (λ (l : List ℕ). f x ∷ l) (map-join a b)
+  map-join (x ∷ a) b = ap (λ (l : List A). f x ∷ l) (map-join a b)
 
-  column-long : (new : List Report) (x : List ℕ) → length new ≤ length x → length (column f new x) ≡ length x
+  pub column-long : (new : List R) (x : List A) → length new ≤ length x → length (column f new x) ≡ length x
   column-long new x h = omega (arith, length-append (map f new) (drop (length new) x), length-map new f, length-drop (length new) x)
 
-  column-at-long : (n : ℕ) (new : List Report) (x : List ℕ) → n + length new ≤ length x → length (columnAt f n new x) ≡ length x
+  pub column-at-long : (n : ℕ) (new : List R) (x : List A) → n + length new ≤ length x → length (columnAt f n new x) ≡ length x
   column-at-long n new x h =
       omega (
         arith,
@@ -32,46 +32,46 @@ module _ (f : Report → ℕ) where
         length-drop (n + length new) x,
       )
 
-  column-none : (n : ℕ) (x : List ℕ) → columnAt f n [] x ≡ x
+  pub column-none : (n : ℕ) (x : List A) → columnAt f n [] x ≡ x
   column-none n x = ap (λ (k : ℕ). take n x ++ drop k x) (add-zero n) ∙ take-append-drop n x
 
   -- from place 0 on
-  column-front : (new : List Report) (x : List ℕ) → columnAt f 0 new x ≡ column f new x
+  pub column-front : (new : List R) (x : List A) → columnAt f 0 new x ≡ column f new x
   column-front new x = let e : 0 + length new ≡ length new = omega arith in ap (λ (k : ℕ). map f new ++ drop k x) e
 
   -- behind what is there
-  column-more : (n : ℕ) (old new : List Report) (x : List ℕ) → n ≡ length old → columnAt f n new (column f old x) ≡ column f (old ++ new) x
+  pub column-more : (n : ℕ) (old new : List R) (x : List A) → n ≡ length old → columnAt f n new (column f old x) ≡ column f (old ++ new) x
   column-more n old new x e =
       let long : length (map f old) ≡ n = length-map old f ∙ sym e in
       let rest : drop (n + length new) (column f old x) ≡ drop (length (old ++ new)) x =
       sym (drop-drop (length new) n (column f old x)) ∙ ap (drop (length new)) (drop-at (map f old) (drop (length old) x) n long)
       ∙ drop-drop (length new) (length old) x ∙ ap (λ (k : ℕ). drop k x) (sym (length-append old new)) in
-      ap₂ (λ (p q : List ℕ). p ++ (map f new ++ q)) (take-at (map f old) (drop (length old) x) n long) rest
+      ap₂ (λ (p q : List A). p ++ (map f new ++ q)) (take-at (map f old) (drop (length old) x) n long) rest
       ∙ sym (append-assoc (map f old) (map f new) (drop (length (old ++ new)) x))
-      ∙ ap (λ (p : List ℕ). p ++ drop (length (old ++ new)) x) (sym (map-join old new))
+      ∙ ap (λ (p : List A). p ++ drop (length (old ++ new)) x) (sym (map-join old new))
 
   -- in a part that was lent
-  column-part : (n : ℕ) (new : List Report) (x last : List ℕ) → n ≤ length x → last ≡ column f new (partAt n x) → putMid n (length x - n) x last ≡ columnAt f n new x
+  pub column-part : (n : ℕ) (new : List R) (x last : List A) → n ≤ length x → last ≡ column f new (partAt n x) → putMid n (length x - n) x last ≡ columnAt f n new x
   column-part n new x last h e =
       let all : partAt n x ≡ drop n x = take-all (length x - n) (drop n x) (omega (arith, length-drop n x)) in
       let none : drop (length x - n) (drop n x) ≡ [] = drop-of-length-le (drop n x) {i = length x - n} (omega (arith, length-drop n x)) in
-      ap (λ (q : List ℕ). take n x ++ q)
-      (ap₂ (λ (p q : List ℕ). p ++ q) (e ∙ ap (λ (l : List ℕ). map f new ++ drop (length new) l) all ∙ ap (λ (l : List ℕ). map f new ++ l) (drop-drop (length new) n x)) none
+      ap (λ (q : List A). take n x ++ q)
+      (ap₂ (λ (p q : List A). p ++ q) (e ∙ ap (λ (l : List A). map f new ++ drop (length new) l) all ∙ ap (λ (l : List A). map f new ++ l) (drop-drop (length new) n x)) none
       ∙ append-nil (map f new ++ drop (n + length new) x))
 
   -- one more
-  column-store : (n m : ℕ) (new : List Report) (r : Report) (x : List ℕ) → m ≡ n + length new → m < length x → set (columnAt f n new x) m (f r) ≡ columnAt f n (new ++ r ∷ []) x
+  pub column-store : (n m : ℕ) (new : List R) (r : R) (x : List A) → m ≡ n + length new → m < length x → set (columnAt f n new x) m (f r) ≡ columnAt f n (new ++ r ∷ []) x
   column-store n m new r x e h =
-      let p : List ℕ = take n x ++ map f new in
+      let p : List A = take n x ++ map f new in
       let long : length p ≡ m = omega (arith, length-append (take n x) (map f new), length-take n x, length-map new f) in
       let next : n + length (new ++ r ∷ []) ≡ suc m = omega (arith, length-append new (r ∷ [])) in
       ap (λ (k : ℕ). set (take n x ++ (map f new ++ drop k x)) m (f r)) (sym e)
-      ∙ ap (λ (l : List ℕ). set l m (f r)) (sym (append-assoc (take n x) (map f new) (drop m x)))
-      ∙ ap (λ (l : List ℕ). set (p ++ l) m (f r)) (drop-cons x m 0 h)
-      ∙ set-at p (getD x m 0) (drop (suc m) x) (f r) m long
+      ∙ ap (λ (l : List A). set l m (f r)) (sym (append-assoc (take n x) (map f new) (drop m x)))
+      ∙ ap (λ (l : List A). set (p ++ l) m (f r)) (drop-cons x m (f r) h)
+      ∙ set-at p (getD x m (f r)) (drop (suc m) x) (f r) m long
       ∙ append-assoc (take n x) (map f new) (f r ∷ drop (suc m) x)
-      ∙ ap (λ (q : List ℕ). take n x ++ q)
-      (sym (append-assoc (map f new) (f r ∷ []) (drop (suc m) x)) ∙ ap₂ (λ (a : List ℕ) (k : ℕ). a ++ drop k x) (sym (map-join new (r ∷ []))) (sym next))
+      ∙ ap (λ (q : List A). take n x ++ q)
+      (sym (append-assoc (map f new) (f r ∷ []) (drop (suc m) x)) ∙ ap₂ (λ (a : List A) (k : ℕ). a ++ drop k x) (sym (map-join new (r ∷ []))) (sym next))
 
 -- ---- all of them
 
@@ -92,7 +92,7 @@ module _ (l : Lists) where
 
   pub written-at-none : (n : ℕ) → writtenAt n [] l ≡ l
   unfolding writtenAt
-  written-at-none n = λ i. lists (column-none (λ r. r .id) n (l .ids) i) (column-none (λ r. r .end) n (l .offsets) i)
+  written-at-none n = λ i. lists (column-none (λ (r : Report). r .id) n (l .ids) i) (column-none (λ (r : Report). r .end) n (l .offsets) i)
 
   pub written-front : (new : List Report) → writtenAt 0 new l ≡ written new l
   unfolding written writtenAt

@@ -13,10 +13,10 @@ use lib.Dec.{leb}
 use lib.ListN.{length, getD, drop, length-append, List·getD-append}
 use lib.Seq.{getD-drop, drop-append-seam}
 use borrow.Author.Tests.{le-leb, lt-leb, leb-true}
-use Rattle.stream.specs.Byte.{Report, Machine, after, reportsBy, costBy, withinBy, fitsBy}
+use Rattle.stream.specs.Byte.{Machine, after, reportsBy, costBy, withinBy, fitsBy}
 use Rattle.stream.specs.Invariants.{Over}
 
-module _ {S : Type 0} (m : Machine S) (s : S) (block : List ℕ) where
+module _ {S R : Type 0} (m : Machine S R) (s : S) (block : List ℕ) where
   pub after-more : (k : ℕ) → after m s block (k + 1) ≡ m .next (after m s block k) (getD block k 0)
   unfolding after
   after-more k = ap (after m s block) (add-one k)
@@ -152,7 +152,7 @@ module _ {S : Type 0} (m : Machine S) (s : S) (block : List ℕ) where
 
 -- ---- a block in two parts
 
-module _ {S : Type 0} (m : Machine S) (s : S) (block : List ℕ) (j : ℕ) where
+module _ {S R : Type 0} (m : Machine S R) (s : S) (block : List ℕ) (j : ℕ) where
   abbrev z : S
   z = after m s block j
 
@@ -168,7 +168,7 @@ module _ {S : Type 0} (m : Machine S) (s : S) (block : List ℕ) (j : ℕ) where
   unfolding reportsBy
   reports-later zero = ap (reportsBy m s block) (add-zero j) ∙ sym (append-nil (reportsBy m s block j))
   reports-later (suc k) =
-      ap (reportsBy m s block) (add-suc j k) ∙ ap₂ (λ (x y : List Report). x ++ y) (reports-later k) (ap₂ (m .reports) (after-later k) (sym (getD-drop j block k 0)))
+      ap (reportsBy m s block) (add-suc j k) ∙ ap₂ (λ (x y : List R). x ++ y) (reports-later k) (ap₂ (m .reports) (after-later k) (sym (getD-drop j block k 0)))
       ∙ append-assoc (reportsBy m s block j) (reportsBy m z rest k) (m .reports (after m z rest k) (getD rest k 0))
 
   pub cost-later : (k : ℕ) → costBy m s block (j + k) ≡ costBy m s block j + costBy m z rest k
@@ -198,7 +198,7 @@ module _ {S : Type 0} (m : Machine S) (s : S) (block : List ℕ) (j : ℕ) where
           inr (omega (arith, ap (costBy m s block) e, cost-later (k + 1)))
 
 -- bytes past those that are taken do not count
-module _ {S : Type 0} (m : Machine S) (s : S) (a b : List ℕ) where
+module _ {S R : Type 0} (m : Machine S R) (s : S) (a b : List ℕ) where
   pub after-front : (k : ℕ) → k ≤ length a → after m s (a ++ b) k ≡ after m s a k
   unfolding after
   after-front zero h = refl
@@ -208,22 +208,22 @@ module _ {S : Type 0} (m : Machine S) (s : S) (a b : List ℕ) where
   unfolding reportsBy
   reports-front zero h = refl
   reports-front (suc k) h =
-      ap₂ (λ (x y : List Report). x ++ y) (reports-front k (omega arith)) (ap₂ (m .reports) (after-front k (omega arith)) (List·getD-append a b 0 k h))
+      ap₂ (λ (x y : List R). x ++ y) (reports-front k (omega arith)) (ap₂ (m .reports) (after-front k (omega arith)) (List·getD-append a b 0 k h))
 
 -- a block in two parts, one after the other, gives the reports and the state of the whole
-pub record TwoParts {S : Type 0} (m : Machine S) (s : S) (a b : List ℕ) : Type 0 where
+pub record TwoParts {S R : Type 0} (m : Machine S R) (s : S) (a b : List ℕ) : Type 0 where
   pub state : after m s (a ++ b) (length (a ++ b)) ≡ after m (after m s a (length a)) b (length b)
   pub reports : reportsBy m s (a ++ b) (length (a ++ b)) ≡ reportsBy m s a (length a) ++ reportsBy m (after m s a (length a)) b (length b)
 
-pub two-parts : {S : Type 0} (m : Machine S) (s : S) (a b : List ℕ) → TwoParts m s a b
-two-parts {S} m s a b =
+pub two-parts : {S R : Type 0} (m : Machine S R) (s : S) (a b : List ℕ) → TwoParts m s a b
+two-parts {S} {R} m s a b =
     record {
       state =
           ap (after m s (a ++ b)) whole ∙ after-later m s (a ++ b) (length a) (length b)
           ∙ ap₂ (λ (z : S) (l : List ℕ). after m z l (length b)) middle rest;
       reports =
           ap (reportsBy m s (a ++ b)) whole ∙ reports-later m s (a ++ b) (length a) (length b)
-          ∙ ap₂ (λ (x y : List Report). x ++ y) (reports-front m s a b (length a) (le-refl (length a))) (ap₂ (λ (z : S) (l : List ℕ). reportsBy m z l (length b)) middle rest);
+          ∙ ap₂ (λ (x y : List R). x ++ y) (reports-front m s a b (length a) (le-refl (length a))) (ap₂ (λ (z : S) (l : List ℕ). reportsBy m z l (length b)) middle rest);
     }
   where
     whole : length (a ++ b) ≡ length a + length b
@@ -237,13 +237,13 @@ two-parts {S} m s a b =
 
 -- ---- two machines that agree, on the states of the first that keep P and on the bytes that Q has
 
-pub record Agree {S T : Type 0} (m : Machine S) (n : Machine T) (out : S → T) (P : S → Type 0) (Q : ℕ → Type 0) : Type 0 where
+pub record Agree {S T R : Type 0} (m : Machine S R) (n : Machine T R) (out : S → T) (P : S → Type 0) (Q : ℕ → Type 0) : Type 0 where
   pub keeps : (s : S) (x : ℕ) → Q x → P s → P (m .next s x)
   pub next-is : (s : S) (x : ℕ) → Q x → P s → out (m .next s x) ≡ n .next (out s) x
   pub reports-are : (s : S) (x : ℕ) → Q x → P s → m .reports s x ≡ n .reports (out s) x
   pub cost-is : (s : S) → P s → m .cost s ≡ n .cost (out s)
 
-module _ {S T : Type 0} {m : Machine S} {n : Machine T} {out : S → T} {P : S → Type 0} {Q : ℕ → Type 0} (agree : Agree m n out P Q) (s : S) (h : P s) (block : List ℕ)
+module _ {S T R : Type 0} {m : Machine S R} {n : Machine T R} {out : S → T} {P : S → Type 0} {Q : ℕ → Type 0} (agree : Agree m n out P Q) (s : S) (h : P s) (block : List ℕ)
     (bytes : (k : ℕ) → k < length block → Q (getD block k 0)) where
   pub kept : (k : ℕ) → k ≤ length block → P (after m s block k)
   unfolding after
@@ -260,7 +260,7 @@ module _ {S T : Type 0} {m : Machine S} {n : Machine T} {out : S → T} {P : S �
   unfolding reportsBy
   same-reports zero l = refl
   same-reports (suc k) l =
-      ap₂ (λ (x y : List Report). x ++ y) (same-reports k (omega arith))
+      ap₂ (λ (x y : List R). x ++ y) (same-reports k (omega arith))
       (agree .reports-are (after m s block k) (getD block k 0) (bytes k l) (kept k (omega arith)) ∙ ap (λ (z : T). n .reports z (getD block k 0)) (same-after k (omega arith)))
 
   pub same-cost : (k : ℕ) → k ≤ length block → costBy m s block k ≡ costBy n (out s) block k
@@ -274,7 +274,7 @@ module _ {S T : Type 0} {m : Machine S} {n : Machine T} {out : S → T} {P : S �
   same-fits allowance room zero l = refl
   same-fits allowance room (suc k) l =
       ap₂ (λ (b : Bool) (j : ℕ). cond b (suc k) j)
-      (ap₂ (λ (r : List Report) (u : ℕ). leb (length r) room && leb u allowance) (same-reports (suc k) l) (same-cost (suc k) l)) (same-fits allowance room k (omega arith))
+      (ap₂ (λ (r : List R) (u : ℕ). leb (length r) room && leb u allowance) (same-reports (suc k) l) (same-cost (suc k) l)) (same-fits allowance room k (omega arith))
 
   pub same-over : (allowance room k : ℕ) → k ≤ length block → Over m s allowance block room k → Over n (out s) allowance block room k
   same-over allowance room k l (inl g) = inl (omega (arith, ap length (same-reports k l)))

@@ -8,13 +8,13 @@ use native.Mathlib.Omega.{arith}
 use lib.ListN.{length, drop, length-drop, length-append}
 use Rattle.stream.specs.declared.Stream.{Stream}
 use Rattle.stream.specs.declared.Advance.{Advance}
-use Rattle.stream.specs.Byte.{Machine, after, reportsBy, costBy}
+use Rattle.stream.specs.Byte.{Report, Machine, after, reportsBy, costBy}
 use Rattle.stream.specs.Calls.{Lists, space}
 use Rattle.stream.specs.Invariants.{free, back, Filled, Over, AdvancedBy}
 use Rattle.stream.proofs.Lists.{free-space, filled-space, filled-inside, filled-part, filled-same}
 use Rattle.stream.proofs.Machines.{after-later, reports-later, cost-later}
 
-module _ {S : Type 0} (m : Machine S) (s : S) (allowance : ℕ) (block : List ℕ) (l₀ l : Lists) (j count left : ℕ) (inside : j ≤ length block)
+module _ {S : Type 0} (m : Machine S Report) (s : S) (allowance : ℕ) (block : List ℕ) (l₀ l : Lists) (j count left : ℕ) (inside : j ≤ length block)
     (paid : left + costBy m s block j ≡ allowance) (filled : Filled (reportsBy m s block j) l₀ count l) where
   abbrev z : S
   z = after m s block j

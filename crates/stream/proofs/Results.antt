@@ -9,8 +9,8 @@ use Prim.Native.Nat.{ℕ, zero, suc, _+_, _*_, _<_, _≤_, zero-le}
 use native.Mathlib.Omega.{arith}
 use lib.Dec.{eqb, leb, ltb}
 use lib.ListN.{length, getD}
-use borrow.Author.Tests.{eq-eqb, ne-eqb, eqb-true, not-true, le-leb, ltb-true}
-use Rattle.sets.specs.Set.{on, has, setOf, wordOf, any, emptySet, sizeOf}
+use borrow.Author.Tests.{lt-ltb, eq-eqb, ne-eqb, eqb-true, not-true, le-leb, ltb-true}
+use Rattle.sets.specs.Set.{on, has, setOf, wordOf, any, emptySet, isEmpty, sizeOf}
 use Rattle.sets.proofs.Digits.{on-zero, on-wordOf}
 use Rattle.sets.proofs.Laws.{has-setOf, has-empty, any-none, any-never, count-never}
 use Rattle.kinds.specs.declared.Side.{Side}
@@ -26,11 +26,11 @@ use Rattle.stream.specs.declared.Stream.{Stream}
 use Rattle.stream.specs.declared.Scanned.{Scanned}
 use Rattle.stream.specs.declared.Closed.{Closed}
 use Rattle.stream.specs.Byte.{nextHeld, nextPending, runMarks, twoMarks, lateTest, ownTest, byteState, plain, after, stateAfter, reportsOf, costOf, closeReports, busyOf}
-use Rattle.stream.specs.Valid.{streamLimit, sameCounts, liveInside, marksSingle, underLimit, heldInside, pendingInside, pendingLate, valid}
+use Rattle.stream.specs.Valid.{streamLimit, sameCounts, liveInside, marksSingle, underLimit, heldInside, pendingInside, pendingLate, begun, sound, needsStarts, valid}
 use Rattle.stream.specs.Calls.{Lists, Call, fresh, opened, space, closeNumber, callNumber, takenBy, scanned, shut, closed}
 use Rattle.stream.proofs.Machines.{fits-le, fits-within}
 use Rattle.stream.proofs.Blocks.{cost-some, cost-few, one-fits, taken-after, rules-after, positions-after}
-use Rattle.stream.proofs.Accepting.{Fitting, fitted, Accepted, accepted, close-number}
+use Rattle.stream.proofs.Accepting.{Fitting, fitted, valid-is, Accepted, accepted, close-number}
 
 -- ---- an opened stream
 
@@ -43,11 +43,15 @@ pub opened-stream : (t : List ℕ) → isTable t ≡ true → opened t .stream �
 unfolding opened
 opened-stream t e = rw e
 
--- the state is valid for the words
-pub opened-valid : (t : List ℕ) → isTable t ≡ true → valid (automaton t) (opened t .stream) ≡ true
-unfolding automaton liveInside marksSingle heldInside pendingInside pendingLate
-opened-valid t e =
-    ap (valid (automaton t)) (opened-stream t e)
+none-empty : isEmpty emptySet ≡ true
+unfolding isEmpty
+none-empty = ap not (any-never maxPositions (has emptySet) has-empty)
+
+-- the state is sound for the words, and valid where no rule needs a start
+pub opened-sound : (t : List ℕ) → isTable t ≡ true → sound (automaton t) (opened t .stream) ≡ true
+unfolding automaton liveInside marksSingle heldInside pendingInside pendingLate begun
+opened-sound t e =
+    ap (sound (automaton t)) (opened-stream t e)
     ∙ fitted (automaton t) (fresh (rulesOf t) (positionsOf t) false) (record {
       rules-same = refl;
       positions-same = refl;
@@ -59,7 +63,11 @@ opened-valid t e =
       held = ap not (any-never maxPositions (λ q. has emptySet q && leb (positionsOf t) q) (λ q h. ap (λ (b : Bool). b && leb (positionsOf t) q) (has-empty q h)));
       pending = ap not (any-never 64 (λ a. on 0 a && not (ltb a (rulesOf t))) (λ a h. ap (λ (b : Bool). b && not (ltb a (rulesOf t))) (on-zero a)));
       late = refl;
+      after-first = ap (λ (b : Bool). (b && b) || ltb 0 0) none-empty;
     })
+
+pub opened-valid : (t : List ℕ) → isTable t ≡ true → needsStarts (automaton t) ≡ false → valid (automaton t) (opened t .stream) ≡ true
+opened-valid t e = valid-is (automaton t) (opened t .stream) (opened-sound t e)
 
 -- ---- a valid state stays valid
 
@@ -180,6 +188,15 @@ module _ (w : Automaton) (s : Stream) (block : List ℕ) (h : Fitting w s) where
   marks-after zero = h .marks
   marks-after (suc k) = single-next w (stateAfter w s block k) (getD block k 0) (marks-after k)
 
+  begun-after : (k : ℕ) → begun (stateAfter w s block k) ≡ true
+  unfolding after begun byteState
+  begun-after zero = h .after-first
+  begun-after (suc k) =
+      let z : Stream = byteState w (stateAfter w s block k) (getD block k 0) in
+      ap (λ (b : Bool). (isEmpty (z .live) && isEmpty (z .held)) || b)
+      (lt-ltb 0 (suc (stateAfter w s block k .taken)) (omega arith))
+      ∙ or-true (isEmpty (z .live) && isEmpty (z .held))
+
   pub fitting-after : (k : ℕ) → s .taken + k ≤ streamLimit → Fitting w (stateAfter w s block k)
   fitting-after k l =
       record {
@@ -191,6 +208,7 @@ module _ (w : Automaton) (s : Stream) (block : List ℕ) (h : Fitting w s) where
         held = held-after k;
         pending = pending-after k;
         late = late-after k;
+        after-first = begun-after k;
       }
 
 -- ---- the answer of a scan
@@ -250,8 +268,10 @@ module _ (t : List ℕ) (s : Stream) (c : Call) where
     pub scanned-valid : valid (automaton t) (scanned t s c .stream) ≡ true
     scanned-valid =
         ap (valid (automaton t)) scan-state
-        ∙ fitted (automaton t) (stateAfter (automaton t) s (c .block) (scanned t s c .taken))
-        (fitting-after (automaton t) s (c .block) (held .state) (scanned t s c .taken) (omega (arith, held .short, taken-within)))
+        ∙ valid-is (automaton t) (stateAfter (automaton t) s (c .block) (scanned t s c .taken))
+        (fitted (automaton t) (stateAfter (automaton t) s (c .block) (scanned t s c .taken))
+        (fitting-after (automaton t) s (c .block) (held .state) (scanned t s c .taken) (omega (arith, held .short, taken-within))))
+        (held .no-starts)
 
   -- what a scan uses: no more than it may, and from 1 to 257 units for each byte that it takes
   pub used-within : (scanned t s c .used ≤ c .allowance)
@@ -271,7 +291,7 @@ module _ (t : List ℕ) (s : Stream) (c : Call) where
 
 -- the closed mark is no part of the test
 shut-valid : (w : Automaton) (s : Stream) → valid w (shut s) ≡ valid w s
-unfolding valid sameCounts liveInside marksSingle underLimit heldInside pendingInside pendingLate
+unfolding valid sound sameCounts liveInside marksSingle underLimit heldInside pendingInside pendingLate begun
 shut-valid w s = refl
 
 module _ (t : List ℕ) (s : Stream) (l : Lists) where
@@ -296,4 +316,7 @@ module _ (t : List ℕ) (s : Stream) (l : Lists) where
     pub closed-valid : valid (automaton t) (closed t s l .stream) ≡ true
     closed-valid =
         ap (λ (r : Closed). valid (automaton t) (r .stream)) (accepted-close (sym close-number-is ∙ ok)) ∙ shut-valid (automaton t) s
-        ∙ fitted (automaton t) s (accepted t s 0 (space l) (close-number t s (space l) ∙ sym close-number-is ∙ ok) .state)
+        ∙ valid-is (automaton t) s (fitted (automaton t) s (held .state)) (held .no-starts)
+      where
+        held : Accepted t s 0 (space l)
+        held = accepted t s 0 (space l) (close-number t s (space l) ∙ sym close-number-is ∙ ok)

@@ -28,7 +28,7 @@ use Rattle.stream.proofs.Lists.{written-at-none, written-store, long-wr
 
 -- ---- the reports
 
-module _ (test : ℕ → Bool) (marks : ℕ) (give : ℕ → Report) where
+module _ {R : Type 0} (test : ℕ → Bool) (marks : ℕ) (give : ℕ → R) where
   -- as many as there are rules due
   pub run-count : (n : ℕ) → length (runReports test marks give n) ≡ count n (due test marks)
   unfolding runReports count
@@ -49,19 +49,19 @@ module _ (test : ℕ → Bool) (marks : ℕ) (give : ℕ → Report) where
   unfolding runReports
   run-none zero e = refl
   run-none (suc n) e =
-      ap₂ (λ (l : List Report) (b : Bool). l ++ cond (b && not (on marks n)) (give n ∷ []) []) (run-none n (λ a h. e a (omega arith))) (e n (omega arith))
+      ap₂ (λ (l : List R) (b : Bool). l ++ cond (b && not (on marks n)) (give n ∷ []) []) (run-none n (λ a h. e a (omega arith))) (e n (omega arith))
 
 -- ---- a run looks at the rules of the table alone
 
-pub run-same : (f g : ℕ → Bool) (m m′ : ℕ) (give : ℕ → Report) (n : ℕ)
+pub run-same : {R : Type 0} (f g : ℕ → Bool) (m m′ : ℕ) (give : ℕ → R) (n : ℕ)
     → ((a : ℕ) → a < n → due f m a ≡ due g m′ a) → runReports f m give n ≡ runReports g m′ give n
 unfolding runReports
 run-same f g m m′ give zero e = refl
-run-same f g m m′ give (suc n) e =
-    ap₂ (λ (l : List Report) (b : Bool). l ++ cond b (give n ∷ []) [])
+run-same {R} f g m m′ give (suc n) e =
+    ap₂ (λ (l : List R) (b : Bool). l ++ cond b (give n ∷ []) [])
     (run-same f g m m′ give n (λ a h. e a (omega arith))) (e n (omega arith))
 
-pub run-ext : (f g : ℕ → Bool) (marks : ℕ) (give : ℕ → Report) (n : ℕ)
+pub run-ext : {R : Type 0} (f g : ℕ → Bool) (marks : ℕ) (give : ℕ → R) (n : ℕ)
     → ((a : ℕ) → a < n → f a ≡ g a) → runReports f marks give n ≡ runReports g marks give n
 run-ext f g marks give n e =
     run-same f g marks marks give n (λ a h. ap (λ (b : Bool). b && not (on marks a)) (e a h))
@@ -105,7 +105,7 @@ due-ones ending marks h l =
     ∙ count-ext 64 (on (bitAnd ending (2 ^ 64 - 1 - marks))) (λ a. on ending a && not (on marks a)) (λ a m. on-without ending marks a l m)
 
 -- and are as many as the run has reports, where no digit is past the rules
-pub due-count : (w : Automaton) (ending marks : ℕ) (give : ℕ → Report) → ending ≡ rulesWhere w (on ending) → w .rules ≤ 64
+pub due-count : {R : Type 0} (w : Automaton) (ending marks : ℕ) (give : ℕ → R) → ending ≡ rulesWhere w (on ending) → w .rules ≤ 64
     → count 64 (λ a. on ending a && not (on marks a)) ≡ length (runReports (on ending) marks give (w .rules))
 due-count w ending marks give is h =
     count-below (w .rules) 64 (λ a. on ending a && not (on marks a)) h
@@ -140,11 +140,11 @@ abbrev pub without : ℕ → ℕ
 without word = bitAnd word (word - 1)
 
 -- what the rules of a word report
-abbrev reportsIn : ℕ → (ℕ → Report) → ℕ → List Report
+abbrev pub reportsIn : {R : Type 0} → ℕ → (ℕ → R) → ℕ → List R
 reportsIn word = runReports (on word) 0
 
 module _ (word : ℕ) (small : word < 2 ^ 64) (some : ¬ (word ≡ 0)) where
-  lowest-on : (lowest word < 64) × (on word (lowest word) ≡ true)
+  pub lowest-on : (lowest word < 64) × (on word (lowest word) ≡ true)
   lowest-on = zeros-on 64 word small (omega arith)
 
   without-is : without word ≡ word / 2 ^ suc (lowest word) * 2 ^ suc (lowest word)
@@ -155,7 +155,7 @@ module _ (word : ℕ) (small : word < 2 ^ 64) (some : ¬ (word ≡ 0)) where
       ap (λ (x : ℕ). on x k) without-is
       ∙ cleared-off (word / 2 ^ suc (lowest word)) (suc (lowest word)) k (omega arith)
 
-  without-same : (k : ℕ) → lowest word < k → on word k ≡ on (without word) k
+  pub without-same : (k : ℕ) → lowest word < k → on word k ≡ on (without word) k
   without-same k h =
       let at : suc (lowest word) + (k - suc (lowest word)) ≡ k = omega arith in
       ap (on word) (sym at) ∙ sym (cleared-on word (suc (lowest word)) (k - suc (lowest word)))
@@ -165,18 +165,18 @@ module _ (word : ℕ) (small : word < 2 ^ 64) (some : ¬ (word ≡ 0)) where
   without-less = omega (arith, and-le-r word (word - 1))
 
   -- its rule reports first
-  lowest-first : (give : ℕ → Report) (n : ℕ) → lowest word < n
+  pub lowest-first : {R : Type 0} (give : ℕ → R) (n : ℕ) → lowest word < n
       → reportsIn word give n ≡ give (lowest word) ∷ reportsIn (without word) give n
   unfolding runReports
-  lowest-first give =
+  lowest-first {R} give =
       le-ind First
-      (ap₂ (λ (l : List Report) (b : Bool). l ++ cond b (give (lowest word) ∷ []) [])
+      (ap₂ (λ (l : List R) (b : Bool). l ++ cond b (give (lowest word) ∷ []) [])
       (run-none (on word) 0 give (lowest word) (zeros-off 64 word))
       (ap₂ (λ (x y : Bool). x && not y) (lowest-on .1) (on-zero (lowest word)))
-      ∙ ap (λ (l : List Report). give (lowest word) ∷ l)
+      ∙ ap (λ (l : List R). give (lowest word) ∷ l)
       (sym (run-none (on (without word)) 0 give (suc (lowest word))
       (λ k l. without-off k (omega arith)))))
-      (λ m l e. ap₂ (λ (r : List Report) (b : Bool). r ++ cond (b && not (on 0 m)) (give m ∷ []) [])
+      (λ m l e. ap₂ (λ (r : List R) (b : Bool). r ++ cond (b && not (on 0 m)) (give m ∷ []) [])
       e (without-same m l))
     where
       First : ℕ → Type 0

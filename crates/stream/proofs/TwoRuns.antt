@@ -23,7 +23,7 @@ use Rattle.stream.proofs.Runs.{run-few, run-ext, marks-ext, run-none, m
 
 -- ---- how many reports there are
 
-module _ (w : Automaton) (one two : ℕ → Bool) (marks : ℕ) (first second : ℕ → Report) where
+module _ {R : Type 0} (w : Automaton) (one two : ℕ → Bool) (marks : ℕ) (first second : ℕ → R) where
   pub two-count : length (twoReports w one two marks first second)
       ≡ length (runReports one marks first (w .rules)) + length (runReports two (runMarks w one marks) second (w .rules))
   unfolding twoReports
@@ -36,10 +36,10 @@ module _ (w : Automaton) (one two : ℕ → Bool) (marks : ℕ) (first second : 
 -- ---- runs look at the rules of the table alone
 
 module _ (w : Automaton) (f f′ g g′ : ℕ → Bool) (marks : ℕ) (one : (a : ℕ) → a < w .rules → f a ≡ f′ a) (two : (a : ℕ) → a < w .rules → g a ≡ g′ a) where
-  pub two-ext : (first second : ℕ → Report) → twoReports w f g marks first second ≡ twoReports w f′ g′ marks first second
+  pub two-ext : {R : Type 0} (first second : ℕ → R) → twoReports w f g marks first second ≡ twoReports w f′ g′ marks first second
   unfolding twoReports
-  two-ext first second =
-      ap₂ (λ (x y : List Report). x ++ y) (run-ext f f′ marks first (w .rules) one)
+  two-ext {R} first second =
+      ap₂ (λ (x y : List R). x ++ y) (run-ext f f′ marks first (w .rules) one)
       (run-ext g g′ (runMarks w f marks) second (w .rules) two ∙ ap (λ (m : ℕ). runReports g′ m second (w .rules)) (marks-ext w f f′ marks one))
 
   pub two-marks-ext : twoMarks w f g marks ≡ twoMarks w f′ g′ marks
@@ -49,9 +49,9 @@ module _ (w : Automaton) (f f′ g g′ : ℕ → Bool) (marks : ℕ) (one : (a 
 -- ---- runs in which no rule ends
 
 module _ (w : Automaton) (f g : ℕ → Bool) (marks : ℕ) (one : (a : ℕ) → a < w .rules → f a ≡ false) (two : (a : ℕ) → a < w .rules → g a ≡ false) where
-  pub two-none : (first second : ℕ → Report) → twoReports w f g marks first second ≡ []
+  pub two-none : {R : Type 0} (first second : ℕ → R) → twoReports w f g marks first second ≡ []
   unfolding twoReports
-  two-none first second = ap₂ (λ (x y : List Report). x ++ y) (run-none f marks first (w .rules) one) (run-none g (runMarks w f marks) second (w .rules) two)
+  two-none {R} first second = ap₂ (λ (x y : List R). x ++ y) (run-none f marks first (w .rules) one) (run-none g (runMarks w f marks) second (w .rules) two)
 
   pub two-marks-none : marks < 2 ^ 64 → twoMarks w f g marks ≡ marks
   unfolding twoMarks
@@ -144,7 +144,7 @@ module _ (w : Automaton) (marks : ℕ) (first second : ℕ → Report) (l : List
       }
 
 -- how many of each are due, the marks between the runs: as many as the runs have reports
-pub due-two : (w : Automaton) (late own marks : ℕ) (first second : ℕ → Report)
+pub due-two : {R : Type 0} (w : Automaton) (late own marks : ℕ) (first second : ℕ → R)
     → marks < 2 ^ 64 → w .rules ≤ 64
     → late ≡ rulesWhere w (on late) → own ≡ rulesWhere w (on own)
     → (singles : ℕ) → singles ≡ rulesWhere w (single w) → {due₁ due₂ : ℕ}

@@ -22,19 +22,19 @@ pub record Report : Type 0 where
 -- ---- some bytes
 
 -- one byte: the state after it, the reports that it brings, and what it costs
-pub record Machine (S : Type 0) : Type 0 where
+pub record Machine (S R : Type 0) : Type 0 where
   pub next : S → ℕ → S
-  pub reports : S → ℕ → List Report
+  pub reports : S → ℕ → List R
   pub cost : S → ℕ
 
-module _ {S : Type 0} (m : Machine S) where
+module _ {S R : Type 0} (m : Machine S R) where
   -- "A scan takes bytes one at a time": the first k bytes of a block, the state after them, and the
   -- reports that they bring
   unfoldable pub after : S → List ℕ → ℕ → S
   after s block zero = s
   after s block (suc k) = m .next (after s block k) (getD block k 0)
 
-  unfoldable pub reportsBy : S → List ℕ → ℕ → List Report
+  unfoldable pub reportsBy : S → List ℕ → ℕ → List R
   reportsBy s block zero = []
   reportsBy s block (suc k) = reportsBy s block k ++ m .reports (after s block k) (getD block k 0)
 
@@ -62,7 +62,7 @@ module _ {S : Type 0} (m : Machine S) where
 abbrev pub due : (ℕ → Bool) → (marks : ℕ) → ℕ → Bool
 due test marks a = test a && not (on marks a)
 
-unfoldable pub runReports : (ℕ → Bool) → (marks : ℕ) → (ℕ → Report) → (n : ℕ) → List Report
+unfoldable pub runReports : {R : Type 0} → (ℕ → Bool) → (marks : ℕ) → (ℕ → R) → (n : ℕ) → List R
 runReports test marks give zero = []
 runReports test marks give (suc n) = runReports test marks give n ++ cond (due test marks n) (give n ∷ []) []
 
@@ -101,7 +101,7 @@ module _ (w : Automaton) where
   runMarks test marks = wordOf 64 (λ a. on marks a || (ltb a (w .rules) && (single w a && test a)))
 
   -- two runs, one after the other: their reports, and the marks afterwards
-  unfoldable pub twoReports : (one two : ℕ → Bool) → (marks : ℕ) → (first second : ℕ → Report) → List Report
+  unfoldable pub twoReports : {R : Type 0} → (one two : ℕ → Bool) → (marks : ℕ) → (first second : ℕ → R) → List R
   twoReports one two marks first second = runReports one marks first (w .rules) ++ runReports two (runMarks one marks) second (w .rules)
 
   unfoldable pub twoMarks : (one two : ℕ → Bool) → (marks : ℕ) → ℕ
@@ -135,7 +135,7 @@ module _ (w : Automaton) where
   }
 
   -- a stream as a machine: "A byte costs one unit plus the busy figure before it"
-  abbrev pub plain : Machine Stream
+  abbrev pub plain : Machine Stream Report
   plain = record { next = byteState; reports = byteReports; cost = λ s. suc (busyOf s) }
 
   abbrev pub stateAfter : Stream → List ℕ → ℕ → Stream

@@ -41,7 +41,7 @@ space l = min (length (l .ids)) (length (l .offsets))
 
 -- a list with what these reports give it at its front, and the lists with these reports: "slots
 -- past the count keep their values"
-abbrev pub column : (Report → ℕ) → List Report → List ℕ → List ℕ
+abbrev pub column : {R A : Type 0} → (R → A) → List R → List A → List A
 column f new old = map f new ++ drop (length new) old
 
 unfoldable pub written : List Report → Lists → Lists

@@ -38,14 +38,14 @@ stateOf live reported last taken = record {
 -- ---- the lent lists
 
 -- a list with what these reports give it from place n on, and the lists with these reports there
-abbrev pub columnAt : (Report → ℕ) → (n : ℕ) → List Report → List ℕ → List ℕ
+abbrev pub columnAt : {R A : Type 0} → (R → A) → (n : ℕ) → List R → List A → List A
 columnAt f n new old = take n old ++ (map f new ++ drop (n + length new) old)
 
 unfoldable pub writtenAt : (n : ℕ) → List Report → Lists → Lists
 writtenAt n new l = record { ids = columnAt (λ r. r .id) n new (l .ids); offsets = columnAt (λ r. r .end) n new (l .offsets) }
 
 -- what is free of each from place n on, as it is lent, and the lists once it came back
-abbrev pub partAt : ℕ → List ℕ → List ℕ
+abbrev pub partAt : {A : Type 0} → ℕ → List A → List A
 partAt n x = take (length x - n) (drop n x)
 
 abbrev pub free : ℕ → Lists → Lists
@@ -203,12 +203,12 @@ pub record Running (w : Automaton) (s : Stream) (allowance : ℕ) (block : List 
   pub filled : Filled (reportsOf w s block (z .at)) l₀ (z .count) l
 
 -- too many reports, or too much work
-abbrev pub Over : {S : Type 0} → Machine S → S → (allowance : ℕ) → List ℕ → (room k : ℕ) → Type 0
+abbrev pub Over : {S R : Type 0} → Machine S R → S → (allowance : ℕ) → List ℕ → (room k : ℕ) → Type 0
 Over m s allowance block room k = (room < length (reportsBy m s block k)) ⊎ (allowance < costBy m s block k)
 
 -- Why a loop over a block stands after k bytes: it stopped, and one more would be too many; or it
 -- may pause, took some, and nothing is live.
-pub record Rests {S : Type 0} (m : Machine S) (s : S) (allowance : ℕ) (block : List ℕ) (room k : ℕ) (pause stopped : Bool) (live : List ℕ) : Type 0 where
+pub record Rests {S R : Type 0} (m : Machine S R) (s : S) (allowance : ℕ) (block : List ℕ) (room k : ℕ) (pause stopped : Bool) (live : List ℕ) : Type 0 where
   pub stops : stopped ≡ true → k < length block → Over m s allowance block room (k + 1)
   pub pauses : stopped ≡ false → (pause ≡ true) × (isEmpty live ≡ true) × (0 < k)
 
@@ -226,7 +226,7 @@ pub record Left (w : Automaton) (s : Stream) (block before : List ℕ) (n : ℕ)
 
 -- what an accepted scan gives: of a machine, so that a scan that is given more than a table
 -- promises the same
-pub record AdvancedBy {S : Type 0} (m : Machine S) (out : S → Stream) (s : S) (allowance : ℕ) (block : List ℕ) (l : Lists) (pause : Bool) (r : Advance) (l′ : Lists) : Type 0 where
+pub record AdvancedBy {S : Type 0} (m : Machine S Report) (out : S → Stream) (s : S) (allowance : ℕ) (block : List ℕ) (l : Lists) (pause : Bool) (r : Advance) (l′ : Lists) : Type 0 where
   pub inside : r .taken ≤ length block
   pub left-is : r .left + costBy m s block (r .taken) ≡ allowance
   pub stream-is : r .stream ≡ out (after m s block (r .taken))

@@ -3,8 +3,8 @@
 use mathlib.Core.Bool.{Bool, not, _&&_, _||_}
 use Prim.Native.Nat.{ℕ}
 use lib.Dec.{eqb, leb, ltb}
-use Rattle.sets.specs.Set.{on, has, any}
-use Rattle.table.specs.Layout.{maxPositions}
+use Rattle.sets.specs.Set.{on, has, any, isEmpty}
+use Rattle.table.specs.Layout.{maxRules, maxPositions}
 use Rattle.table.specs.Automaton.{Automaton, single}
 use Rattle.stream.specs.declared.Stream.{Stream}
 
@@ -38,5 +38,22 @@ pendingInside w s = not (any 64 (λ a. on (s .pending) a && not (ltb a (w .rules
 unfoldable pub pendingLate : Stream → Bool
 pendingLate s = eqb (s .pending) 0 || leb 2 (s .taken)
 
+-- A live or held position has "a start, below the bytes taken": there is none before the first
+-- byte.
+unfoldable pub begun : Stream → Bool
+begun s = (isEmpty (s .live) && isEmpty (s .held)) || ltb 0 (s .taken)
+
+-- a state that fits its table, but for starts
+unfoldable pub sound : Automaton → Stream → Bool
+sound w s =
+    sameCounts w s && (liveInside w s && (marksSingle w s && (underLimit s && (heldInside w s
+    && (pendingInside w s && (pendingLate s && begun s))))))
+
+-- a rule of the table needs a start: a position keeps one, or a rule reports it
+unfoldable pub needsStarts : Automaton → Bool
+needsStarts w = any maxPositions (λ q. w .keeps q && ltb q (w .positions)) || any maxRules (λ a. ltb a (w .rules) && w .leftmost a)
+
+-- A state without starts is valid where no rule needs one: on other tables the state that has them
+-- is scanned.
 unfoldable pub valid : Automaton → Stream → Bool
-valid w s = sameCounts w s && (liveInside w s && (marksSingle w s && (underLimit s && (heldInside w s && (pendingInside w s && pendingLate s)))))
+valid w s = sound w s && not (needsStarts w)

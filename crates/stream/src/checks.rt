@@ -2,10 +2,13 @@
 // reason that refuses it.
 use super::STREAM_LIMIT;
 use super::Stream;
+use steps::keepers;
+use steps::leftmosts;
 use steps::singles;
 use table::layout::MAX_RULES;
 use table::layout::POSITIONS_AT;
 use table::layout::RULES_AT;
+use table::layout::TABLE_WORDS;
 ghost use mathlib.Core.Path.{_≡_};
 ghost use mathlib.Core.Bool.{not, _&&_};
 ghost use Prim.Native.Nat.{_≤_, min};
@@ -14,7 +17,7 @@ ghost use lib.ListN.{length};
 ghost use Rattle.sets.specs.Set.{on, has, any};
 ghost use Rattle.table.specs.Layout.{tableWords, maxPositions};
 ghost use Rattle.table.specs.Automaton.{automaton, single};
-ghost use Rattle.stream.specs.Valid.{valid};
+ghost use Rattle.stream.specs.Valid.{sound, needsStarts, valid};
 ghost use Rattle.stream.specs.Calls.{scanNumber};
 
 // The smaller of two numbers.
@@ -50,20 +53,56 @@ fn pending_inside(pending: u64, rules: u64) -> bool
     rules >= MAX_RULES || pending >> rules == 0
 }
 
-// Whether a state fits a table. Its two sets are tested at once, by their union.
-fn is_valid(s: Stream, words: &[u64]) -> bool
+// Whether a state fits a table, but for starts. Its two sets are tested at once, by their union.
+fn fits_table(s: Stream, words: &[u64]) -> bool
     requires { ⌜ tableWords ≤ length (now words) ⌝ }
-    ensures { λ r. ⌜ r ≡ valid (automaton (now (words .entry))) s ⌝ }
+    ensures { λ r. ⌜ r ≡ sound (automaton (now (words .entry))) s ⌝ }
 {
     let rules = words[RULES_AT];
     let positions = words[POSITIONS_AT];
     let live = s.live;
     let held = s.held;
     let same = (s.rules == rules) & (s.positions == positions);
-    let positioned = inside(sets::union(live, held), positions as usize);
+    let both = sets::union(live, held);
+    let positioned = inside(both, positions as usize);
     let marked = marks_single(s.reported, words);
     let ruled = pending_inside(s.pending, rules) & ((s.pending == 0) | (2 <= s.taken));
-    same & (positioned & (marked & ((s.taken <= STREAM_LIMIT) & ruled)))
+    let begun = sets::is_empty(both) | (0 < s.taken);
+    same & (positioned & (marked & ((s.taken <= STREAM_LIMIT) & (ruled & begun))))
+}
+
+// Whether a state fits these words, but for starts; none fits words too few for a table.
+pub fn is_sound(s: Stream, words: &[u64]) -> bool
+    ensures { λ r. ⌜ r ≡ (leb tableWords (length (now (words .entry))) && sound (automaton (now (words .entry))) s) ⌝ }
+{
+    if words.len() < TABLE_WORDS {
+        return false;
+    }
+    fits_table(s, words)
+}
+
+// Whether a rule of a table needs a start; none of words too few for a table.
+pub fn needs_starts(words: &[u64]) -> bool
+    ensures { λ r. ⌜ r ≡ (leb tableWords (length (now (words .entry))) && needsStarts (automaton (now (words .entry)))) ⌝ }
+{
+    if words.len() < TABLE_WORDS {
+        return false;
+    }
+    let keeping = keepers(words);
+    let reporting = leftmosts(words) != 0;
+    if sets::is_empty(keeping) {
+        return reporting;
+    }
+    let positions = words[POSITIONS_AT] as usize;
+    !sets::is_empty(sets::below(keeping, positions)) | reporting
+}
+
+// Whether a state fits a table in which no rule needs a start.
+fn is_valid(s: Stream, words: &[u64]) -> bool
+    requires { ⌜ tableWords ≤ length (now words) ⌝ }
+    ensures { λ r. ⌜ r ≡ valid (automaton (now (words .entry))) s ⌝ }
+{
+    fits_table(s, words) & !needs_starts(words)
 }
 
 // The number of a scan of `len` bytes with this report space. A closing is numbered as a scan of no

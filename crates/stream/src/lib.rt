@@ -5,7 +5,9 @@ mod checks;
 mod reports;
 mod scan;
 
+pub use checks::is_sound;
 use checks::least;
+pub use checks::needs_starts;
 use checks::refusal;
 use kinds::Side;
 use reports::write_closing;
@@ -15,6 +17,7 @@ use scan::sets_of;
 use scan::waiting_after;
 use table::layout::POSITIONS_AT;
 use table::layout::RULES_AT;
+use table::layout::TABLE_WORDS;
 ghost use mathlib.Core.Path.{_≡_};
 ghost use mathlib.Core.Bool.{true};
 ghost use Prim.Native.Nat.{_+_, _^_, _<_};
@@ -118,7 +121,8 @@ impl Stream {
 
     // Scans the bytes of a block as far as the allowance of work and the report space go, and
     // writes the reports at the front of the lists. A byte costs a unit, and one for each live
-    // position.
+    // position. What goes on has the words of the table alone: the compiler then knows how many
+    // there are, and no byte is asked whether there are enough.
     pub fn scan(
         self,
         words: &[u64],
@@ -140,7 +144,8 @@ impl Stream {
                 stream: self,
             };
         }
-        let r = self.advance(words, sets_of(words), false, allowance, block, ids, offsets);
+        let table = &words[0..TABLE_WORDS];
+        let r = self.advance(table, sets_of(table), false, allowance, block, ids, offsets);
         let stream = r.stream;
         Scanned {
             number: 0,

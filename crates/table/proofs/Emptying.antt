@@ -12,7 +12,7 @@ use lib.Seq.{getD-append-add, getD-drop, getD-set-same, getD-set-other}
 use borrow.Author.Tests.{lt-ltb, le-ltb}
 use Rattle.sets.specs.Set.{on}
 use Rattle.sets.proofs.Digits.{on-zero}
-use Rattle.table.specs.Layout.{tableWords, maxRules, maxPositions, bytes, format, rulesOf, firstAt, lastAt, latesAt, takersAt, followAt, idAt, openerAt, ownerAt, rowHas}
+use Rattle.table.specs.Layout.{tableWords, maxRules, maxPositions, bytes, format, rulesOf, firstAt, lastAt, latesAt, keepersAt, takersAt, followAt, idAt, openerAt, ownerAt, rowHas}
 use Rattle.table.specs.Gaps.{firstGaps, followGaps, lastGaps}
 use Rattle.table.specs.Table.{isTable, emptyTable, emptyNumber, emptied}
 use Rattle.table.specs.Automaton.{Automaton, automaton}
@@ -27,6 +27,7 @@ noRules = record {
   positions = 0;
   id = λ a. 0;
   once = λ a. false;
+  leftmost = λ a. false;
   opens = λ x. false;
   takes = λ x q. false;
   first = λ g q. false;
@@ -34,6 +35,7 @@ noRules = record {
   ending = λ g p. false;
   owner = λ p. 0;
   late = λ p. false;
+  keeps = λ q. false;
 }
 
 -- ---- the empty table, word by word
@@ -122,6 +124,7 @@ module _ (t : List ℕ) (h : tableWords ≤ length t) where
     positions = emptied-zero 2 (omega arith) (omega arith) i;
     id = λ a. number maxRules idAt (λ a h. (omega arith, omega arith)) a i;
     once = λ a. (ap (λ (x : ℕ). on x a) (emptied-zero 3 (omega arith) (omega arith)) ∙ on-zero a) i;
+    leftmost = λ a. (ap (λ (x : ℕ). on x a) (emptied-zero 704 (omega arith) (omega arith)) ∙ on-zero a) i;
     opens = λ x. opener x i;
     takes = λ x q. test bytes takersAt (λ x h. (omega arith, omega arith)) x q i;
     first = λ g q. test firstGaps firstAt (λ g h. (omega arith, omega arith)) g q i;
@@ -129,6 +132,7 @@ module _ (t : List ℕ) (h : tableWords ≤ length t) where
     ending = λ g p. test lastGaps lastAt (λ g h. (omega arith, omega arith)) g p i;
     owner = λ p. number maxPositions ownerAt (λ p h. (omega arith, omega arith)) p i;
     late = λ p. no-member latesAt (omega arith) (omega arith) p i;
+    keeps = λ q. no-member keepersAt (omega arith) (omega arith) q i;
   }
     where
       number : (n : ℕ) (place : ℕ → ℕ) → ((k : ℕ) → k < n → (0 < place k) × (place k < tableWords)) → (k : ℕ) → cond (ltb k n) (getD (emptied t) (place k) 0) 0 ≡ 0

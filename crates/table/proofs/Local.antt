@@ -10,7 +10,7 @@ use lib.Dec.{eqb, ltb}
 use lib.ListN.{length, getD, take, length-take}
 use lib.Seq.{getD-take, take-all}
 use Rattle.sets.specs.Set.{on}
-use Rattle.table.specs.Layout.{tableWords, maxRules, maxPositions, bytes, rulesOf, positionsOf, firstAt, idAt, idWord, openerAt, ownerAt, lastAt, latesAt, takersAt, followAt, rowHas}
+use Rattle.table.specs.Layout.{tableWords, maxRules, maxPositions, bytes, rulesOf, positionsOf, firstAt, idAt, idWord, openerAt, ownerAt, lastAt, latesAt, keepersAt, takersAt, followAt, rowHas}
 use Rattle.table.specs.Gaps.{firstGaps, followGaps, lastGaps}
 use Rattle.table.specs.Table.{isTable}
 use Rattle.table.specs.Automaton.{automaton}
@@ -31,6 +31,7 @@ module _ (t u : List ℕ) (same : take tableWords t ≡ take tableWords u) where
     positions = same-word 2 (omega arith) i;
     id = λ a. number maxRules idAt (λ a h. omega arith) a i;
     once = λ a. on (same-word 3 (omega arith) i) a;
+    leftmost = λ a. on (same-word 704 (omega arith) i) a;
     opens = λ x. opener x i;
     takes = λ x q. test bytes takersAt (λ x h. omega arith) x q i;
     first = λ g q. test firstGaps firstAt (λ g h. omega arith) g q i;
@@ -38,6 +39,7 @@ module _ (t u : List ℕ) (same : take tableWords t ≡ take tableWords u) where
     ending = λ g p. test lastGaps lastAt (λ g h. omega arith) g p i;
     owner = λ p. number maxPositions ownerAt (λ p h. omega arith) p i;
     late = λ p. same-row latesAt (omega arith) p i;
+    keeps = λ q. same-row keepersAt (omega arith) q i;
   }
     where
       number : (n : ℕ) (place : ℕ → ℕ) → ((k : ℕ) → k < n → place k < tableWords) → (k : ℕ) → cond (ltb k n) (getD t (place k) 0) 0 ≡ cond (ltb k n) (getD u (place k) 0) 0
@@ -93,3 +95,14 @@ isTable-local t u same = go (decLt (length t) tableWords) (isTable t) refl
     go (yes h) b e = ap isTable (short-same t u same h)
     go (no h) true e = e ∙ sym (accepted u (kept t u same (omega (arith, lengths t u same)) (passes t e)))
     go (no h) false e = e ∙ sym (refused u (λ p. true≢false (sym (accepted t (kept u t (sym same) (omega arith) p)) ∙ e)))
+
+-- so the first 16,384 words by themselves describe what all of them do
+module _ (t : List ℕ) where
+  first-same : take tableWords (take tableWords t) ≡ take tableWords t
+  first-same = take-all tableWords (take tableWords t) (omega (arith, length-take tableWords t))
+
+  pub first-automaton : automaton (take tableWords t) ≡ automaton t
+  first-automaton = automaton-local (take tableWords t) t first-same
+
+  pub first-table : isTable (take tableWords t) ≡ isTable t
+  first-table = isTable-local (take tableWords t) t first-same

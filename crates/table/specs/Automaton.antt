@@ -7,16 +7,18 @@ use Prim.Native.Nat.{ℕ}
 use lib.Dec.{eqb, leb, ltb}
 use lib.ListN.{getD}
 use Rattle.sets.specs.Set.{on}
-use Rattle.table.specs.Layout.{maxRules, maxPositions, bytes, rulesOf, positionsOf, singlesOf, firstAt, lastAt, latesAt, followAt, takersAt, idWord, openerAt, ownerAt, rowHas}
+use Rattle.table.specs.Layout.{maxRules, maxPositions, bytes, rulesOf, positionsOf, singlesOf, leftmostsOf, firstAt, lastAt, latesAt, keepersAt, followAt, takersAt, idWord, openerAt, ownerAt, rowHas}
 use Rattle.table.specs.Gaps.{firstGaps, followGaps, lastGaps, innerGaps}
 
 pub record Automaton : Type 0 where
   -- how many rules and positions there are
   pub rules : ℕ
   pub positions : ℕ
-  -- of the rule in place a, by rising id: its id, and whether it is single-match
+  -- of the rule in place a, by rising id: its id, whether it is single-match, and whether it reports
+  -- the leftmost start
   pub id : (a : ℕ) → ℕ
   pub once : (a : ℕ) → Bool
+  pub leftmost : (a : ℕ) → Bool
   -- a match can begin with byte x inside a stream
   pub opens : (x : ℕ) → Bool
   -- position q takes byte x
@@ -30,6 +32,8 @@ pub record Automaton : Type 0 where
   pub owner : (p : ℕ) → ℕ
   -- a match may end with position p once the next byte is known, and not before
   pub late : (p : ℕ) → Bool
+  -- position q keeps the start of the longest match that has reached it
+  pub keeps : (q : ℕ) → Bool
 
 unfoldable pub automaton : List ℕ → Automaton
 automaton t = record {
@@ -37,6 +41,7 @@ automaton t = record {
   positions = positionsOf t;
   id = λ a. cond (ltb a maxRules) (idWord t a) 0;
   once = λ a. on (singlesOf t) a;
+  leftmost = λ a. on (leftmostsOf t) a;
   opens = λ x. ltb x bytes && not (eqb (getD t (openerAt x) 0) 0);
   takes = λ x q. ltb x bytes && rowHas t (takersAt x) q;
   first = λ g q. ltb g firstGaps && rowHas t (firstAt g) q;
@@ -44,6 +49,7 @@ automaton t = record {
   ending = λ g p. ltb g lastGaps && rowHas t (lastAt g) p;
   owner = λ p. cond (ltb p maxPositions) (getD t (ownerAt p) 0) 0;
   late = λ p. rowHas t latesAt p;
+  keeps = λ q. rowHas t keepersAt q;
 }
 
 -- a match of the rule in place a can end at a gap with position p

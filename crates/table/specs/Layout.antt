@@ -22,9 +22,9 @@ maxPositions = 256
 abbrev pub bytes : ℕ
 bytes = 256
 
--- word 0 marks a rule table of this format: the bytes `watcher4` as a number
+-- word 0 marks a rule table of this format: the bytes `watcher5` as a number
 abbrev pub format : ℕ
-format = 0x77617463_68657234
+format = 0x77617463_68657235
 
 -- the number of rules, and of positions
 abbrev pub rulesOf : List ℕ → ℕ
@@ -63,6 +63,17 @@ openerAt x = 192 + x
 -- for each position the place of its rule
 abbrev pub ownerAt : ℕ → ℕ
 ownerAt p = 448 + p
+
+-- the rules that report the leftmost start: a binary digit for each rule's place
+abbrev pub leftmostsAt : ℕ
+leftmostsAt = 704
+
+abbrev pub leftmostsOf : List ℕ → ℕ
+leftmostsOf t = getD t leftmostsAt 0
+
+-- the set of the positions that keep a start
+abbrev pub keepersAt : ℕ
+keepersAt = 712
 
 -- for each byte the set of positions that take it; for each gap between two bytes and each position
 -- the set of those that can follow it there

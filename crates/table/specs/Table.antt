@@ -7,9 +7,9 @@ use lib.ListN.{length, getD, drop, replicate}
 use Rattle.table.specs.Layout.{tableWords, maxRules, maxPositions, format, rulesOf, positionsOf, idWord}
 
 -- "Flags, values from Hyperscan's API reference: 1 caseless, 2 dot matches all, 8 single match."
--- "Add flag 4"
+-- "Add flag 4"; "Add flag 256 (2 lets it through), leftmost start"
 abbrev pub knownFlags : ℕ
-knownFlags = 15
+knownFlags = 271
 
 -- the least id that the rule in place a may have: "Ids: any 32-bit number, each once", and the ids
 -- rise

@@ -8,8 +8,8 @@ pub const MAX_RULES: u64 = 64;
 
 pub const MAX_POSITIONS: u64 = 256;
 
-// The format word, at FORMAT_AT: the bytes `watcher4` as a number.
-pub const FORMAT: u64 = 0x7761_7463_6865_7234;
+// The format word, at FORMAT_AT: the bytes `watcher5` as a number.
+pub const FORMAT: u64 = 0x7761_7463_6865_7235;
 
 // The header: the format, the two counts, and the single-match rules, a digit for each rule's
 // place.
@@ -38,6 +38,12 @@ pub const OPENERS_AT: usize = 192;
 
 pub const OWNERS_AT: usize = 448;
 
+// The rules that report the leftmost start, a digit for each rule's place; the set of the positions
+// that keep a start.
+pub const LEFTMOSTS_AT: usize = 704;
+
+pub const KEEPERS_AT: usize = 712;
+
 // Sets of positions, of four words each: for each byte those that take it; for each gap between two
 // bytes, and for each position, those that can follow it there.
 pub const SET_WORDS: usize = 4;
@@ -48,11 +54,15 @@ pub const FOLLOW_AT: usize = 5120;
 
 pub const FOLLOW_WORDS: usize = 1024;
 
-// An id has 32 bits. The flags are 1, 2, 4 and 8: caseless, dot matches all, line mode, single
-// match.
+// An id has 32 bits. The flags are 1, 2, 4, 8 and 256: caseless, dot matches all, line mode, single
+// match, leftmost start.
 pub const ID_LIMIT: u64 = 0x1_0000_0000;
 
-pub const KNOWN_FLAGS: u64 = 15;
+pub const KNOWN_FLAGS: u64 = 271;
+
+pub const SINGLE: u32 = 8;
+
+pub const LEFTMOST: u32 = 256;
 
 // The numbers that answer: accepted, and refused for too few words or words that are no table.
 pub const ACCEPTED: u32 = 0;

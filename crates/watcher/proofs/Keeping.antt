@@ -1,12 +1,14 @@
 -- What the reading and writing keeps. A line adds to the list of additions or leaves the words alone, so the words stay a table; a scan of what is left of a
 -- block is accepted, so it takes a byte, and the states after two parts of a block are the state after both.
 use mathlib.Core.Path.{_≡_, refl, sym, ap, subst, _∙_}
-use mathlib.Core.Bool.{Bool, true, false, cond}
+use mathlib.Core.Bool.{Bool, true, false, cond, _&&_}
 use mathlib.Core.List.{List, [], _∷_, _++_}
 use Prim.Native.Nat.{ℕ, _+_, _-_, _^_, _≤_, _<_}
 use native.Mathlib.Omega.{arith}
 use lib.ListN.{length, take, drop, length-drop}
+use lib.Dec.{leb}
 use lib.Seq.{take-all}
+use borrow.Author.Tests.{le-leb}
 use Rattle.lines.specs.declared.RuleLine.{RuleLine}
 use Rattle.lines.specs.Lines.{ruleLineOf}
 use Rattle.lines.specs.Numbers.{askable}
@@ -23,9 +25,9 @@ use Rattle.rules.proofs.Additions.{words-pass}
 use Rattle.stream.specs.declared.Stream.{Stream}
 use Rattle.stream.specs.declared.Scanned.{Scanned}
 use Rattle.stream.specs.Byte.{after, plain, stateAfter}
-use Rattle.stream.specs.Valid.{streamLimit}
+use Rattle.stream.specs.Valid.{streamLimit, needsStarts}
 use Rattle.stream.specs.Calls.{Call, lists, call, opened, space, scanned}
-use Rattle.stream.proofs.Accepting.{fitting, fitted, not-refused}
+use Rattle.stream.proofs.Accepting.{fitting, fitted, valid-parts, valid-is, not-refused}
 use Rattle.stream.proofs.Machines.{after-later}
 use Rattle.stream.proofs.Blocks.{taken-after, closed-after}
 use Rattle.stream.proofs.Results.{opened-stream, opened-valid, fitting-after, scan-number, taken-within, progress, scan-state}
@@ -102,17 +104,24 @@ pub record Passed (words₀ text out₀ words out : List ℕ) (from line at : �
 
 -- ---- watching
 
-pub opened-runs : (t : List ℕ) → isTable t ≡ true → Running t (opened t .stream) × (opened t .stream .taken ≡ 0)
-opened-runs t e =
+-- a table of which it was asked needs no start
+pub startless : (t : List ℕ) → isTable t ≡ true → (b : Bool) → b ≡ (leb tableWords (length t) && needsStarts (automaton t)) → b ≡ false → needsStarts (automaton t) ≡ false
+startless t e b is none =
+    sym (ap (λ (c : Bool). c && needsStarts (automaton t)) (le-leb tableWords (length t) (passes t e .long))) ∙ sym is ∙ none
+
+pub opened-runs : (t : List ℕ) → isTable t ≡ true → needsStarts (automaton t) ≡ false → Running t (opened t .stream) × (opened t .stream .taken ≡ 0)
+opened-runs t e none =
     let is = opened-stream t e in
-    (record { table = e; fits = opened-valid t e; going = ap (λ (s : Stream). s .closed) is }, ap (λ (s : Stream). s .taken) is)
+    (record { table = e; fits = opened-valid t e none; going = ap (λ (s : Stream). s .closed) is }, ap (λ (s : Stream). s .taken) is)
 
 -- after some bytes of a block the stream runs on
 pub runs-after : (t : List ℕ) (s : Stream) (block : List ℕ) (k : ℕ) → Running t s → s .taken + k ≤ streamLimit → Running t (stateAfter (automaton t) s block k)
 runs-after t s block k h l =
     record {
       table = h .table;
-      fits = fitted (automaton t) _ (fitting-after (automaton t) s block (fitting (automaton t) s (h .fits)) k l);
+      fits =
+          let parts = valid-parts (automaton t) s (h .fits) in
+          valid-is (automaton t) _ (fitted (automaton t) _ (fitting-after (automaton t) s block (fitting (automaton t) s (parts .0)) k l)) (parts .1);
       going = closed-after (automaton t) s block k ∙ h .going;
     }
 
@@ -220,7 +229,7 @@ pub record Input (t block₀ ids₀ offsets₀ out₀ block ids offsets out : Li
 
 -- a stream within its limit, and what may be asked for
 pub below-limit : (t : List ℕ) (s : Stream) → Running t s → s .taken ≤ streamLimit
-below-limit t s h = fitting (automaton t) s (h .fits) .limit
+below-limit t s h = fitting (automaton t) s (valid-parts (automaton t) s (h .fits) .0) .limit
 
 pub asked-fits : (t : List ℕ) (s : Stream) (room size : ℕ) → Running t s → size ≤ askable (s .taken) room → s .taken + size ≤ streamLimit
 asked-fits t s room size h l = omega (arith, askable-limit (s .taken) room (below-limit t s h))

@@ -2,6 +2,7 @@
 // written are functions of `lines`, what the rules and the stream do is `rules` and `stream`.
 mod output;
 mod rules_file;
+mod trace;
 mod watch;
 
 fn main() {

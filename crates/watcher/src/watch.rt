@@ -1,17 +1,20 @@
 // Watching standard input: it is read in blocks, each scanned until all its bytes are taken, and then the stream is closed. No call of the library is refused
 // here: the lists have room for two reports of each rule, and what is asked for stays within the stream's limit.
 use crate::output;
+use crate::trace::trace_input;
 use libc::STDIN_FILENO;
 use stream::NO_LIMIT;
 use stream::Stream;
+use stream::needs_starts;
 ghost use mathlib.Core.Path.{_≡_};
-ghost use mathlib.Core.Bool.{true};
+ghost use mathlib.Core.Bool.{true, false};
 ghost use Prim.Native.Nat.{_+_, _≤_};
 ghost use lib.ListN.{length};
 ghost use Rattle.io.specs.Counts.{Counts};
 ghost use Rattle.lines.specs.Numbers.{askable};
 ghost use Rattle.table.specs.Table.{isTable};
-ghost use Rattle.stream.specs.Valid.{streamLimit};
+ghost use Rattle.table.specs.Automaton.{automaton};
+ghost use Rattle.stream.specs.Valid.{streamLimit, needsStarts};
 ghost use Rattle.watcher.specs.Invariants.{Running, Roomy, AllTaken};
 
 // What became of a block: whether its reports were written, and the state after it.
@@ -29,7 +32,7 @@ fn read_some(part: &mut [u8]) -> usize
 }
 
 // The same, and no more than the stream may still take.
-fn read_block(block: &mut [u8], taken: u64) -> usize
+pub(super) fn read_block(block: &mut [u8], taken: u64) -> usize
     ensures { λ r. ⌜ Counts r (now (block .exit)) ⌝ }
     ensures { λ r. ⌜ r ≤ askable taken (length (now (block .entry))) ⌝ }
 {
@@ -73,7 +76,7 @@ fn watch_input(
     offsets: &mut [u64],
     out: &mut [u8],
 ) -> bool
-    requires { ⌜ (isTable (now words) ≡ true) × Roomy (now ids) (now offsets) ⌝ }
+    requires { ⌜ (isTable (now words) ≡ true) × (needsStarts (automaton (now words)) ≡ false) × Roomy (now ids) (now offsets) ⌝ }
 {
     let opened = Stream::open(words);
     let mut stream = opened.stream;
@@ -99,5 +102,9 @@ pub fn watch(words: &[u64], out: &mut [u8])
     let mut block = io::large_buffer();
     let mut ids = [0u32; 1536];
     let mut offsets = [0u64; 1536];
+    if needs_starts(words) {
+        trace_input(words, &mut block, &mut ids, &mut offsets, out);
+        return;
+    }
     watch_input(words, &mut block, &mut ids, &mut offsets, out);
 }

@@ -9,7 +9,10 @@ use lib.Dec.{eqb}
 use Rattle.table.specs.Table.{isTable}
 use Rattle.stream.specs.declared.Scanned.{Scanned}
 use Rattle.stream.specs.declared.Closed.{Closed}
+use Rattle.plain.specs.declared.Bounds.{Bounds}
+use Rattle.plain.specs.declared.Matched.{Matched}
 use Rattle.stream.specs.Byte.{busyOf}
+use Rattle.matched.specs.Matched.{matchedPart}
 use Rattle.stream.specs.Calls.{Lists, Call, opened, scanned, scannedLists, closed, closedLists}
 use Rattle.watcher_c.specs.State.{short, stateOf, stored}
 
@@ -55,3 +58,15 @@ module _ (t state : List ℕ) (l : Lists) where
 -- the busy figure; fewer than fifteen words have none live
 unfoldable pub busyFigure : List ℕ → ℕ
 busyFigure state = cond (short state) 0 (busyOf (stateOf state))
+
+-- where the matched bytes stand: 1 in the tail, 0 in the block
+unfoldable pub matchedSource : (tail block : List ℕ) → (offset start end : ℕ) → ℕ
+matchedSource tail block offset start end = cond (matchedPart tail block offset start end .tail) 1 0
+
+-- ---- the plain matcher
+
+abbrev pub bounds : (lowest highest shortest : ℕ) → Bounds
+bounds lowest highest shortest = record { lowest = lowest; highest = highest; shortest = shortest }
+
+abbrev pub matched : (number place count : ℕ) → Matched
+matched number place count = record { number = number; place = place; count = count }

@@ -4,6 +4,7 @@
 // afterwards.
 mod state;
 
+use plain::Bounds;
 use state::STATE_WORDS;
 use state::load;
 use state::store;
@@ -13,11 +14,19 @@ ghost use Rattle.table.specs.Table.{emptyNumber, emptied};
 ghost use Rattle.rules.specs.Add.{addition, addAnswer, addWords};
 ghost use Rattle.card.specs.Calls.{writeAnswer, writtenBlock, readAnswer, readWords};
 ghost use Rattle.stream.specs.Calls.{lists, call};
-ghost use Rattle.watcher_c.specs.Interface.{testNumber, openNumber, openState, scanAnswer, scanState, scanLists, closeAnswer, closeState, closeLists, busyFigure};
+ghost use Rattle.matched.specs.Matched.{matchedPart, matchedNumber};
+ghost use Rattle.plain.specs.Run.{lent};
+ghost use Rattle.plain.specs.Answer.{question, Matches};
+ghost use Rattle.watcher_c.specs.Interface.{bounds, matched, testNumber, openNumber, openState, scanAnswer, scanState, scanLists, closeAnswer, closeState, closeLists, busyFigure, matchedSource};
 
 // The number for a state of fewer than fifteen words. Numbers from 100 on are the interface's own,
 // not the rules'.
 const SHORT_STATE: u32 = 100;
+
+// Where the bytes of a match stand.
+const IN_BLOCK: u32 = 0;
+
+const IN_TAIL: u32 = 1;
 
 // Writes the empty table.
 #[no_mangle]
@@ -179,5 +188,70 @@ pub extern "C" fn watcher_read_block(
 {
     let r = card::read_block(table, number, block);
     *place = r.place;
+    r.number
+}
+
+// Where the bytes of a match stand, in a kept tail or in the block right after it, which begins at
+// `offset`: 1 in the tail and 0 in the block, from which place on, and how many. None of the block
+// where neither holds them all.
+#[no_mangle]
+pub extern "C" fn watcher_matched_bytes(
+    tail: &[u8],
+    block: &[u8],
+    offset: u64,
+    start: u64,
+    end: u64,
+    place: &mut usize,
+    size: &mut usize,
+) -> u32
+    ensures answer { λ r. ⌜ r ≡ matchedSource (now (tail .entry)) (now (block .entry)) offset start end ⌝ }
+    ensures place { λ r. ⌜ now (place .exit) ≡ matchedPart (now (tail .entry)) (now (block .entry)) offset start end .place ⌝ }
+    ensures size { λ r. ⌜ now (size .exit) ≡ matchedPart (now (tail .entry)) (now (block .entry)) offset start end .size ⌝ }
+{
+    let r = matched::matched_part(tail, block, offset, start, end);
+    *place = r.place;
+    *size = r.size;
+    if r.tail { IN_TAIL } else { IN_BLOCK }
+}
+
+// The number of the same question: 25 where neither holds them all.
+#[no_mangle]
+pub extern "C" fn watcher_matched_number(
+    tail: &[u8],
+    block: &[u8],
+    offset: u64,
+    start: u64,
+    end: u64,
+) -> u32
+    ensures { λ r. ⌜ r ≡ matchedNumber (now (tail .entry)) (now (block .entry)) offset start end ⌝ }
+{
+    matched::matched_number(tail, block, offset, start, end)
+}
+
+// The plain second matcher, for disputes: what one rule reports on a whole log, by no table. Says how
+// many reports it wrote, and where the fault of a refused pattern lies.
+#[no_mangle]
+pub extern "C" fn watcher_plain(
+    pattern: &[u8],
+    flags: u32,
+    lowest: u64,
+    highest: u64,
+    shortest: u64,
+    log: &[u8],
+    offsets: &mut [u64],
+    starts: &mut [u64],
+    place: &mut usize,
+    reports: &mut usize,
+) -> u32
+    ensures { λ r. ⌜ Matches (question (now (pattern .entry)) flags (bounds lowest highest shortest) (now (log .entry))) (lent (now (offsets .entry)) (now (starts .entry))) (lent (now (offsets .exit)) (now (starts .exit))) (matched r (now (place .exit)) (now (reports .exit))) ⌝ }
+{
+    let bounds = Bounds {
+        lowest,
+        highest,
+        shortest,
+    };
+    let r = plain::matches(pattern, flags, bounds, log, offsets, starts);
+    *place = r.place;
+    *reports = r.count;
     r.number
 }

@@ -3,6 +3,8 @@
 //! ```text
 //! case NAME                       ends at an empty line; (P) marks one to be proved as well
 //! rule ID FLAGS HEX NUMBER PLACE  an addition; HEX '-' is the empty pattern
+//! rule .. within LOW HIGH LENGTH  an addition with windows: smallest and largest end offset and
+//!                                 smallest length, '-' for one that is left out
 //! ```
 //!
 //! then either what a whole stream gives, whatever the calls are like:
@@ -11,6 +13,7 @@
 //! block HEX                       offered in turn until taken; then the stream is closed
 //! report MOMENT OFFSET ID         the ordered list; MOMENT is the count of bytes taken,
 //!                                 or 'closing'
+//! report MOMENT OFFSET ID START   with a start other than 0
 //! busy F0 F1 ..                   the busy figure after 0, 1, .. bytes of the joined blocks
 //! ```
 //!
@@ -24,6 +27,8 @@
 //!                                 a list is numbers with commas between, '-' when it has no slot
 //! scan .. used N of ALLOWANCE     a scan that may use so many units of work, and uses N
 //! scan .. used N                  a scan without limit, as the one above, that uses N units
+//! traced scan .., traced close .. a scan or a closing with four lists wherever there are two above:
+//!                                 IDS OFFSETS STARTS RELATIVES
 //! figure N                        the busy figure of the present state
 //! empty NUMBER                    empties the table
 //! lend N                          lends N words from here on: the table's first ones, or more
@@ -35,7 +40,14 @@
 //!                                 one more held position, one more rule with a pair held for the
 //!                                 offset before the last byte, another kind of last byte: 1 a
 //!                                 word byte, 2 a newline, any other number neither
+//! state start live N START, state start held N START, state start pair N START
+//!                                 another start of a live position, of a held position, of a
+//!                                 rule's held pair
 //! ```
+//!
+//! A case with traced calls, or with starts set by hand, is for streams that keep starts. Any other is
+//! for all streams, but for one of calls in which a rule needs a start: that is for streams that keep
+//! none.
 //!
 //! Every case starts with 16,384 words lent and emptied. Numbers are decimal. A line that starts
 //! with '#' is a comment.
@@ -44,12 +56,40 @@ use std::fmt;
 
 use crate::hex;
 
-/// The two lent lists.
+/// The lent lists.
 #[derive(Clone, Debug, PartialEq, Eq)]
 pub struct Lists {
     pub ids: Vec<u32>,
     pub offsets: Vec<u64>,
+    /// Those of a traced call.
+    pub starts: Option<Starts>,
 }
+
+/// The two further lists of a traced call: starts in the stream, and measured from the first byte lent.
+#[derive(Clone, Debug, PartialEq, Eq)]
+pub struct Starts {
+    pub starts: Vec<u64>,
+    pub relatives: Vec<i64>,
+}
+
+/// The windows of an addition, each of which may be left out.
+#[derive(Clone, Copy, Debug, Default, PartialEq, Eq)]
+pub struct Windows {
+    pub smallest_end: Option<u64>,
+    pub largest_end: Option<u64>,
+    pub smallest_length: Option<u64>,
+}
+
+/// What a state keeps a start for.
+#[derive(Clone, Copy, Debug, PartialEq, Eq)]
+pub enum Kept {
+    Live,
+    Held,
+    Pair,
+}
+
+/// The flag of a rule that reports starts.
+const LEFTMOST_START: u32 = 256;
 
 /// The work of a scan: the units that it may use, none for no limit, and those that it uses.
 #[derive(Clone, Copy, Debug, PartialEq, Eq)]
@@ -77,6 +117,8 @@ pub struct Report {
     pub moment: Option<u64>,
     pub offset: u64,
     pub id: u32,
+    /// 0 for a rule that reports none.
+    pub start: u64,
 }
 
 #[derive(Clone, Debug, PartialEq, Eq)]
@@ -87,6 +129,7 @@ pub enum Line {
         pattern: Vec<u8>,
         number: u32,
         place: usize,
+        windows: Windows,
     },
     Block(Vec<u8>),
     Report(Report),
@@ -105,6 +148,7 @@ pub enum Line {
     StateHeld(usize),
     StatePair(usize),
     StateLast(u64),
+    StateStart(Kept, usize, u64),
 }
 
 #[derive(Clone, Debug)]
@@ -122,6 +166,31 @@ impl Case {
             matches!(l, Line::Rule { .. } | Line::Block(_) | Line::Report(_) | Line::Busy(_))
         };
         !self.lines.iter().all(plain)
+    }
+
+    /// Is it for streams that keep starts?
+    pub fn is_traced(&self) -> bool {
+        self.lines.iter().any(|line| match line {
+            Line::Call(call) => call.before.starts.is_some(),
+            Line::StateStart(..) => true,
+            _ => false,
+        })
+    }
+
+    /// Is it for streams that keep no starts?
+    pub fn is_untraced(&self) -> bool {
+        self.has_calls() && !self.is_traced() && self.needs_starts()
+    }
+
+    /// Does one of its rules need starts?
+    pub fn needs_starts(&self) -> bool {
+        self.lines.iter().any(|line| match line {
+            Line::Rule { flags, number: 0, windows, .. } => {
+                flags & LEFTMOST_START != 0
+                    || windows.smallest_length.is_some_and(|least| least > 0)
+            }
+            _ => false,
+        })
     }
 
     pub fn blocks(&self) -> Vec<Vec<u8>> {
@@ -144,43 +213,25 @@ impl Case {
 pub fn line(text: &str) -> Result<Line, String> {
     let words: Vec<&str> = text.split(' ').collect();
     Ok(match words[..] {
-        ["rule", id, flags, pattern, number, place] => Line::Rule {
+        ["rule", id, flags, pattern, number, place, ref end @ ..] => Line::Rule {
             id: hex::number(id)?,
             flags: hex::number(flags)?,
             pattern: hex::bytes(pattern)?,
             number: hex::number(number)?,
             place: hex::number(place)?,
+            windows: windows(end)?,
         },
         ["block", block] => Line::Block(hex::bytes(block)?),
-        ["report", moment, offset, id] => Line::Report(Report {
-            moment: if moment == "closing" { None } else { Some(hex::number(moment)?) },
-            offset: hex::number(offset)?,
-            id: hex::number(id)?,
-        }),
+        ["report", moment, offset, id] => report(moment, offset, id, "0")?,
+        ["report", moment, offset, id, start] => report(moment, offset, id, start)?,
         ["busy", ref figures @ ..] => {
             Line::Busy(figures.iter().map(|f| hex::number(f)).collect::<Result<_, _>>()?)
         }
         ["open", number] => Line::Open(hex::number(number)?),
-        ["scan", block, ids, offsets, number, taken, count, new_ids, new_offsets, ref end @ ..] => {
-            Line::Call(Call {
-                block: Some(hex::bytes(block)?),
-                before: lists(ids, offsets)?,
-                number: hex::number(number)?,
-                taken: hex::number(taken)?,
-                count: hex::number(count)?,
-                after: lists(new_ids, new_offsets)?,
-                work: work(end)?,
-            })
-        }
-        ["close", ids, offsets, number, count, new_ids, new_offsets] => Line::Call(Call {
-            block: None,
-            before: lists(ids, offsets)?,
-            number: hex::number(number)?,
-            taken: 0,
-            count: hex::number(count)?,
-            after: lists(new_ids, new_offsets)?,
-            work: None,
-        }),
+        ["scan", block, ref rest @ ..] => call(Some(block), 2, rest, text)?,
+        ["close", ref rest @ ..] => call(None, 2, rest, text)?,
+        ["traced", "scan", block, ref rest @ ..] => call(Some(block), 4, rest, text)?,
+        ["traced", "close", ref rest @ ..] => call(None, 4, rest, text)?,
         ["figure", n] => Line::Figure(hex::number(n)?),
         ["empty", number] => Line::Empty(hex::number(number)?),
         ["lend", "none"] => Line::Lend(None),
@@ -193,12 +244,71 @@ pub fn line(text: &str) -> Result<Line, String> {
         ["state", "held", n] => Line::StateHeld(hex::number(n)?),
         ["state", "pair", n] => Line::StatePair(hex::number(n)?),
         ["state", "last", n] => Line::StateLast(hex::number(n)?),
+        ["state", "start", kept, n, start] => {
+            let kept = match kept {
+                "live" => Kept::Live,
+                "held" => Kept::Held,
+                "pair" => Kept::Pair,
+                _ => return Err(format!("'{kept}' keeps no start")),
+            };
+            Line::StateStart(kept, hex::number(n)?, hex::number(start)?)
+        }
         _ => return Err(format!("'{text}' is no line of a case")),
     })
 }
 
-fn lists(ids: &str, offsets: &str) -> Result<Lists, String> {
-    Ok(Lists { ids: hex::list(ids)?, offsets: hex::list(offsets)? })
+fn report(moment: &str, offset: &str, id: &str, start: &str) -> Result<Line, String> {
+    Ok(Line::Report(Report {
+        moment: if moment == "closing" { None } else { Some(hex::number(moment)?) },
+        offset: hex::number(offset)?,
+        id: hex::number(id)?,
+        start: hex::number(start)?,
+    }))
+}
+
+/// The last words of a rule's line.
+fn windows(words: &[&str]) -> Result<Windows, String> {
+    let window = |word: &str| if word == "-" { Ok(None) } else { hex::number(word).map(Some) };
+    Ok(match *words {
+        [] => Windows::default(),
+        ["within", low, high, length] => Windows {
+            smallest_end: window(low)?,
+            largest_end: window(high)?,
+            smallest_length: window(length)?,
+        },
+        _ => return Err(format!("'{}' does not end a rule", words.join(" "))),
+    })
+}
+
+/// A scan or a closing from its lists on, of which it has so many.
+fn call(block: Option<&str>, count: usize, words: &[&str], text: &str) -> Result<Line, String> {
+    let none = || format!("'{text}' is no call");
+    let (before, rest) = words.split_at_checked(count).ok_or_else(none)?;
+    let numbers = if block.is_some() { 3 } else { 2 };
+    let (answer, rest) = rest.split_at_checked(numbers).ok_or_else(none)?;
+    let (after, end) = rest.split_at_checked(count).ok_or_else(none)?;
+    if block.is_none() && !end.is_empty() {
+        return Err(none());
+    }
+    Ok(Line::Call(Call {
+        block: block.map(hex::bytes).transpose()?,
+        before: lists(before)?,
+        number: hex::number(answer[0])?,
+        taken: if block.is_some() { hex::number(answer[1])? } else { 0 },
+        count: hex::number(answer[numbers - 1])?,
+        after: lists(after)?,
+        work: work(end)?,
+    }))
+}
+
+fn lists(words: &[&str]) -> Result<Lists, String> {
+    let starts = match words[2..] {
+        [starts, relatives] => {
+            Some(Starts { starts: hex::list(starts)?, relatives: hex::list(relatives)? })
+        }
+        _ => None,
+    };
+    Ok(Lists { ids: hex::list(words[0])?, offsets: hex::list(words[1])?, starts })
 }
 
 /// The last words of a scan's line.
@@ -221,24 +331,48 @@ impl fmt::Display for Work {
     }
 }
 
+impl fmt::Display for Windows {
+    fn fmt(&self, f: &mut fmt::Formatter<'_>) -> fmt::Result {
+        let shown = |window: Option<u64>| window.map_or("-".to_string(), |n| n.to_string());
+        let Windows { smallest_end, largest_end, smallest_length } = *self;
+        let (low, high) = (shown(smallest_end), shown(largest_end));
+        write!(f, "within {low} {high} {}", shown(smallest_length))
+    }
+}
+
 impl fmt::Display for Lists {
     fn fmt(&self, f: &mut fmt::Formatter<'_>) -> fmt::Result {
-        write!(f, "{} {}", hex::write_list(&self.ids), hex::write_list(&self.offsets))
+        write!(f, "{} {}", hex::write_list(&self.ids), hex::write_list(&self.offsets))?;
+        match &self.starts {
+            Some(Starts { starts, relatives }) => {
+                write!(f, " {} {}", hex::write_list(starts), hex::write_list(relatives))
+            }
+            None => Ok(()),
+        }
     }
 }
 
 impl fmt::Display for Line {
     fn fmt(&self, f: &mut fmt::Formatter<'_>) -> fmt::Result {
         match self {
-            Line::Rule { id, flags, pattern, number, place } => {
-                write!(f, "rule {id} {flags} {} {number} {place}", hex::write_bytes(pattern))
+            Line::Rule { id, flags, pattern, number, place, windows } => {
+                write!(f, "rule {id} {flags} {} {number} {place}", hex::write_bytes(pattern))?;
+                let left_out = *windows == Windows::default();
+                if left_out {
+                    Ok(())
+                } else {
+                    write!(f, " {windows}")
+                }
             }
             Line::Block(block) => write!(f, "block {}", hex::write_bytes(block)),
-            Line::Report(Report { moment: Some(m), offset, id }) => {
-                write!(f, "report {m} {offset} {id}")
-            }
-            Line::Report(Report { moment: None, offset, id }) => {
-                write!(f, "report closing {offset} {id}")
+            Line::Report(Report { moment, offset, id, start }) => {
+                let moment = moment.map_or("closing".to_string(), |m| m.to_string());
+                write!(f, "report {moment} {offset} {id}")?;
+                if *start == 0 {
+                    Ok(())
+                } else {
+                    write!(f, " {start}")
+                }
             }
             Line::Busy(figures) => {
                 write!(f, "busy")?;
@@ -246,12 +380,13 @@ impl fmt::Display for Line {
             }
             Line::Open(number) => write!(f, "open {number}"),
             Line::Call(Call { block: Some(b), before, number, taken, count, after, work }) => {
-                let block = hex::write_bytes(b);
-                write!(f, "scan {block} {before} {number} {taken} {count} {after}")?;
+                let (traced, block) = (traced(before), hex::write_bytes(b));
+                write!(f, "{traced}scan {block} {before} {number} {taken} {count} {after}")?;
                 work.map_or(Ok(()), |work| write!(f, " {work}"))
             }
             Line::Call(Call { block: None, before, number, count, after, .. }) => {
-                write!(f, "close {before} {number} {count} {after}")
+                let traced = traced(before);
+                write!(f, "{traced}close {before} {number} {count} {after}")
             }
             Line::Figure(n) => write!(f, "figure {n}"),
             Line::Empty(number) => write!(f, "empty {number}"),
@@ -265,7 +400,24 @@ impl fmt::Display for Line {
             Line::StateHeld(n) => write!(f, "state held {n}"),
             Line::StatePair(n) => write!(f, "state pair {n}"),
             Line::StateLast(n) => write!(f, "state last {n}"),
+            Line::StateStart(kept, n, start) => {
+                let kept = match kept {
+                    Kept::Live => "live",
+                    Kept::Held => "held",
+                    Kept::Pair => "pair",
+                };
+                write!(f, "state start {kept} {n} {start}")
+            }
         }
+    }
+}
+
+/// How the line of a call with these lists begins.
+fn traced(lists: &Lists) -> &'static str {
+    if lists.starts.is_some() {
+        "traced "
+    } else {
+        ""
     }
 }
 

@@ -6,5 +6,5 @@ pub mod files;
 pub mod hex;
 pub mod program;
 
-pub use case::{Call, Case, Line, Lists, Report, Work};
+pub use case::{Call, Case, Kept, Line, Lists, Report, Starts, Windows, Work};
 pub use program::ProgramCase;

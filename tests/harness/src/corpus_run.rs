@@ -7,7 +7,7 @@ use corpus::files::{cases, program_cases};
 use corpus::{Case, ProgramCase};
 
 use crate::definition::check_case;
-use crate::play::{play, Outcome};
+use crate::play::{is_for, play, Outcome};
 use crate::watcher::{Program, Watcher};
 
 #[derive(Clone, Debug, Default, PartialEq, Eq)]
@@ -32,9 +32,10 @@ pub fn run_folder<W: Watcher>(watcher: &W, folder: &Path) -> Result<Tally, Strin
     Ok(run_cases(watcher, &cases(folder)?))
 }
 
+/// The cases that are for this watcher's streams.
 pub fn run_cases<W: Watcher>(watcher: &W, cases: &[Case]) -> Tally {
     let mut tally = Tally::default();
-    for case in cases {
+    for case in cases.iter().filter(|case| is_for(watcher, case)) {
         tally.count(&case.origin, &case.name, play(watcher, case));
     }
     tally

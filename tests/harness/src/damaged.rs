@@ -3,10 +3,13 @@
 //! afterwards. States start anywhere in a stream, also past 65,535 and 4,294,967,296 bytes and at its
 //! limit, with live and held positions, marks and held pairs, after a byte of any kind. Each scan is
 //! made a second time, with no smaller an allowance. Case i of a run depends on the seed and on i alone.
+//! States that keep starts have them at all their positions and pairs, now and then one too many or too
+//! large.
 
 use std::collections::BTreeMap;
 
-use words::calls::{Answer, Calls, NO_LIMIT};
+use corpus::Starts;
+use words::calls::{Answer, Calls, Traces, NO_LIMIT};
 use words::gaps::{FIRST_GAPS, FOLLOW_GAPS, LAST_GAPS};
 use words::interpreter::Interpreter;
 use words::layout::*;
@@ -14,6 +17,7 @@ use words::layout::*;
 use crate::patterns::pattern;
 use crate::rng::Rng;
 use crate::slices::{carried_further, in_bounds, Scanned};
+use crate::traced_model::{ample, columns};
 
 #[derive(Clone, Debug, Default)]
 pub struct Count {
@@ -38,59 +42,157 @@ struct Lent {
     state: Vec<u64>,
     ids: Vec<u32>,
     offsets: Vec<u64>,
+    /// Of calls with four lists.
+    starts: Option<Starts>,
 }
 
 impl Lent {
-    /// One call on it: a scan of a block with an allowance, or a closing.
-    fn call<C: Calls>(&mut self, calls: &C, scan: Option<(&[u8], u64)>) -> Answer {
-        let Lent { table, state, ids, offsets } = self;
+    fn scanned(&self, answer: &Answer) -> Scanned<'_> {
+        let &Answer { number, taken, count, used } = answer;
+        let (ids, offsets) = (&self.ids[..], &self.offsets[..]);
+        Scanned { number, taken, count, used, ids, offsets, starts: self.starts.as_ref() }
+    }
+}
+
+/// The calls on one form of a state.
+trait Form {
+    type Calls: Calls;
+
+    /// Does a state keep starts?
+    const TRACES: bool;
+
+    fn calls(&self) -> &Self::Calls;
+
+    fn open(&self, table: &[u64], state: &mut [u64]) -> u32;
+
+    /// A scan of a block with an allowance, or a closing.
+    fn call(&self, lent: &mut Lent, scan: Option<(&[u8], u64)>) -> Answer;
+
+    fn busy(&self, state: &[u64]) -> u32;
+}
+
+/// States without starts.
+struct Untraced<'c, C>(&'c C);
+
+impl<C: Calls> Form for Untraced<'_, C> {
+    type Calls = C;
+    const TRACES: bool = false;
+
+    fn calls(&self) -> &C {
+        self.0
+    }
+
+    fn open(&self, table: &[u64], state: &mut [u64]) -> u32 {
+        self.0.open(table, state)
+    }
+
+    fn call(&self, lent: &mut Lent, scan: Option<(&[u8], u64)>) -> Answer {
+        let Lent { table, state, ids, offsets, .. } = lent;
         match scan {
-            Some((block, allowance)) => calls.scan(table, state, allowance, block, ids, offsets),
-            None => calls.close(table, state, ids, offsets),
+            Some((block, allowance)) => self.0.scan(table, state, allowance, block, ids, offsets),
+            None => self.0.close(table, state, ids, offsets),
         }
     }
 
-    fn scanned(&self, answer: &Answer) -> Scanned<'_> {
-        let &Answer { number, taken, count, used } = answer;
-        Scanned { number, taken, count, used, ids: &self.ids, offsets: &self.offsets }
+    fn busy(&self, state: &[u64]) -> u32 {
+        self.0.busy(state)
+    }
+}
+
+/// States that keep starts.
+struct Traced<'c, C>(&'c C);
+
+impl<C: Calls + Traces> Form for Traced<'_, C> {
+    type Calls = C;
+    const TRACES: bool = true;
+
+    fn calls(&self) -> &C {
+        self.0
+    }
+
+    fn open(&self, table: &[u64], state: &mut [u64]) -> u32 {
+        self.0.trace_open(table, state)
+    }
+
+    fn call(&self, lent: &mut Lent, scan: Option<(&[u8], u64)>) -> Answer {
+        let Lent { table, state, ids, offsets, starts } = lent;
+        let lists = columns(ids, offsets, starts.get_or_insert_with(|| ample(0)));
+        match scan {
+            Some((block, allowance)) => self.0.trace_scan(table, state, allowance, block, lists),
+            None => self.0.trace_close(table, state, lists),
+        }
+    }
+
+    fn busy(&self, state: &[u64]) -> u32 {
+        self.0.trace_busy(state)
     }
 }
 
 /// Runs the cases from `first` on; the first disagreement is the error.
 pub fn run<C: Calls>(calls: &C, seed: u64, first: u64, cases: u64) -> Result<Count, String> {
+    run_on(&Untraced(calls), &Untraced(&Interpreter), seed, first, cases)
+}
+
+/// The same on states that keep starts.
+pub fn run_traced<C>(calls: &C, seed: u64, first: u64, cases: u64) -> Result<Count, String>
+where
+    C: Calls + Traces,
+{
+    run_on(&Traced(calls), &Traced(&Interpreter), seed, first, cases)
+}
+
+fn run_on<F: Form, I: Form>(
+    calls: &F,
+    interpreter: &I,
+    seed: u64,
+    first: u64,
+    cases: u64,
+) -> Result<Count, String> {
     let mut count = Count::default();
     for index in first..first + cases {
         let mut rng = Rng::for_case(seed, index);
-        one_case(calls, &mut rng, &mut count)
+        one_case(calls, interpreter, &mut rng, &mut count)
             .map_err(|message| format!("damaged, seed {seed}, case {index}: {message}"))?;
         count.cases += 1;
     }
     Ok(count)
 }
 
-fn one_case<C: Calls>(calls: &C, rng: &mut Rng, count: &mut Count) -> Result<(), String> {
-    let Damaged { table, changed } = damaged(rng);
+fn one_case<F: Form, I: Form>(
+    calls: &F,
+    interpreter: &I,
+    rng: &mut Rng,
+    count: &mut Count,
+) -> Result<(), String> {
+    let Damaged { table, changed } = damaged(rng, F::TRACES);
     changed.iter().for_each(|&(at, _)| one_more(&mut count.changed, region(at)));
-    same("test", calls.test(&table), Interpreter.test(&table))?;
-    let state = state(rng, &table);
-    let mut lent = Lent { table, state, ids: Vec::new(), offsets: Vec::new() };
+    same("test", calls.calls().test(&table), Interpreter.test(&table))?;
+    let state = if F::TRACES { traced_state(rng, &table) } else { state(rng, &table) };
+    let mut lent = Lent { table, state, ids: Vec::new(), offsets: Vec::new(), starts: None };
     for turn in 0..1 + rng.below(4) {
         if turn > 0 && rng.once_in(4) {
-            one_more(&mut count.additions, added(calls, rng, &mut lent)?);
+            one_more(&mut count.additions, added(calls.calls(), rng, &mut lent)?);
         }
         if rng.once_in(8) || (turn > 0 && rng.once_in(4)) {
-            opened(calls, &mut lent)?;
+            opened(calls, interpreter, &mut lent)?;
         }
         lent.ids = (0..space(rng)).map(|_| rng.word() as u32).collect();
         lent.offsets = (0..space(rng)).map(|_| rng.word()).collect();
+        if F::TRACES {
+            lent.starts = Some(Starts {
+                starts: (0..space(rng)).map(|_| rng.word()).collect(),
+                relatives: (0..space(rng)).map(|_| rng.word() as i64).collect(),
+            });
+        }
         let longest = *rng.pick(&[2, 3, 40, 40, 40]);
         let block: Vec<u8> = (0..rng.below(longest)).map(|_| byte(rng, &lent.table)).collect();
         let scan = (!rng.once_in(6)).then(|| (&block[..], allowance(rng)));
         let before = lent.clone();
-        let answer = called(calls, rng, &mut lent, scan)
+        let answer = called(calls, interpreter, rng, &mut lent, scan)
             .map_err(|message| format!("{scan:?} on state {:?}: {message}", before.state))?;
         if turn == 0 {
-            let deciding = deciding(&changed, &before, scan, &(answer, lent.clone()));
+            let outcome = (answer, lent.clone());
+            let deciding = deciding(interpreter, &changed, &before, scan, &outcome);
             deciding.into_iter().for_each(|region| one_more(&mut count.decided, region));
         }
         count.calls += 1;
@@ -108,17 +210,18 @@ fn one_more<K: Ord>(counts: &mut BTreeMap<K, u64>, of: K) {
 
 /// One call, with what it owes: the interpreter's answer and words; a scan also its units, and that
 /// more of them carry it further.
-fn called<C: Calls>(
-    calls: &C,
+fn called<F: Form, I: Form>(
+    calls: &F,
+    interpreter: &I,
     rng: &mut Rng,
     lent: &mut Lent,
     scan: Option<(&[u8], u64)>,
 ) -> Result<Answer, String> {
-    same("busy figure", calls.busy(&lent.state), Interpreter.busy(&lent.state))?;
+    same("busy figure", calls.busy(&lent.state), interpreter.busy(&lent.state))?;
     let before = lent.clone();
     let mut wanted = before.clone();
-    let answer = lent.call(calls, scan);
-    same("answer", answer, wanted.call(&Interpreter, scan))?;
+    let answer = calls.call(lent, scan);
+    same("answer", answer, interpreter.call(&mut wanted, scan))?;
     if *lent != wanted {
         return Err("other words were left".to_string());
     }
@@ -129,7 +232,7 @@ fn called<C: Calls>(
         let more = allowance.saturating_add(*rng.pick(&[1, 2, 300, NO_LIMIT]));
         let busy = u64::from(calls.busy(&before.state));
         let mut others = before;
-        let another = others.call(calls, Some((block, more)));
+        let another = calls.call(&mut others, Some((block, more)));
         in_bounds(&lent.scanned(&answer), allowance, busy)?;
         carried_further(&lent.scanned(&answer), &others.scanned(&another))?;
     }
@@ -138,7 +241,8 @@ fn called<C: Calls>(
 
 /// The regions whose changed words gave a call this outcome: with what they were before, it is
 /// another.
-fn deciding(
+fn deciding<I: Form>(
+    interpreter: &I,
     changed: &[(usize, u64)],
     before: &Lent,
     scan: Option<(&[u8], u64)>,
@@ -154,17 +258,17 @@ fn deciding(
                 *word = was;
             }
         }
-        let answer = whole.call(&Interpreter, scan);
+        let answer = interpreter.call(&mut whole, scan);
         whole.table.clone_from(&before.table);
         (answer, whole) != *outcome
     });
     regions
 }
 
-fn opened<C: Calls>(calls: &C, lent: &mut Lent) -> Result<(), String> {
+fn opened<F: Form, I: Form>(calls: &F, interpreter: &I, lent: &mut Lent) -> Result<(), String> {
     let mut wanted = lent.clone();
     let number = calls.open(&lent.table, &mut lent.state);
-    same("opening", number, Interpreter.open(&wanted.table, &mut wanted.state))?;
+    same("opening", number, interpreter.open(&wanted.table, &mut wanted.state))?;
     if *lent != wanted {
         return Err("an opening left other words".to_string());
     }
@@ -173,7 +277,8 @@ fn opened<C: Calls>(calls: &C, lent: &mut Lent) -> Result<(), String> {
 
 /// An addition, after which the state may be valid no more; its number.
 fn added<C: Calls>(calls: &C, rng: &mut Rng, lent: &mut Lent) -> Result<u32, String> {
-    let (id, flags, pattern) = (rng.below(40) as u32, *rng.pick(&[0, 1, 4, 8]), pattern(rng));
+    let flags = if rng.once_in(8) { LEFTMOST_START } else { *rng.pick(&[0, 1, 4, 8]) };
+    let (id, pattern) = (rng.below(40) as u32, pattern(rng));
     let mut wanted = lent.clone();
     let answer = calls.add(&mut lent.table, id, flags, &pattern);
     same("addition", answer, Interpreter.add(&mut wanted.table, id, flags, &pattern))?;
@@ -240,17 +345,25 @@ const SHORT: [&[u8]; 10] =
     [b"a", b"[ab]+", b"[^c]", br"\b.", br".\b", br"\w\B", b".$", b"^[^c]", br"-$\n", br".*\n\B"];
 
 /// A table of a few rules, or of made-up sets, and then damaged.
-fn damaged(rng: &mut Rng) -> Damaged {
+fn damaged(rng: &mut Rng, traced: bool) -> Damaged {
     let mut table = vec![0; TABLE_WORDS];
     table.extend((0..rng.below(3)).map(|_| rng.word()));
     Interpreter.empty(&mut table);
     for _ in 0..rng.below(6) {
-        let (id, flags) = (rng.below(9) as u32, *rng.pick(&[0, 1, 2, 4, 4, 8, 8, 11, 12]));
+        let flags = *rng.pick(&[0, 1, 2, 4, 4, 8, 8, 11, 12]);
+        let often = if traced { 2 } else { 40 };
+        let flags = if rng.once_in(often) { LEFTMOST_START | flags & !SINGLE_MATCH } else { flags };
+        let id = rng.below(9) as u32;
         let pattern = if rng.once_in(2) { pattern(rng) } else { rng.pick(&SHORT).to_vec() };
         Interpreter.add(&mut table, id, flags, &pattern);
     }
     if rng.once_in(4) {
         made_up(rng, &mut table);
+        if traced {
+            for at in words_in(&[Region::Leftmosts, Region::Keepers]) {
+                table[at] = rng.word() | rng.word();
+            }
+        }
     }
     let mut changed = Vec::new();
     for _ in 0..rng.below(4) {
@@ -268,7 +381,7 @@ fn damaged(rng: &mut Rng) -> Damaged {
 
 /// The words of such a table.
 pub fn table(rng: &mut Rng) -> Vec<u64> {
-    damaged(rng).table
+    damaged(rng, false).table
 }
 
 /// Some counts and ids that pass the test, and all else of any content: sets thick or thin, owners that
@@ -329,6 +442,7 @@ fn in_use(rng: &mut Rng, words: &[u64], of: Region) -> usize {
         Region::Ids => id(rng.below(6)),
         Region::Openers => opener(byte(rng, words)),
         Region::Owners => owner(p),
+        Region::Keepers => KEEPERS + q,
         Region::Takers => takers(byte(rng, words)) + q,
         Region::Follows => follow(rng.below(FOLLOW_GAPS), p) + q,
         _ => *rng.pick(&words_in(&[of])),
@@ -360,6 +474,9 @@ fn state(rng: &mut Rng, table: &[u64]) -> Vec<u64> {
         _ => rng.word() % MAX_STREAM,
     };
     state[SIDE] = *rng.pick(&[0, 0, 1, 1, 2, 2, 3, (1 << 32) + 1, u64::MAX]);
+    if state[TAKEN] == 0 && !rng.once_in(8) {
+        state[..2 * 4].fill(0);
+    }
     let pairs = if state[TAKEN] < 2 { rng.once_in(8) } else { rng.once_in(2) };
     for place in 0..state[STATE_RULES].min(MAX_RULES as u64) as usize {
         if table[SINGLES] >> place & 1 == 1 && rng.once_in(8) {
@@ -374,6 +491,42 @@ fn state(rng: &mut Rng, table: &[u64]) -> Vec<u64> {
     }
     if rng.once_in(40) {
         state.truncate(rng.below(STATE_WORDS));
+    }
+    state
+}
+
+/// The same with starts: of each live and held position and each held pair, below the bytes taken, and
+/// sometimes at or above them, or where nothing is.
+fn traced_state(rng: &mut Rng, table: &[u64]) -> Vec<u64> {
+    let mut state = state(rng, table);
+    if state.len() < STATE_WORDS || rng.once_in(40) {
+        return state;
+    }
+    state.truncate(STATE_WORDS);
+    state.resize(TRACED_WORDS + rng.below(2), 0);
+    let taken = state[TAKEN];
+    let near = *rng.pick(&[2, 20, u64::MAX]);
+    let start = |rng: &mut Rng| match taken {
+        0 => 0,
+        _ => taken - 1 - rng.word() % taken.min(near),
+    };
+    for p in 0..MAX_POSITIONS {
+        if has(&state, 0, p) {
+            state[LIVE_STARTS + p] = start(rng);
+        }
+        if has(&state, HELD, p) {
+            state[HELD_STARTS + p] = start(rng);
+        }
+    }
+    for a in (0..MAX_RULES).filter(|a| state[PENDING] >> a & 1 == 1).collect::<Vec<_>>() {
+        state[PAIR_STARTS + a] = start(rng);
+    }
+    if rng.once_in(8) {
+        let at = LIVE_STARTS + rng.below(TRACED_WORDS - LIVE_STARTS);
+        state[at] = *rng.pick(&[1, taken, taken.saturating_add(1), 1 << 63, u64::MAX]);
+    }
+    if rng.once_in(40) {
+        state.truncate(rng.below(TRACED_WORDS));
     }
     state
 }

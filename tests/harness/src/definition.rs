@@ -3,8 +3,11 @@
 
 use corpus::{Case, Line, Report};
 use reference::ordered::{ordered, Moment, Pair};
-use reference::rule::{check, Rule};
+use reference::rule::{check_within, Rule};
 use reference::ways::busy;
+use reference::windows::Windows;
+
+use crate::scenario::Addition;
 
 /// A pair of the ordered list as the corpus writes it.
 pub fn report(pair: &Pair) -> Report {
@@ -12,17 +15,35 @@ pub fn report(pair: &Pair) -> Report {
         Moment::After(taken) => Some(taken),
         Moment::Closing => None,
     };
-    Report { moment, offset: pair.offset, id: pair.id }
+    Report { moment, offset: pair.offset, id: pair.id, start: pair.start }
+}
+
+/// The windows that a line of the corpus writes.
+pub fn windows(written: &corpus::Windows) -> Windows {
+    Windows {
+        smallest_end: written.smallest_end.unwrap_or(Windows::NONE.smallest_end),
+        largest_end: written.largest_end.unwrap_or(Windows::NONE.largest_end),
+        smallest_length: written.smallest_length.unwrap_or(Windows::NONE.smallest_length),
+    }
+}
+
+/// The same the other way round.
+pub fn written(windows: &Windows) -> corpus::Windows {
+    let other_than = |window: u64, none: u64| (window != none).then_some(window);
+    let none = Windows::NONE;
+    corpus::Windows {
+        smallest_end: other_than(windows.smallest_end, none.smallest_end),
+        largest_end: other_than(windows.largest_end, none.largest_end),
+        smallest_length: other_than(windows.smallest_length, none.smallest_length),
+    }
 }
 
 /// The rules that these additions leave in an emptied table, and each addition's number and place.
-pub fn add_all<'a>(
-    additions: impl IntoIterator<Item = (u32, u32, &'a [u8])>,
-) -> (Vec<Rule>, Vec<(u32, usize)>) {
+pub fn add_all(additions: &[Addition]) -> (Vec<Rule>, Vec<(u32, usize)>) {
     let mut rules = Vec::new();
     let mut answers = Vec::new();
-    for (id, flags, pattern) in additions {
-        match check(&rules, id, flags, pattern) {
+    for Addition { id, flags, windows, pattern } in additions {
+        match check_within(&rules, *id, *flags, *windows, pattern) {
             Ok(rule) => {
                 rules.push(rule);
                 answers.push((0, 0));
@@ -37,8 +58,10 @@ pub fn add_all<'a>(
 pub fn check_case(case: &Case) -> Result<(), String> {
     let mut rules: Vec<Rule> = Vec::new();
     for line in &case.lines {
-        let Line::Rule { id, flags, pattern, number, place } = line else { continue };
-        let answer = match check(&rules, *id, *flags, pattern) {
+        let Line::Rule { id, flags, pattern, number, place, windows: within } = line else {
+            continue;
+        };
+        let answer = match check_within(&rules, *id, *flags, windows(within), pattern) {
             Ok(rule) => {
                 rules.push(rule);
                 (0, 0)

@@ -8,10 +8,11 @@
 //! space, so that the stop rule is at work wherever bytes report, and, cut into single bytes, with
 //! the busy figure asked after each byte and after the closing. Each cut is made a second time by work
 //! allowances: all the rest of the log is offered with just the units that the next part costs and,
-//! before each single byte, with one unit too few.
+//! before each single byte, with one unit too few. Where streams keep starts, the plain rule reports
+//! them.
 
 use corpus::Case;
-use reference::refusal::{LINE_MODE, SINGLE_MATCH};
+use reference::refusal::{LEFTMOST_START, LINE_MODE, SINGLE_MATCH};
 
 use crate::definition::add_all;
 use crate::play::play;
@@ -141,6 +142,21 @@ pub fn run<W: Watcher, R: PatternReader>(
     Ok(count)
 }
 
+/// All patterns of up to so many tokens, the shorter ones first.
+pub fn all_patterns(alphabet: &'static [&'static str], longest: usize) -> Vec<Vec<u8>> {
+    let mut patterns = Vec::new();
+    for tokens in 0..=longest {
+        let mut digits = vec![0; tokens];
+        loop {
+            patterns.push(digits.iter().flat_map(|&d| alphabet[d].bytes()).collect());
+            if !advance(&mut digits, alphabet.len()) {
+                break;
+            }
+        }
+    }
+    patterns
+}
+
 /// The next number of so many digits in this base; false after the last.
 fn advance(digits: &mut [usize], base: usize) -> bool {
     for digit in digits.iter_mut() {
@@ -179,11 +195,13 @@ fn one_pattern<W: Watcher, R: PatternReader>(
     logs: &[Vec<u8>],
     count: &mut Count,
 ) -> Result<(), String> {
+    let traced = watcher.traces();
+    let leftmost = if traced { LEFTMOST_START } else { 0 };
     let additions = vec![
-        Addition { id: 2, flags, pattern: pattern.to_vec() },
-        Addition { id: 1, flags: flags | SINGLE_MATCH, pattern: pattern.to_vec() },
+        Addition::new(2, flags | leftmost, pattern),
+        Addition::new(1, flags | SINGLE_MATCH, pattern),
     ];
-    let (rules, answers) = add_all(additions.iter().map(|a| (a.id, a.flags, &a.pattern[..])));
+    let (rules, answers) = add_all(&additions);
     let reading = reader.read(flags, pattern);
     let positions = rules.first().map_or(0, |rule| rule.positions);
     if (reading.number, reading.place, reading.positions) != (answers[0].0, answers[0].1, positions)
@@ -198,7 +216,7 @@ fn one_pattern<W: Watcher, R: PatternReader>(
     count.accepted += 1;
     let scenario = |log: &[u8]| {
         let steps = all_streams(log.len()).join(&Step::Again);
-        Scenario { additions: additions.clone(), log: log.to_vec(), steps }
+        Scenario { additions: additions.clone(), log: log.to_vec(), steps, traced }
     };
     let mut all = Case { name: String::new(), origin: String::new(), lines: Vec::new() };
     for log in logs {

@@ -4,6 +4,9 @@ use watcher::raw;
 use words::calls::{Answer, Calls};
 use words::card::Card;
 
+use crate::matched::Matched;
+
+#[derive(Clone, Copy, Debug)]
 pub struct Library;
 
 impl Calls for Library {
@@ -57,6 +60,24 @@ impl Card for Library {
 
     fn read_block(&self, table: &mut [u64], number: u64, block: &[u8]) -> (u32, u64) {
         raw::read_block(table, number, block)
+    }
+}
+
+impl Matched for Library {
+    fn number(&self, tail: &[u8], block: &[u8], offset: u64, start: u64, end: u64) -> u32 {
+        raw::matched_number(tail, block, offset, start, end)
+    }
+
+    fn part(
+        &self,
+        tail: &[u8],
+        block: &[u8],
+        offset: u64,
+        start: u64,
+        end: u64,
+    ) -> (bool, usize, usize) {
+        let part = raw::matched_bytes(tail, block, offset, start, end);
+        (part.tail, part.place, part.size)
     }
 }
 

@@ -10,10 +10,14 @@ use harness::exhaustive::{self, Alphabet, Bounds, BRACES, LINES, MEANING, SPELLI
 use harness::library::Library;
 use harness::model::Model;
 use harness::over_words::OverWords;
+#[cfg(feature = "library")]
+use harness::plain;
 use harness::process::Process;
+use harness::traced_model::TracedModel;
+use harness::traced_words::TracedWords;
 use harness::watcher::{PatternReader, Watcher};
 use harness::{card, damaged, random, readings};
-use words::calls::Calls;
+use words::calls::{Calls, Traces};
 use words::card::Card;
 use words::interpreter::Interpreter;
 
@@ -28,19 +32,30 @@ const USAGE: &str = "usage:
   harness [WATCHER] random SEED COUNT [FIRST]
   harness library damaged SEED COUNT [FIRST]
   harness library card SEED COUNT [FIRST]
+  harness library matched LENGTH
+  harness plain exhaustive TOKENS BYTES
+  harness plain lines TOKENS BYTES
+  harness plain random SEED COUNT [FIRST]
   harness program PATH
 WATCHER is model (the reference's calls, also if none is given), words (the interpreter of table
-words) or library; PATH is the built program.";
+words) or library; with `traced` before it, its streams that keep starts; plain is the library's
+plain matcher. PATH is the built program.";
 
 fn main() -> ExitCode {
     let words: Vec<String> = std::env::args().skip(1).collect();
     let words: Vec<&str> = words.iter().map(String::as_str).collect();
     let done = match &words[..] {
         ["model", rest @ ..] => command(&Model, rest),
+        ["traced", "model", rest @ ..] => command(&TracedModel, rest),
+        ["traced", "words", rest @ ..] => traced_words(Interpreter, rest),
         ["words", rest @ ..] => over_words(Interpreter, rest),
         ["program", path] => program(path),
         #[cfg(feature = "library")]
+        ["library", "matched", longest] => all_matched(longest),
+        #[cfg(feature = "library")]
         ["library", rest @ ..] => over_words(Library, rest),
+        #[cfg(feature = "library")]
+        ["plain", name, rest @ ..] => plainly(name, rest),
         rest => command(&Model, rest),
     };
     match done {
@@ -50,6 +65,17 @@ fn main() -> ExitCode {
             ExitCode::FAILURE
         }
     }
+}
+
+#[cfg(feature = "library")]
+fn all_matched(longest: &str) -> Result<(), String> {
+    let longest = numbers(&[longest])?[0] as usize;
+    let count = harness::matched::run(&Library, longest)?;
+    println!(
+        "matched: {} questions, {} shown from the block, {} from the tail, {} refused",
+        count.questions, count.in_block, count.in_tail, count.refused
+    );
+    Ok(())
 }
 
 fn numbers(words: &[&str]) -> Result<Vec<u64>, String> {
@@ -73,6 +99,19 @@ fn over_words<C: Calls + Card>(calls: C, words: &[&str]) -> Result<(), String> {
         };
     }
     command(&OverWords(calls), words)
+}
+
+/// The commands on calls over words whose states keep starts.
+fn traced_words<C: Calls + Traces + Copy>(calls: C, words: &[&str]) -> Result<(), String> {
+    if let ["damaged", rest @ ..] = words {
+        let (seed, count, first) = match numbers(rest)?[..] {
+            [seed, count] => (seed, count, 0),
+            [seed, count, first] => (seed, count, first),
+            _ => return Err(USAGE.to_string()),
+        };
+        return show_damaged(seed, damaged::run_traced(&calls, seed, first, count)?);
+    }
+    command(&TracedWords(calls), words)
 }
 
 fn command<W: Watcher + PatternReader>(watcher: &W, words: &[&str]) -> Result<(), String> {
@@ -101,6 +140,25 @@ fn corpus<W: Watcher>(watcher: &W) -> Result<(), String> {
     show("corpus on the definition", &run_definition(folder)?)?;
     show("corpus on the calls", &run_folder(watcher, folder)?)?;
     show("corpus on the model of the program", &run_program(&Model, folder)?)
+}
+
+/// The plain matcher, compared with the definition and with table, scan and closing.
+#[cfg(feature = "library")]
+fn plainly(name: &str, words: &[&str]) -> Result<(), String> {
+    let count = match (name, &numbers(words)?[..]) {
+        ("exhaustive", &[tokens, bytes]) => {
+            plain::exhaustive(MEANING, tokens as usize, bytes as usize)
+        }
+        ("lines", &[tokens, bytes]) => plain::exhaustive(LINES, tokens as usize, bytes as usize),
+        ("random", &[seed, cases]) => plain::random(seed, 0, cases),
+        ("random", &[seed, cases, first]) => plain::random(seed, first, cases),
+        _ => return Err(USAGE.to_string()),
+    }?;
+    println!(
+        "plain {name}: {} questions, {} accepted, {} reports, {} scanned too",
+        count.questions, count.accepted, count.reports, count.scanned
+    );
+    Ok(())
 }
 
 /// The runs of the program on the program itself.
@@ -154,7 +212,10 @@ fn many_random<W: Watcher>(watcher: &W, seed: u64, first: u64, cases: u64) -> Re
 }
 
 fn many_damaged<C: Calls>(calls: &C, seed: u64, first: u64, cases: u64) -> Result<(), String> {
-    let count = damaged::run(calls, seed, first, cases)?;
+    show_damaged(seed, damaged::run(calls, seed, first, cases)?)
+}
+
+fn show_damaged(seed: u64, count: damaged::Count) -> Result<(), String> {
     println!(
         "damaged: seed {seed}, {} cases, {} calls, {} bytes taken, {} reports, {} units",
         count.cases, count.calls, count.taken, count.reports, count.used

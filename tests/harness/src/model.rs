@@ -1,6 +1,7 @@
 //! The reference behind the interface: the model of the calls, the reader, and the program.
 
 use reference::calls::{Stream, Table};
+use reference::windows::Windows;
 use reference::{program, rule};
 
 use crate::watcher::{Answer, Change, PatternReader, Program, Reading, Watcher};
@@ -28,6 +29,24 @@ impl Watcher for Model {
             Ok(()) => (0, 0),
             Err(refusal) => (refusal.number, refusal.place),
         }
+    }
+
+    fn add_within(
+        &self,
+        table: &mut Table,
+        id: u32,
+        flags: u32,
+        windows: Windows,
+        pattern: &[u8],
+    ) -> Option<(u32, usize)> {
+        Some(match table.add_within(id, flags, windows, pattern) {
+            Ok(()) => (0, 0),
+            Err(refusal) => (refusal.number, refusal.place),
+        })
+    }
+
+    fn has_windows(&self) -> bool {
+        true
     }
 
     fn open(&self, table: &Table) -> (u32, Stream) {
@@ -68,11 +87,12 @@ impl Watcher for Model {
             Change::Held(position) => stream.with_stray_held(position),
             Change::Pair(rule) => stream.with_held_pair(rule),
             Change::Last(last) => stream.with_last(last),
+            Change::Start(..) => None,
         }
     }
 }
 
-fn answer(answer: reference::calls::Answer) -> Answer<Stream> {
+pub(crate) fn answer<S>(answer: reference::calls::Answer<S>) -> Answer<S> {
     Answer {
         number: answer.number,
         taken: answer.taken,

@@ -76,12 +76,13 @@ impl<C: Calls> Watcher for OverWords<C> {
             }
             Change::Pair(rule) => state[PENDING] |= bit(rule)?,
             Change::Last(last) => state[SIDE] = last,
+            Change::Start(..) => return None,
         }
         Some(state)
     }
 }
 
-fn answer<S>(answer: calls::Answer, stream: S) -> Answer<S> {
+pub(crate) fn answer<S>(answer: calls::Answer, stream: S) -> Answer<S> {
     let calls::Answer { number, taken, count, used } = answer;
     Answer { number, taken, count, used, stream }
 }

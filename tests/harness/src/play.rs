@@ -5,9 +5,10 @@
 
 use std::borrow::Cow;
 
-use corpus::{Call, Case, Line, Lists, Report, Work};
-use reference::refusal::{least_space, MAX_RULES, TABLE_WORDS};
+use corpus::{Call, Case, Line, Lists, Report, Starts, Work};
+use reference::refusal::{least_space, LEFTMOST_START, MAX_RULES, TABLE_WORDS};
 
+use crate::definition::windows;
 use crate::slices::{carried_further, in_bounds, Scanned, MOST_UNITS};
 use crate::watcher::{Answer, Change, Watcher, NO_LIMIT};
 
@@ -19,13 +20,24 @@ pub enum Outcome {
     Skipped,
 }
 
+/// Is the case for this watcher's streams?
+pub fn is_for<W: Watcher>(watcher: &W, case: &Case) -> bool {
+    if watcher.traces() {
+        !case.is_untraced()
+    } else {
+        !case.is_traced()
+    }
+}
+
 /// Plays a case; an error says which line was answered wrongly, and how.
 pub fn play<W: Watcher>(watcher: &W, case: &Case) -> Result<Outcome, String> {
+    if !is_for(watcher, case) {
+        return Ok(Outcome::Skipped);
+    }
     if case.has_calls() {
         play_calls(watcher, case)
     } else {
-        play_whole(watcher, case)?;
-        Ok(Outcome::Passed)
+        play_whole(watcher, case)
     }
 }
 
@@ -68,12 +80,20 @@ impl<'w, W: Watcher> Player<'w, W> {
         Ok(())
     }
 
-    fn add(&mut self, id: u32, flags: u32, pattern: &[u8]) -> Result<(u32, usize), String> {
+    /// None if the watcher cannot follow.
+    fn add(
+        &mut self,
+        id: u32,
+        flags: u32,
+        within: &corpus::Windows,
+        pattern: &[u8],
+    ) -> Result<Option<(u32, usize)>, String> {
         let before = self.lent_table().into_owned();
         let mut words = before.clone();
-        let answer = self.watcher.add(&mut words, id, flags, pattern);
+        let answer = self.watcher.add_within(&mut words, id, flags, windows(within), pattern);
+        let Some(answer) = answer else { return Ok(None) };
         self.take_back(&before, words, answer.0)?;
-        Ok(answer)
+        Ok(Some(answer))
     }
 
     fn present(&self) -> Result<W::Stream, String> {
@@ -95,10 +115,7 @@ impl<'w, W: Watcher> Player<'w, W> {
                 in_bounds(&scanned(&answer, lists), allowance, busy)?;
                 answer
             }
-            None => {
-                let (ids, offsets) = (&mut lists.ids[..], &mut lists.offsets[..]);
-                self.watcher.close(&self.lent_table(), stream.clone(), ids, offsets)
-            }
+            None => self.watcher.close_into(&self.lent_table(), stream.clone(), lists),
         };
         if answer.number != 0 && answer.stream != stream {
             return Err(format!("refusal {} changed the state", answer.number));
@@ -114,15 +131,16 @@ impl<'w, W: Watcher> Player<'w, W> {
         block: &[u8],
         lists: &mut Lists,
     ) -> Answer<W::Stream> {
-        let (ids, offsets) = (&mut lists.ids[..], &mut lists.offsets[..]);
-        self.watcher.scan(&self.lent_table(), stream.clone(), allowance, block, ids, offsets)
+        self.watcher.scan_into(&self.lent_table(), stream.clone(), allowance, block, lists)
     }
 
     /// One line of a case with calls. Gives false if the watcher cannot follow.
     fn line(&mut self, line: &Line) -> Result<bool, String> {
         match line {
-            Line::Rule { id, flags, pattern, number, place } => {
-                let answer = self.add(*id, *flags, pattern)?;
+            Line::Rule { id, flags, pattern, number, place, windows } => {
+                let Some(answer) = self.add(*id, *flags, windows, pattern)? else {
+                    return Ok(false);
+                };
                 expect("number and place", answer, (*number, *place))?;
             }
             Line::Open(number) => {
@@ -155,6 +173,9 @@ impl<'w, W: Watcher> Player<'w, W> {
             Line::StateHeld(n) => return self.change(Change::Held(*n)),
             Line::StatePair(n) => return self.change(Change::Pair(*n)),
             Line::StateLast(n) => return self.change(Change::Last(*n)),
+            Line::StateStart(kept, n, start) => {
+                return self.change(Change::Start(*kept, *n, *start));
+            }
             Line::Block(_) | Line::Report(_) | Line::Busy(_) => {
                 return Err("a case has either blocks or calls".to_string());
             }
@@ -193,7 +214,8 @@ impl<'w, W: Watcher> Player<'w, W> {
 
 fn scanned<'l, S>(answer: &Answer<S>, lists: &'l Lists) -> Scanned<'l> {
     let &Answer { number, taken, count, used, .. } = answer;
-    Scanned { number, taken, count, used, ids: &lists.ids, offsets: &lists.offsets }
+    let Lists { ids, offsets, starts } = lists;
+    Scanned { number, taken, count, used, ids, offsets, starts: starts.as_ref() }
 }
 
 fn expect<T: PartialEq + std::fmt::Debug>(what: &str, got: T, wanted: T) -> Result<(), String> {
@@ -215,35 +237,71 @@ fn play_calls<W: Watcher>(watcher: &W, case: &Case) -> Result<Outcome, String> {
 
 /// A case without calls: its additions, and then its stream four times: block by block with the least
 /// report space, at once with much, in the smallest slices of work that always take a byte, and byte
-/// by byte with the moments and busy figures.
-fn play_whole<W: Watcher>(watcher: &W, case: &Case) -> Result<(), String> {
+/// by byte with the moments and busy figures. Where a rule needs a start and this watcher's streams
+/// keep none, every call is refused instead.
+fn play_whole<W: Watcher>(watcher: &W, case: &Case) -> Result<Outcome, String> {
     let mut player = Player::new(watcher)?;
     let mut rules = 0;
     for line in case.lines.iter().filter(|line| matches!(line, Line::Rule { .. })) {
-        player.line(line).map_err(|e| format!("{line}: {e}"))?;
+        if !player.line(line).map_err(|e| format!("{line}: {e}"))? {
+            return Ok(Outcome::Skipped);
+        }
         rules += usize::from(matches!(line, Line::Rule { number: 0, .. }));
     }
     let blocks = case.blocks();
     let joined: Vec<u8> = blocks.concat();
     let bytes: Vec<Vec<u8>> = joined.iter().map(|&b| vec![b]).collect();
     let wanted = case.reports();
-    let pairs: Vec<(u32, u64)> = wanted.iter().map(|r| (r.id, r.offset)).collect();
     let least = least_space(rules);
     let much = least_space(MAX_RULES) * (joined.len() + 1);
+    if case.needs_starts() && !watcher.traces() {
+        keeps_no_starts(&mut player, &joined, much)?;
+        return Ok(Outcome::Passed);
+    }
+    let without_moments = |reports: &[Report]| -> Vec<Report> {
+        reports.iter().map(|report| Report { moment: None, ..*report }).collect()
+    };
+    let leftmost = leftmost_ids(case);
     let at_once = vec![joined];
     for (blocks, space, allowance) in
         [(&blocks, least, NO_LIMIT), (&at_once, much, NO_LIMIT), (&at_once, least, MOST_UNITS)]
     {
-        let got = whole_stream(&mut player, blocks, space, allowance)?;
-        let got: Vec<(u32, u64)> = got.reports.iter().map(|r| (r.id, r.offset)).collect();
-        expect("reports (id, offset)", &got, &pairs)?;
+        let got = whole_stream(&mut player, blocks, space, allowance, &leftmost)?;
+        expect("reports", without_moments(&got.reports), without_moments(&wanted))?;
     }
-    let got = whole_stream(&mut player, &bytes, least, NO_LIMIT)?;
+    let got = whole_stream(&mut player, &bytes, least, NO_LIMIT, &leftmost)?;
     expect("reports with moments", &got.reports, &wanted)?;
-    match case.busy() {
-        Some(figures) => expect("busy figures", got.busy, figures),
-        None => Ok(()),
+    if let Some(figures) = case.busy() {
+        expect("busy figures", got.busy, figures)?;
     }
+    Ok(Outcome::Passed)
+}
+
+/// The ids of the accepted rules that report starts.
+fn leftmost_ids(case: &Case) -> Vec<u32> {
+    let leftmost = |line: &Line| match line {
+        Line::Rule { id, flags, number: 0, .. } if flags & LEFTMOST_START != 0 => Some(*id),
+        _ => None,
+    };
+    case.lines.iter().filter_map(leftmost).collect()
+}
+
+/// A state without starts on a table in which a rule needs them: it is opened, and refused with 18 in
+/// each call.
+fn keeps_no_starts<W: Watcher>(
+    player: &mut Player<W>,
+    block: &[u8],
+    space: usize,
+) -> Result<(), String> {
+    player.line(&Line::Open(0))?;
+    for scan in [Some((block, NO_LIMIT)), Some((&b""[..], 0)), None] {
+        let before = lent(player.watcher, space);
+        let mut lists = before.clone();
+        let answer = player.call(scan, &mut lists)?;
+        expect("number without starts", answer.number, 18)?;
+        expect("lists", &lists, &before)?;
+    }
+    Ok(())
 }
 
 struct Whole {
@@ -258,6 +316,7 @@ fn whole_stream<W: Watcher>(
     blocks: &[Vec<u8>],
     space: usize,
     allowance: u64,
+    leftmost: &[u32],
 ) -> Result<Whole, String> {
     player.line(&Line::Open(0))?;
     let mut whole = Whole { reports: Vec::new(), busy: Vec::new() };
@@ -267,13 +326,14 @@ fn whole_stream<W: Watcher>(
         let mut offered = 0;
         loop {
             let rest = &block[offered..];
-            let (taken, reports) = accepted_call(player, Some((rest, allowance)), space)?;
+            let scan = Some((rest, allowance));
+            let (taken, reports) = accepted_call(player, scan, space, total, leftmost)?;
             if taken == 0 && !rest.is_empty() || taken > rest.len() {
                 return Err(format!("a scan took {taken} of {} bytes", rest.len()));
             }
             offered += taken;
             total += taken as u64;
-            let moment = |(id, offset)| Report { moment: Some(total), offset, id };
+            let moment = |report| Report { moment: Some(total), ..report };
             whole.reports.extend(reports.into_iter().map(moment));
             if offered == block.len() {
                 break;
@@ -281,32 +341,53 @@ fn whole_stream<W: Watcher>(
         }
         whole.busy.push(player.watcher.busy(&player.present()?));
     }
-    let (_, reports) = accepted_call(player, None, space)?;
-    let moment = |(id, offset)| Report { moment: None, offset, id };
-    whole.reports.extend(reports.into_iter().map(moment));
+    let (_, reports) = accepted_call(player, None, space, total, leftmost)?;
+    whole.reports.extend(reports);
     Ok(whole)
 }
 
-/// A call that must be accepted, its bytes taken and its reports. The slots past the count must
-/// keep what they held.
+/// Lists with so many slots and old contents, as many lists as the watcher's calls have.
+fn lent<W: Watcher>(watcher: &W, space: usize) -> Lists {
+    let starts = Starts { starts: vec![u64::MAX - 7; space], relatives: vec![i64::MIN; space + 2] };
+    Lists {
+        ids: vec![0xdead_beef; space],
+        offsets: vec![u64::MAX - 5; space + 1],
+        starts: watcher.traces().then_some(starts),
+    }
+}
+
+/// A call that must be accepted, its bytes taken and its reports, as if all fell at closing. The slots
+/// past the count must keep what they held, and the relative starts be measured from this first byte.
 fn accepted_call<W: Watcher>(
     player: &mut Player<W>,
     scan: Option<(&[u8], u64)>,
     space: usize,
-) -> Result<(usize, Vec<(u32, u64)>), String> {
-    let before = Lists { ids: vec![0xdead_beef; space], offsets: vec![u64::MAX - 5; space + 1] };
+    first: u64,
+    leftmost: &[u32],
+) -> Result<(usize, Vec<Report>), String> {
+    let before = lent(player.watcher, space);
     let mut lists = before.clone();
     let answer = player.call(scan, &mut lists)?;
     expect("number", answer.number, 0)?;
-    if answer.count > space {
-        return Err(format!("{} reports in a space of {space}", answer.count));
+    let count = answer.count;
+    if count > space {
+        return Err(format!("{count} reports in a space of {space}"));
     }
-    expect("ids past the count", &lists.ids[answer.count..], &before.ids[answer.count..])?;
-    expect(
-        "offsets past the count",
-        &lists.offsets[answer.count..],
-        &before.offsets[answer.count..],
-    )?;
-    let pairs = lists.ids.iter().copied().zip(lists.offsets.iter().copied());
-    Ok((answer.taken, pairs.take(answer.count).collect()))
+    expect("ids past the count", &lists.ids[count..], &before.ids[count..])?;
+    expect("offsets past the count", &lists.offsets[count..], &before.offsets[count..])?;
+    if let (Some(of), Some(old)) = (&lists.starts, &before.starts) {
+        expect("starts past the count", &of.starts[count..], &old.starts[count..])?;
+        let (relatives, old) = (&of.relatives[count..], &old.relatives[count..]);
+        expect("relative starts past the count", relatives, old)?;
+    }
+    let mut reports = Vec::new();
+    for slot in 0..count {
+        let (id, offset) = (lists.ids[slot], lists.offsets[slot]);
+        let (start, relative) =
+            lists.starts.as_ref().map_or((0, 0), |of| (of.starts[slot], of.relatives[slot]));
+        let wanted = if leftmost.contains(&id) { start as i64 - first as i64 } else { 0 };
+        expect("relative start", relative, wanted)?;
+        reports.push(Report { moment: None, offset, id, start });
+    }
+    Ok((answer.taken, reports))
 }

@@ -4,9 +4,10 @@
 //! on i alone.
 
 use corpus::{Case, Line};
-use reference::refusal::{least_space, MAX_RULES};
+use reference::refusal::{least_space, LEFTMOST_START, MAX_RULES, SINGLE_MATCH};
 use reference::rule::Rule;
 use reference::tree::Node;
+use reference::windows::Windows;
 
 use crate::definition::add_all;
 use crate::patterns::{pattern, ODD_BYTES};
@@ -28,8 +29,8 @@ pub struct Count {
     pub reports: u64,
     /// Units of work.
     pub used: u64,
-    /// Additions by their number, 0 to 17 and 23.
-    pub by_number: [u64; 24],
+    /// Additions by their number, 0 to 17, 23, 24 and 26.
+    pub by_number: [u64; 27],
 }
 
 /// Patterns that wait for the end, most of them at its last two offsets.
@@ -71,7 +72,7 @@ const NEXT_BYTES: &[&str] = &[
 pub fn run<W: Watcher>(watcher: &W, seed: u64, first: u64, cases: u64) -> Result<Count, String> {
     let mut count = Count::default();
     for index in first..first + cases {
-        let scenario = scenario(&mut Rng::for_case(seed, index));
+        let scenario = scenario_for(watcher, &mut Rng::for_case(seed, index));
         let case = predict(&scenario);
         if play(watcher, &case).is_err() {
             let small = describe(watcher, &shrink(watcher, &scenario));
@@ -111,14 +112,14 @@ pub fn scenario(rng: &mut Rng) -> Scenario {
     }
     if rng.once_in(30) {
         let pattern = rng.pick(&[&b"a{200}"[..], b"(ab){64}", b"b{2,127}", b"[ab]{254,}"]).to_vec();
-        additions.insert(0, Addition { id: 77, flags: 0, pattern });
+        additions.insert(0, Addition::new(77, 0, &pattern));
     }
     if rng.once_in(40) {
         let count = *rng.pick(&[30, 48, 58, 62]) + rng.below(8) as u32;
-        additions.extend((100..100 + count).map(|id| {
-            let pattern = vec![b'a' + (id % 3) as u8];
-            Addition { id, flags: *rng.pick(&[0, 0, 8]), pattern }
-        }));
+        additions.extend(
+            (100..100 + count)
+                .map(|id| Addition::new(id, *rng.pick(&[0, 0, 8]), &[b'a' + (id % 3) as u8])),
+        );
     }
     for waiting in [LAST_LINES, NEXT_BYTES] {
         if rng.once_in(12) {
@@ -128,7 +129,7 @@ pub fn scenario(rng: &mut Rng) -> Scenario {
             }
         }
     }
-    let (rules, _) = add_all(additions.iter().map(|a| (a.id, a.flags, &a.pattern[..])));
+    let (rules, _) = add_all(&additions);
     let log = log(rng, &rules);
     let mut steps = Vec::new();
     for _ in 0..rng.below(12) {
@@ -141,7 +142,47 @@ pub fn scenario(rng: &mut Rng) -> Scenario {
         steps.push(Step::Figure);
         steps.push(Step::Close { ids: least.saturating_sub(1), offsets: 2 * MAX_RULES + 8 });
     }
-    Scenario { additions, log, steps }
+    Scenario { additions, log, steps, traced: false }
+}
+
+/// A scenario for this watcher: where its streams keep starts, about half the rules report them, and
+/// where it has windows, some rules have them. On streams that keep none a rule that reports starts is
+/// rare, since all calls are then refused.
+pub fn scenario_for<W: Watcher>(watcher: &W, rng: &mut Rng) -> Scenario {
+    let mut scenario = scenario(rng);
+    scenario.traced = watcher.traces();
+    let often = if watcher.traces() { 2 } else { 200 };
+    let adding = scenario.steps.iter_mut().filter_map(|step| match step {
+        Step::Add(addition) => Some(addition),
+        _ => None,
+    });
+    for addition in scenario.additions.iter_mut().chain(adding) {
+        if rng.once_in(often) {
+            addition.flags |= LEFTMOST_START;
+            if !rng.once_in(12) {
+                addition.flags &= !SINGLE_MATCH;
+            }
+        }
+        if watcher.has_windows() && rng.once_in(4) {
+            addition.windows = windows(rng, watcher.traces());
+        }
+    }
+    scenario
+}
+
+/// Windows of any kind about the length of a log; a smallest length only where streams keep starts.
+fn windows(rng: &mut Rng, lengths: bool) -> Windows {
+    let mut windows = Windows::NONE;
+    if rng.once_in(2) {
+        windows.smallest_end = rng.word() % 8;
+    }
+    if rng.once_in(2) {
+        windows.largest_end = windows.smallest_end.saturating_sub(1) + rng.word() % 12;
+    }
+    if lengths && rng.once_in(2) {
+        windows.smallest_length = rng.word() % 5;
+    }
+    windows
 }
 
 fn addition(rng: &mut Rng) -> Addition {
@@ -156,7 +197,7 @@ fn addition(rng: &mut Rng) -> Addition {
         1 => 16,
         _ => *rng.pick(&[0, 0, 0, 1, 2, 4, 4, 8, 8, 3, 9, 10, 11, 12, 15]),
     };
-    Addition { id, flags, pattern: pattern(rng) }
+    Addition::new(id, flags, &pattern(rng))
 }
 
 fn step(rng: &mut Rng, rules: usize, log: usize) -> Step {

@@ -36,8 +36,9 @@ pub fn run<R: PatternReader>(reader: &R, longest: usize) -> Result<Count, String
             return Ok(());
         }
         let Reading { number, place, .. } = wanted;
-        let line = Line::Rule { id: 1, flags: 0, pattern: pattern.to_vec(), number, place };
         let name = format!("disagreement {}", pattern.escape_ascii());
+        let (pattern, windows) = (pattern.to_vec(), Default::default());
+        let line = Line::Rule { id: 1, flags: 0, pattern, number, place, windows };
         let case = Case { name, origin: String::new(), lines: vec![line] };
         Err(format!("# got {got:?}, wanted {wanted:?}\n{case}"))
     })?;

@@ -3,19 +3,28 @@
 //! busy figure before each byte, and the order of the checks. So a scenario can be played on any
 //! watcher, made smaller, or printed.
 
-use corpus::{Call, Case, Line, Lists, Work};
+use corpus::{Call, Case, Line, Lists, Starts, Work};
 use reference::ordered::{ordered, Moment, Pair};
 use reference::refusal::{least_space, TABLE_WORDS};
-use reference::rule::{check, Rule};
+use reference::rule::{check_within, Rule};
 use reference::ways::busy;
+use reference::windows::Windows;
 
-use crate::definition::add_all;
+use crate::definition::{add_all, written};
 
 #[derive(Clone, Debug, PartialEq, Eq)]
 pub struct Addition {
     pub id: u32,
     pub flags: u32,
+    pub windows: Windows,
     pub pattern: Vec<u8>,
+}
+
+impl Addition {
+    /// One without windows.
+    pub fn new(id: u32, flags: u32, pattern: &[u8]) -> Addition {
+        Addition { id, flags, windows: Windows::NONE, pattern: pattern.to_vec() }
+    }
 }
 
 /// The units that a scan may use.
@@ -42,7 +51,8 @@ impl Allowance {
     }
 }
 
-/// One thing that the caller does. Sizes are those of the two lent lists.
+/// One thing that the caller does. Sizes are those of the two lent lists; of four, two have these sizes and
+/// two are no shorter.
 #[derive(Clone, Debug, PartialEq, Eq)]
 pub enum Step {
     /// Offers so many of the log's next bytes; `drop` leaves out for good those not taken.
@@ -83,13 +93,14 @@ pub struct Scenario {
     pub additions: Vec<Addition>,
     pub log: Vec<u8>,
     pub steps: Vec<Step>,
+    /// Do the streams keep starts?
+    pub traced: bool,
 }
 
 /// The case that the definition makes of a scenario. After its steps, if no closing was accepted,
 /// the rest of the log is offered with ample space and the stream is closed.
 pub fn predict(scenario: &Scenario) -> Case {
-    let additions = scenario.additions.iter().map(|a| (a.id, a.flags, &a.pattern[..]));
-    let (rules, answers) = add_all(additions);
+    let (rules, answers) = add_all(&scenario.additions);
     predict_with(scenario, &rules, &answers)
 }
 
@@ -104,6 +115,7 @@ pub fn predict_with(scenario: &Scenario, rules: &[Rule], answers: &[(u32, usize)
         stream: Vec::new(),
         joined: Vec::new(),
         closed: false,
+        traced: scenario.traced,
         lines: Vec::new(),
     };
     for (addition, (number, place)) in scenario.additions.iter().zip(answers) {
@@ -124,8 +136,8 @@ pub fn predict_with(scenario: &Scenario, rules: &[Rule], answers: &[(u32, usize)
 }
 
 fn rule_line(addition: &Addition, number: u32, place: usize) -> Line {
-    let Addition { id, flags, pattern } = addition.clone();
-    Line::Rule { id, flags, pattern, number, place }
+    let Addition { id, flags, windows, pattern } = addition.clone();
+    Line::Rule { id, flags, pattern, number, place, windows: written(&windows) }
 }
 
 /// What each byte of the stream costs by definition, from this one on: a unit, and the busy figure
@@ -134,11 +146,16 @@ fn costs(rules: &[Rule], stream: &[u8], from: usize) -> Vec<u64> {
     (from..stream.len()).map(|n| 1 + busy(rules, &stream[..n]) as u64).collect()
 }
 
-/// Lists with old contents that no report has.
-fn old_lists(ids: usize, offsets: usize) -> Lists {
+/// Lists of these lengths with old contents that no report has.
+fn old_lists([ids, offsets, starts, relatives]: [usize; 4], traced: bool) -> Lists {
+    let beyond = || Starts {
+        starts: (0..starts).map(|i| u64::MAX - 1_000 - i as u64).collect(),
+        relatives: (0..relatives).map(|i| i64::MIN + i as i64).collect(),
+    };
     Lists {
         ids: (0..ids).map(|i| 3_000_000_000 + i as u32).collect(),
         offsets: (0..offsets).map(|i| u64::MAX - i as u64).collect(),
+        starts: traced.then(beyond),
     }
 }
 
@@ -156,6 +173,7 @@ struct Caller<'s> {
     /// The reports of the calls so far, joined.
     joined: Vec<Pair>,
     closed: bool,
+    traced: bool,
     lines: Vec<Line>,
 }
 
@@ -189,10 +207,10 @@ impl Caller<'_> {
                 self.lines.push(Line::Lend(Some(TABLE_WORDS)));
             }
             Step::NoTable => {
-                let addition = Addition { id: 0, flags: 16, pattern: b")".to_vec() };
+                let addition = Addition::new(0, 16, b")");
                 self.lines.extend([Line::Lend(None), rule_line(&addition, 1, 0)]);
                 let space = least_space(self.rules.len());
-                self.answer(None, old_lists(space, space), 1, &[], 0, None);
+                self.answer(None, self.lists(space, space), 1, &[], 0, None);
                 self.lines.push(Line::Lend(Some(TABLE_WORDS)));
             }
             Step::RefusedState => {
@@ -203,8 +221,9 @@ impl Caller<'_> {
             }
             Step::GrownTable => self.grown_table(),
             Step::Add(addition) => {
-                let Addition { id, flags, pattern } = addition;
-                if let Err(refusal) = check(self.rules, *id, *flags, pattern) {
+                let Addition { id, flags, windows, pattern } = addition;
+                let added = check_within(self.rules, *id, *flags, *windows, pattern);
+                if let Err(refusal) = added {
                     self.lines.push(rule_line(addition, refusal.number, refusal.place));
                 }
             }
@@ -213,8 +232,8 @@ impl Caller<'_> {
 
     fn grown_table(&mut self) {
         let id = (0..).find(|id| self.rules.iter().all(|rule| rule.id != *id)).unwrap_or(0);
-        if check(self.rules, id, 0, b"a").is_ok() {
-            let addition = Addition { id, flags: 0, pattern: b"a".to_vec() };
+        if check_within(self.rules, id, 0, Windows::NONE, b"a").is_ok() {
+            let addition = Addition::new(id, 0, b"a");
             self.lines.extend([Line::Keep, rule_line(&addition, 0, 0)]);
             self.refused_scan(18);
             self.lines.push(Line::Back);
@@ -224,11 +243,25 @@ impl Caller<'_> {
     fn refused_scan(&mut self, number: u32) {
         let space = least_space(self.rules.len()) + 1;
         let work = Work { allowance: Some(1), used: 0 };
-        self.answer(Some(b"a".to_vec()), old_lists(space, space), number, &[], 0, Some(work));
+        self.answer(Some(b"a".to_vec()), self.lists(space, space), number, &[], 0, Some(work));
+    }
+
+    /// Lists of these two lengths. Where there are four, the other two are no shorter, and it goes by
+    /// turns which they are.
+    fn lists(&self, ids: usize, offsets: usize) -> Lists {
+        let longer = ids.max(offsets);
+        let mut lengths = [ids, offsets, longer + 1, longer];
+        if self.traced {
+            lengths.rotate_right(self.lines.len() % 4);
+        }
+        old_lists(lengths, self.traced)
     }
 
     /// The number of an accepted or refused call on the present state with this space.
     fn number(&self, space: usize) -> u32 {
+        if !self.traced && self.rules.iter().any(Rule::needs_starts) {
+            return 18;
+        }
         match (self.closed, space < least_space(self.rules.len())) {
             (true, _) => 19,
             (false, true) => 20,
@@ -256,10 +289,11 @@ impl Caller<'_> {
                 used += cost;
             }
         }
-        self.stream.extend(&block[..taken]);
         self.next = if drop && number == 0 { until } else { self.next + taken };
         let work = Some(Work { allowance, used });
-        self.answer(Some(block), old_lists(ids, offsets), number, &reports, taken, work);
+        let bytes = block[..taken].to_vec();
+        self.answer(Some(block), self.lists(ids, offsets), number, &reports, taken, work);
+        self.stream.extend(bytes);
     }
 
     /// What the definition lists at each byte of the block, were all of it taken next, and what each
@@ -299,9 +333,11 @@ impl Caller<'_> {
             assert_eq!(&joined, list, "the calls' reports, joined, are the ordered list");
             self.closed = true;
         }
-        self.answer(None, old_lists(ids, offsets), number, &reports, 0, None);
+        self.answer(None, self.lists(ids, offsets), number, &reports, 0, None);
     }
 
+    /// Writes a call down, made before its bytes are those of the stream: so the bytes so far are how
+    /// far its first byte, or the end, is from the start.
     fn answer(
         &mut self,
         block: Option<Vec<u8>>,
@@ -315,9 +351,23 @@ impl Caller<'_> {
         for (slot, pair) in reports.iter().enumerate() {
             after.ids[slot] = pair.id;
             after.offsets[slot] = pair.offset;
+            if let Some(Starts { starts, relatives }) = &mut after.starts {
+                starts[slot] = pair.start;
+                relatives[slot] = self.relative(pair);
+            }
         }
         self.joined.extend(reports);
         let count = reports.len();
         self.lines.push(Line::Call(Call { block, before, number, taken, count, after, work }));
+    }
+
+    /// The start measured from the bytes taken before the present call.
+    fn relative(&self, pair: &Pair) -> i64 {
+        let leftmost = |rule: &Rule| rule.id == pair.id && rule.leftmost_start();
+        if self.rules.iter().any(leftmost) {
+            pair.start as i64 - self.stream.len() as i64
+        } else {
+            0
+        }
     }
 }

@@ -2,6 +2,8 @@
 //! report slots, and simplifies numbers, as long as the scenario still fails. Each accepted change makes the scenario
 //! smaller in size or in its numbers, so this ends.
 
+use reference::windows::Windows;
+
 use crate::play::play;
 use crate::scenario::{predict, Allowance, Scenario, Step};
 use crate::watcher::Watcher;
@@ -59,6 +61,7 @@ fn smaller_ones(scenario: &Scenario) -> Vec<Scenario> {
             with(&|s| drop(s.additions[index].pattern.drain(from..to)));
         }
         with(&|s| s.additions[index].flags = 0);
+        with(&|s| s.additions[index].windows = Windows::NONE);
         if addition.id as usize > index {
             with(&|s| s.additions[index].id = index as u32);
         }

@@ -1,6 +1,8 @@
 //! What every scan owes for the work it may do, whatever the words, the state and the block are: the
 //! units that it used, and that more units only carry the same lists further.
 
+use corpus::Starts;
+
 /// No byte costs more: there are at most 256 live positions.
 pub const MOST_UNITS: u64 = 257;
 
@@ -12,11 +14,25 @@ pub struct Scanned<'l> {
     pub used: u64,
     pub ids: &'l [u32],
     pub offsets: &'l [u64],
+    /// Those of a traced call.
+    pub starts: Option<&'l Starts>,
 }
 
 impl Scanned<'_> {
-    fn reports(&self) -> Vec<(u32, u64)> {
-        self.ids.iter().copied().zip(self.offsets.iter().copied()).take(self.count).collect()
+    fn reports(&self) -> Vec<(u32, u64, u64, i64)> {
+        let start = |slot: usize| match self.starts {
+            Some(of) => Some((*of.starts.get(slot)?, *of.relatives.get(slot)?)),
+            None => Some((0, 0)),
+        };
+        let report = |slot: usize| {
+            let (start, relative) = start(slot)?;
+            Some((*self.ids.get(slot)?, *self.offsets.get(slot)?, start, relative))
+        };
+        (0..self.count).map_while(report).collect()
+    }
+
+    fn lists(&self) -> (&[u32], &[u64], Option<&Starts>) {
+        (self.ids, self.offsets, self.starts)
     }
 }
 
@@ -43,8 +59,7 @@ pub fn carried_further(less: &Scanned, more: &Scanned) -> Result<(), String> {
         && less.taken <= more.taken
         && less.used <= more.used
         && more.reports().starts_with(&less.reports());
-    let same = less.taken < more.taken
-        || (less.used == more.used && less.ids == more.ids && less.offsets == more.offsets);
+    let same = less.taken < more.taken || (less.used == more.used && less.lists() == more.lists());
     if further && same {
         return Ok(());
     }

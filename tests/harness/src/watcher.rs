@@ -2,7 +2,9 @@
 //! runner only lends them, keeps what comes back, copies them and compares them for equality.
 //! Every answer is a number, with the values that the product's rules give besides.
 
+use corpus::{Kept, Lists};
 pub use reference::calls::NO_LIMIT;
+use reference::windows::Windows;
 
 /// The answer of a scan or a closing; a closing takes no bytes and no allowance.
 pub struct Answer<S> {
@@ -29,6 +31,8 @@ pub enum Change {
     Pair(usize),
     /// Another kind of last byte: 1 a word byte, 2 a newline, any other number neither.
     Last(u64),
+    /// Another start of what is kept by this index: of a live position, of a held one, of a held pair.
+    Start(Kept, usize, u64),
 }
 
 pub trait Watcher {
@@ -47,6 +51,28 @@ pub trait Watcher {
 
     /// The number and the place.
     fn add(&self, table: &mut Self::Table, id: u32, flags: u32, pattern: &[u8]) -> (u32, usize);
+
+    /// An addition with windows; none if this watcher has no such call.
+    fn add_within(
+        &self,
+        table: &mut Self::Table,
+        id: u32,
+        flags: u32,
+        windows: Windows,
+        pattern: &[u8],
+    ) -> Option<(u32, usize)> {
+        (windows == Windows::NONE).then(|| self.add(table, id, flags, pattern))
+    }
+
+    /// Has it additions with windows?
+    fn has_windows(&self) -> bool {
+        false
+    }
+
+    /// Do its streams keep starts? Then its calls are lent four lists.
+    fn traces(&self) -> bool {
+        false
+    }
 
     fn open(&self, table: &Self::Table) -> (u32, Self::Stream);
 
@@ -67,6 +93,28 @@ pub trait Watcher {
         ids: &mut [u32],
         offsets: &mut [u64],
     ) -> Answer<Self::Stream>;
+
+    /// A scan with as many lists as are lent.
+    fn scan_into(
+        &self,
+        table: &Self::Table,
+        stream: Self::Stream,
+        allowance: u64,
+        block: &[u8],
+        lists: &mut Lists,
+    ) -> Answer<Self::Stream> {
+        self.scan(table, stream, allowance, block, &mut lists.ids, &mut lists.offsets)
+    }
+
+    /// A closing with as many lists as are lent.
+    fn close_into(
+        &self,
+        table: &Self::Table,
+        stream: Self::Stream,
+        lists: &mut Lists,
+    ) -> Answer<Self::Stream> {
+        self.close(table, stream, &mut lists.ids, &mut lists.offsets)
+    }
 
     fn busy(&self, stream: &Self::Stream) -> usize;
 

@@ -2,6 +2,7 @@
 
 use harness::corpus_run::{run_definition, run_folder, run_program, Tally};
 use harness::model::Model;
+use harness::traced_model::TracedModel;
 
 fn all_passed(tally: Tally, at_least: usize) {
     assert!(tally.failures.is_empty(), "{}", tally.failures.join("\n"));
@@ -17,6 +18,11 @@ fn the_definition() {
 #[test]
 fn the_calls() {
     all_passed(run_folder(&Model, corpus::files::folder()).unwrap(), 1_000);
+}
+
+#[test]
+fn the_calls_with_starts() {
+    all_passed(run_folder(&TracedModel, corpus::files::folder()).unwrap(), 1_000);
 }
 
 #[test]
@@ -51,6 +57,15 @@ fn a_line_that_is_none_is_an_error() {
         "lend -1",
         "state last",
         "state last -1",
+        "rule 1 0 61 0 0 within 1 2",
+        "rule 1 0 61 0 0 1 2 3",
+        "report 1 1 1 1 1",
+        "scan 61 - - - - 0 1 0 - - - -",
+        "traced scan 61 - - 0 1 0 - -",
+        "traced scan 61 - - - - 0 1 0 - - - - -",
+        "traced close - - - - 0 0 - - -",
+        "state start mark 1 1",
+        "state start live 1",
     ] {
         assert!(corpus::files::cases_in("t", &format!("case x\n{text}\n")).is_err(), "{text}");
     }

@@ -9,6 +9,51 @@ use std::ptr::{null, null_mut};
 pub enum Mode {
     Block = 1,
     Stream = 2,
+    /// A stream whose matches have starts, however far back they are.
+    Starts = 2 | 1 << 24,
+}
+
+/// The extended parameters of a rule, each of which may be left out.
+#[derive(Clone, Copy, Debug, Default)]
+pub struct Extended {
+    pub min_offset: Option<u64>,
+    pub max_offset: Option<u64>,
+    pub min_length: Option<u64>,
+}
+
+/// The same as Hyperscan's interface has them.
+#[repr(C)]
+struct ExtendedParameters {
+    /// A bit for each that is there.
+    flags: c_ulonglong,
+    min_offset: c_ulonglong,
+    max_offset: c_ulonglong,
+    min_length: c_ulonglong,
+    edit_distance: c_uint,
+    hamming_distance: c_uint,
+}
+
+impl Extended {
+    fn parameters(&self) -> ExtendedParameters {
+        let windows = [self.min_offset, self.max_offset, self.min_length];
+        let bits = windows.iter().enumerate().map(|(bit, window)| (window.is_some() as u64) << bit);
+        ExtendedParameters {
+            flags: bits.sum(),
+            min_offset: self.min_offset.unwrap_or(0),
+            max_offset: self.max_offset.unwrap_or(0),
+            min_length: self.min_length.unwrap_or(0),
+            edit_distance: 0,
+            hamming_distance: 0,
+        }
+    }
+}
+
+/// A match: the rule's id, the start if the rule reports it, and the end offset.
+#[derive(Clone, Copy, Debug, PartialEq, Eq, PartialOrd, Ord)]
+pub struct Match {
+    pub id: u32,
+    pub end: u64,
+    pub start: u64,
 }
 
 /// Rule ids and end offsets.
@@ -22,6 +67,17 @@ extern "C" {
         expressions: *const *const c_char,
         flags: *const c_uint,
         ids: *const c_uint,
+        elements: c_uint,
+        mode: c_uint,
+        platform: *const c_void,
+        database: *mut *mut c_void,
+        error: *mut *mut c_void,
+    ) -> c_int;
+    fn hs_compile_ext_multi(
+        expressions: *const *const c_char,
+        flags: *const c_uint,
+        ids: *const c_uint,
+        extended: *const *const ExtendedParameters,
         elements: c_uint,
         mode: c_uint,
         platform: *const c_void,
@@ -74,6 +130,19 @@ extern "C" fn note(
     0
 }
 
+extern "C" fn note_match(
+    id: c_uint,
+    start: c_ulonglong,
+    end: c_ulonglong,
+    _: c_uint,
+    matches: *mut c_void,
+) -> c_int {
+    // SAFETY: the context is the list that a scan or a closing lends.
+    let matches = unsafe { &mut *matches.cast::<Vec<Match>>() };
+    matches.push(Match { id, end, start });
+    0
+}
+
 pub struct Database {
     database: *mut c_void,
     scratch: *mut c_void,
@@ -113,6 +182,62 @@ impl Database {
             }
         }
         Some(Database { database, scratch })
+    }
+
+    /// One rule with extended parameters, or nothing if Hyperscan refuses it.
+    pub fn extended(
+        flags: u32,
+        pattern: &[u8],
+        extended: Extended,
+        mode: Mode,
+    ) -> Option<Database> {
+        let text = CString::new(pattern).ok()?;
+        let parameters = extended.parameters();
+        let (mut database, mut error, mut scratch) = (null_mut(), null_mut(), null_mut());
+        // SAFETY: each list has one element and outlives the call; what is made here is freed on
+        // drop.
+        unsafe {
+            let status = hs_compile_ext_multi(
+                &text.as_ptr(),
+                &flags,
+                &1,
+                &(&parameters as *const ExtendedParameters),
+                1,
+                mode as c_uint,
+                null(),
+                &mut database,
+                &mut error,
+            );
+            if status != 0 {
+                hs_free_compile_error(error);
+                return None;
+            }
+            if hs_alloc_scratch(database, &mut scratch) != 0 {
+                hs_free_database(database);
+                return None;
+            }
+        }
+        Some(Database { database, scratch })
+    }
+
+    /// All matches of a stream of these blocks, of rules compiled for one, in the order they come.
+    pub fn matches(&self, blocks: &[&[u8]]) -> Vec<Match> {
+        let stream = self.open();
+        let mut matches: Vec<Match> = Vec::new();
+        let context: *mut Vec<Match> = &mut matches;
+        for block in blocks {
+            // SAFETY: stream, block and list are valid for the call.
+            let status = unsafe {
+                let (data, length) = (block.as_ptr().cast(), block.len() as c_uint);
+                let (scratch, context) = (self.scratch, context.cast());
+                hs_scan_stream(stream.0, data, length, 0, scratch, note_match, context)
+            };
+            assert_eq!(status, 0);
+        }
+        // SAFETY: the stream is open, and not used after this.
+        let status = unsafe { hs_close_stream(stream.0, self.scratch, note_match, context.cast()) };
+        assert_eq!(status, 0);
+        matches
     }
 
     /// One block, of rules compiled for one.

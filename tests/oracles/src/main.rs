@@ -1,5 +1,6 @@
 //! Compares the reference with two outside matchers on random patterns and logs, where the meanings
-//! coincide: PCRE2 start by start, Hyperscan by end offsets. A disagreement ends it with status 1.
+//! coincide: PCRE2 start by start, Hyperscan by end offsets, by leftmost starts and by windows. A
+//! disagreement ends it with status 1.
 //!
 //! Left out because the meanings differ: `{,m}` and blanks in braces (PCRE2 10.42 reads bytes, or for
 //! escapes a fault), a brace after `\N`, what an outside matcher refuses, as Hyperscan does an
@@ -19,11 +20,14 @@ use harness::patterns::pattern;
 use harness::random::log;
 use harness::readings;
 use harness::rng::Rng;
-use hyperscan::{Database, Mode};
+use hyperscan::{Database, Extended, Match, Mode};
 use reference::known::Known;
 use reference::meaning::ends;
-use reference::rule::{check, Rule};
+use reference::ordered::ordered;
+use reference::refusal::{LEFTMOST_START, SINGLE_MATCH};
+use reference::rule::{check, check_within, Rule};
 use reference::tree::{Assertion, Node};
+use reference::windows::Windows;
 
 #[derive(Default)]
 struct Count {
@@ -36,8 +40,8 @@ struct Count {
     shown: Vec<String>,
 }
 
-const USAGE: &str =
-    "usage: oracles SEED COUNT, oracles LENGTH, oracles spelling TOKENS, or oracles lines TOKENS";
+const USAGE: &str = "usage: oracles SEED COUNT, oracles LENGTH, oracles spelling TOKENS, \
+oracles lines TOKENS, or oracles starts SEED COUNT";
 
 fn main() -> ExitCode {
     let words: Vec<String> = std::env::args().skip(1).collect();
@@ -49,6 +53,7 @@ fn main() -> ExitCode {
             let logs = all_logs(LINES.bytes, 3);
             all_readings(LINES.tokens, longest as usize, LINES.flags, &logs)
         }
+        ("starts", &[seed, cases]) => random_starts(seed, cases),
         (_, &[longest]) => all_readings(&readings::bytes(), longest as usize, 0, &[]),
         (_, &[seed, cases]) => random_cases(seed, cases),
         _ => Err(USAGE.to_string()),
@@ -240,4 +245,165 @@ fn with_hyperscan(
 fn told(rule: &Rule, log: &[u8], difference: &str) -> String {
     let (pattern, log) = (rule.pattern.escape_ascii(), log.escape_ascii());
     format!("/{pattern}/ flags {} on '{log}': {difference}", rule.flags)
+}
+
+/// What a comparison with Hyperscan's starts and windows counted.
+#[derive(Default)]
+struct Traced {
+    accepted: u64,
+    compiled: u64,
+    starts: u64,
+    reports: u64,
+    windows: u64,
+    inside: u64,
+    single: u64,
+}
+
+/// Streams of random rules, cut anywhere, with Hyperscan's leftmost starts, and with its smallest and
+/// largest end offset and smallest length.
+fn random_starts(seed: u64, cases: u64) -> Result<(), String> {
+    let mut count = Traced::default();
+    for index in 0..cases {
+        one_traced(&mut Rng::for_case(seed, index), &mut count)
+            .map_err(|message| format!("seed {seed}, case {index}: {message}"))?;
+    }
+    println!(
+        "{} patterns accepted, {} of them by Hyperscan with starts; equal streams: {} with {} starts",
+        count.accepted, count.compiled, count.starts, count.reports
+    );
+    println!(
+        "equal streams with windows: {} with {} end offsets inside, {} of single-match rules",
+        count.windows, count.inside, count.single
+    );
+    Ok(())
+}
+
+fn one_traced(rng: &mut Rng, count: &mut Traced) -> Result<(), String> {
+    let pattern = pattern(rng);
+    let flags = rng.below(8) as u32;
+    if reads_otherwise(&pattern) {
+        return Ok(());
+    }
+    let Ok(rule) = check(&[], 1, flags | LEFTMOST_START, &pattern) else { return Ok(()) };
+    count.accepted += 1;
+    let log = log(rng, std::slice::from_ref(&rule));
+    if log.ends_with(b"\n") && starts_lines(&rule.tree) {
+        return Ok(());
+    }
+    let cuts: Vec<&[u8]> = cut(rng, &log);
+    if let Some(database) =
+        Database::extended(rule.flags, &pattern, Extended::default(), Mode::Starts)
+    {
+        count.compiled += 1;
+        with_starts(&rule, &database, &log, &cuts, count)?;
+    }
+    let single = rng.once_in(4) && !waits(&rule.tree);
+    let flags = if single { flags | SINGLE_MATCH } else { flags };
+    let windows = windows(rng);
+    let extended = Extended {
+        min_offset: (windows.smallest_end > 0).then_some(windows.smallest_end),
+        max_offset: (windows.largest_end < u64::MAX).then_some(windows.largest_end),
+        min_length: (windows.smallest_length > 0).then_some(windows.smallest_length),
+    };
+    let Ok(rule) = check_within(&[], 1, flags, windows, &pattern) else { return Ok(()) };
+    if let Some(database) = Database::extended(flags, &pattern, extended, Mode::Stream) {
+        with_windows(&rule, &database, &log, &cuts, count)?;
+    }
+    Ok(())
+}
+
+/// Blocks of any length, empty ones too.
+fn cut<'l>(rng: &mut Rng, log: &'l [u8]) -> Vec<&'l [u8]> {
+    let mut blocks = Vec::new();
+    let mut rest = log;
+    while !rest.is_empty() {
+        let (block, next) = rest.split_at(rng.below(rest.len() + 1));
+        blocks.push(block);
+        rest = next;
+    }
+    blocks
+}
+
+/// Windows about the length of a log, some of which fall.
+fn windows(rng: &mut Rng) -> Windows {
+    let mut windows = Windows::NONE;
+    if rng.once_in(2) {
+        windows.smallest_end = rng.word() % 8;
+    }
+    if rng.once_in(2) {
+        windows.largest_end = windows.smallest_end + rng.word() % 12;
+    }
+    if rng.once_in(2) {
+        windows.smallest_length = rng.word() % 6;
+    }
+    windows
+}
+
+/// Does it have an assertion that may wait for the next byte, or for the end?
+fn waits(node: &Node) -> bool {
+    match node {
+        Node::Assert(assertion) => *assertion != Assertion::Start,
+        Node::Item(_) => false,
+        Node::Sequence(parts) | Node::Choice(parts) => parts.iter().any(waits),
+        Node::Repeat { of, .. } => waits(of),
+    }
+}
+
+/// The starts of a rule. Hyperscan gives the smallest start of all matches; so does the definition,
+/// but for a pair that falls before a smaller start is settled: such a stream is left out.
+fn with_starts(
+    rule: &Rule,
+    database: &Database,
+    log: &[u8],
+    cuts: &[&[u8]],
+    count: &mut Traced,
+) -> Result<(), String> {
+    let list = ordered(std::slice::from_ref(rule), log);
+    let mut ours: Vec<(u64, u64)> = list.iter().map(|pair| (pair.offset, pair.start)).collect();
+    ours.sort_unstable();
+    let closing = Known::at_closing(log);
+    let smallest = |end: u64| {
+        let ends_there = |start: &usize| {
+            (*start as u64) < end && ends(&rule.tree, &[*start], &closing).contains(&(end as usize))
+        };
+        (0..log.len()).find(ends_there).map(|start| start as u64)
+    };
+    if ours.iter().any(|&(end, start)| smallest(end) != Some(start)) {
+        return Ok(());
+    }
+    let matches = database.matches(cuts);
+    let mut theirs: Vec<(u64, u64)> = matches.iter().map(|m| (m.end, m.start)).collect();
+    theirs.sort_unstable();
+    theirs.dedup_by_key(|&mut (end, _)| end);
+    if ours != theirs {
+        return Err(told(rule, log, &format!("{ours:?}, Hyperscan {theirs:?} of {matches:?}")));
+    }
+    count.starts += 1;
+    count.reports += ours.len() as u64;
+    Ok(())
+}
+
+/// The end offsets of a rule with windows; of a single-match rule the first alone.
+fn with_windows(
+    rule: &Rule,
+    database: &Database,
+    log: &[u8],
+    cuts: &[&[u8]],
+    count: &mut Traced,
+) -> Result<(), String> {
+    let list = ordered(std::slice::from_ref(rule), log);
+    let mut ours: Vec<u64> = list.iter().map(|pair| pair.offset).collect();
+    ours.sort_unstable();
+    let mut theirs: Vec<u64> =
+        database.matches(cuts).iter().map(|&Match { end, .. }| end).collect();
+    theirs.sort_unstable();
+    theirs.dedup();
+    if ours != theirs {
+        let windows = rule.windows;
+        return Err(told(rule, log, &format!("{windows:?}: {ours:?}, Hyperscan {theirs:?}")));
+    }
+    count.windows += 1;
+    count.inside += ours.len() as u64;
+    count.single += u64::from(rule.single_match());
+    Ok(())
 }

@@ -7,9 +7,11 @@ use crate::known::Known;
 use crate::offsets::{union, without, Offsets};
 use crate::written::{part_with, Form};
 
-/// Does the form match from some earlier offset up to this gap?
-pub fn matches_up_to(form: &Form, gap: usize, known: &Known) -> bool {
-    starts(form, &[gap], known).iter().any(|&start| start < gap)
+/// The earlier offsets from which the form matches up to this gap.
+pub fn starts_of_matches(form: &Form, gap: usize, known: &Known) -> Offsets {
+    let mut found = starts(form, &[gap], known);
+    found.retain(|&start| start < gap);
+    found
 }
 
 /// Is the position live: is there a way that has just taken the last known byte there?
@@ -19,7 +21,7 @@ pub fn is_live(form: &Form, position: usize, known: &Known) -> bool {
 
 /// Where a way through the form can start that has just taken the last known byte at the position:
 /// the form, cut off behind that position, is read from there.
-fn starts_up_to(form: &Form, position: usize, known: &Known) -> Offsets {
+pub fn starts_up_to(form: &Form, position: usize, known: &Known) -> Offsets {
     match form {
         Form::Position(..) => starts(form, &[known.bytes.len()], known),
         Form::Assert(_) => Offsets::new(),

@@ -11,7 +11,8 @@
 //! control byte within the token's bytes, 23, is one of them (`token`); a comment is one token, and
 //! in a quote each byte is one.
 //! Faults known only at the end are looked at after the last token, in the order 8, 12, 15, 16, and
-//! 17 in `rule`, where the other rules are known. `rule::check` has the checks 2 to 5 before.
+//! 17 in `rule`, where the other rules are known. `rule::check_within` has the checks 2, 24, 3, 4, 5
+//! and 26 before.
 //! `escape`, `class`, `names`, `quantifier` and `braces`, the numbers between braces of escapes and
 //! quantifiers, are each one page that can be laid beside the rules.
 //! `quote` knows at each place whether a quote is open: `\Q` and `\E` are passed over wherever a token,
@@ -34,7 +35,9 @@
 //! `ordered` is the definition of the one ordered list, word for word: for each rule and each end
 //! offset, the moments from the last byte on are tried in order, at each one every start is tried,
 //! and the first moment with a match is the pair's moment. The general definition is used although
-//! in the present subset only the last byte, the byte after it and the closing occur.
+//! in the present subset only the last byte, the byte after it and the closing occur. With windows
+//! the moment is the first one with a match of which all three hold; the start of a pair is the
+//! smallest of all matches known at its moment.
 //!
 //! # Positions
 //! `written` writes the pattern out: copies are separate, optional copies are nested, a repeat
@@ -46,7 +49,8 @@
 //! `calls` is a model of the calls and of the caller's lent lists. It finds each byte's reports
 //! from the bytes taken so far, by looking back: `backward` reads the written-out form from right
 //! to left and asks for a start. It does so at the last two offsets, for each byte and for the
-//! closing, and keeps what was not known to match before. Its busy figure cuts the form off behind
+//! closing, and keeps what was not known to match before; the starts that it finds there are the starts
+//! of a report's matches. Its busy figure cuts the form off behind
 //! each position in turn and asks whether the cut form matches up to now; a byte's cost is one more
 //! than that figure before it. So the list by definition (whole stream, forward, tree with counts,
 //! first moment) and the reports of the calls (bytes so far, backward, written-out form, one byte
@@ -66,6 +70,7 @@ pub mod calls;
 pub mod class;
 pub mod escape;
 pub mod known;
+pub mod matched;
 pub mod meaning;
 pub mod names;
 pub mod offsets;
@@ -79,4 +84,5 @@ pub mod rule;
 pub mod token;
 pub mod tree;
 pub mod ways;
+pub mod windows;
 pub mod written;

@@ -34,3 +34,4 @@ pub const CASELESS: u32 = 1;
 pub const DOT_ALL: u32 = 2;
 pub const LINE_MODE: u32 = 4;
 pub const SINGLE_MATCH: u32 = 8;
+pub const LEFTMOST_START: u32 = 256;

@@ -1,4 +1,7 @@
-//! The calls over lent words, as the library has them: a state is fifteen words that the caller owns.
+//! The calls over lent words, as the library has them: a state is fifteen words that the caller owns, or
+//! 591 where it keeps starts.
+
+use reference::calls::Columns;
 
 /// The allowance of a caller who sets no limit to a scan's work.
 pub const NO_LIMIT: u64 = u64::MAX;
@@ -44,4 +47,22 @@ pub trait Calls {
     ) -> Answer;
 
     fn busy(&self, state: &[u64]) -> u32;
+}
+
+/// The calls on a state that keeps starts: they have four lists.
+pub trait Traces {
+    fn trace_open(&self, table: &[u64], state: &mut [u64]) -> u32;
+
+    fn trace_scan(
+        &self,
+        table: &[u64],
+        state: &mut [u64],
+        allowance: u64,
+        block: &[u8],
+        lists: Columns,
+    ) -> Answer;
+
+    fn trace_close(&self, table: &[u64], state: &mut [u64], lists: Columns) -> Answer;
+
+    fn trace_busy(&self, state: &[u64]) -> u32;
 }

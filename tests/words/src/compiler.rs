@@ -26,6 +26,9 @@ pub fn add_changed(
     if flags & !KNOWN_FLAGS != 0 {
         return (2, 0);
     }
+    if flags & SINGLE_MATCH != 0 && flags & LEFTMOST_START != 0 {
+        return (24, 0);
+    }
     if words[layout::id(0)..layout::id(rules)].contains(&u64::from(id)) {
         return (3, 0);
     }
@@ -45,7 +48,7 @@ pub fn add_changed(
         return (17, pattern.len());
     }
     let form = written::write_out(&tree);
-    Writer { words, gaps: numbered(), from, to }.write(id, flags & SINGLE_MATCH != 0, &form);
+    Writer { words, gaps: numbered(), from, to }.write(id, flags, &form);
     (0, 0)
 }
 
@@ -57,7 +60,7 @@ fn keep_old(words: &mut [u64]) {
     let firsts = (0..FIRST_GAPS).map(first);
     let follows = (0..FOLLOW_GAPS).flat_map(|gap| (0..positions).map(move |p| follow(gap, p)));
     let bytes = (0..=255u8).map(takers);
-    for at in lasts.chain(firsts).chain(follows).chain(bytes) {
+    for at in lasts.chain(firsts).chain(follows).chain(bytes).chain([KEEPERS]) {
         for i in 0..4 {
             words[at + i] &= match positions.saturating_sub(64 * i) {
                 there @ 0..=63 => (1 << there) - 1,
@@ -95,12 +98,17 @@ struct Writer<'w> {
 }
 
 impl Writer<'_> {
-    fn write(&mut self, id: u32, single: bool, form: &Form) {
+    fn write(&mut self, id: u32, flags: u32, form: &Form) {
         keep_old(self.words);
         for gap in 0..FOLLOW_GAPS {
             self.words[follow(gap, self.from)..follow(gap, self.to)].fill(0);
         }
-        let place = self.new_place(u64::from(id), single);
+        let place = self.new_place(u64::from(id));
+        self.put_digit(SINGLES, place, flags & SINGLE_MATCH != 0);
+        self.put_digit(LEFTMOSTS, place, flags & LEFTMOST_START != 0);
+        if flags & LEFTMOST_START != 0 {
+            (self.from..self.to).for_each(|p| put(self.words, KEEPERS, p));
+        }
         self.words[owner(self.from)..owner(self.to)].fill(place as u64);
         for gap in 0..LAST_GAPS {
             self.put_all(last(gap), &lasts(form, &self.gaps[gap]));
@@ -114,23 +122,27 @@ impl Writer<'_> {
         self.words[POSITIONS] = self.to as u64;
     }
 
-    /// Makes room for a rule of this id, and writes what there is by places: the rules from its place
-    /// on move up by one, in their ids, in their bits and as owners. Its place.
-    fn new_place(&mut self, id: u64, single: bool) -> usize {
+    /// Makes room for a rule of this id: the rules from its place on move up by one, in their ids and as
+    /// owners. Its place.
+    fn new_place(&mut self, id: u64) -> usize {
         let rules = self.words[RULES] as usize;
         let ids = &mut self.words[layout::id(0)..=layout::id(rules)];
         let place = ids[..rules].iter().filter(|&&other| other < id).count();
         ids.copy_within(place..rules, place + 1);
         ids[place] = id;
-        let singles = &mut self.words[SINGLES];
-        let below = *singles & ((1 << place) - 1);
-        *singles = below | u64::from(single) << place | (*singles - below) << 1;
         for owner in &mut self.words[owner(0)..owner(self.from)] {
             if (place as u64..MAX_RULES as u64).contains(owner) {
                 *owner += 1;
             }
         }
         place
+    }
+
+    /// Puts a bit for a new place into a word of bits by places, those from there on moved up by one.
+    fn put_digit(&mut self, at: usize, place: usize, bit: bool) {
+        let digits = &mut self.words[at];
+        let below = *digits & ((1 << place) - 1);
+        *digits = below | u64::from(bit) << place | (*digits - below) << 1;
     }
 
     fn put_all(&mut self, at: usize, positions: &[usize]) {

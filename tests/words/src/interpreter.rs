@@ -6,17 +6,18 @@ use crate::compiler;
 use crate::gaps::*;
 use crate::layout::*;
 
+#[derive(Clone, Copy, Debug)]
 pub struct Interpreter;
 
 /// The words that a call is lent, once they are known to be a table.
-struct Table<'w>(&'w [u64]);
+pub(crate) struct Table<'w>(pub(crate) &'w [u64]);
 
 impl Table<'_> {
-    fn rules(&self) -> usize {
+    pub(crate) fn rules(&self) -> usize {
         self.0[RULES] as usize
     }
 
-    fn positions(&self) -> usize {
+    pub(crate) fn positions(&self) -> usize {
         self.0[POSITIONS] as usize
     }
 
@@ -24,7 +25,7 @@ impl Table<'_> {
         self.0[SINGLES] >> place & 1 == 1
     }
 
-    fn ends(&self, positions: &[u64], place: usize, gap: usize) -> bool {
+    pub(crate) fn ends(&self, positions: &[u64], place: usize, gap: usize) -> bool {
         ends(self.0, positions, place, gap)
     }
 
@@ -35,7 +36,7 @@ impl Table<'_> {
     }
 
     /// The rules, as a word, that pass a test.
-    fn rules_where(&self, test: impl Fn(usize) -> bool) -> u64 {
+    pub(crate) fn rules_where(&self, test: impl Fn(usize) -> bool) -> u64 {
         (0..self.rules()).filter(|&a| test(a)).fold(0, |word, a| word | 1 << a)
     }
 
@@ -54,7 +55,7 @@ impl Table<'_> {
     }
 
     /// The live positions after one more byte.
-    fn next_live(&self, state: &[u64], byte: u8) -> [u64; 4] {
+    pub(crate) fn next_live(&self, state: &[u64], byte: u8) -> [u64; 4] {
         let inside = between(Side::in_state(state[SIDE]), Side::of(byte));
         let start = if state[TAKEN] == 0 { at_start(Side::of(byte)) } else { inside };
         self.reached(&state[..4], byte, start, inside)
@@ -62,7 +63,7 @@ impl Table<'_> {
 
     /// What is held after one more byte, which may be the last: positions, and pairs at the offset
     /// before it.
-    fn held(&self, state: &[u64], byte: u8) -> ([u64; 4], u64) {
+    pub(crate) fn held(&self, state: &[u64], byte: u8) -> ([u64; 4], u64) {
         if byte != b'\n' {
             return ([0; 4], 0);
         }
@@ -76,20 +77,31 @@ impl Table<'_> {
     }
 
     /// The rules, as a word, with a pair before one more byte that needs it.
-    fn late(&self, state: &[u64], byte: u8) -> u64 {
+    pub(crate) fn late(&self, state: &[u64], byte: u8) -> u64 {
         let gap = between(Side::in_state(state[SIDE]), Side::of(byte));
         let waiting = set_of(|p| has(state, 0, p) && has(self.0, LATES, p));
         self.newly(gap, &waiting, UNSETTLED, &state[..4])
     }
 
     /// The rules, as a word, with a pair at the stream's end that needs it.
-    fn ends_at_end(&self, state: &[u64]) -> u64 {
+    pub(crate) fn ends_at_end(&self, state: &[u64]) -> u64 {
         let positions = set_of(|p| has(state, 0, p) || has(state, HELD, p));
         self.newly(at_end(Side::in_state(state[SIDE])), &positions, UNSETTLED, &state[..4])
     }
 
-    /// Is the state valid for this table?
-    fn fits(&self, state: &[u64]) -> bool {
+    /// Does a position of the table keep a start, or a rule report one?
+    fn needs_starts(&self) -> bool {
+        (0..self.positions()).any(|p| has(self.0, KEEPERS, p))
+            || (0..self.rules()).any(|a| self.leftmost(a))
+    }
+
+    /// Does the rule in this place report the leftmost start?
+    pub(crate) fn leftmost(&self, place: usize) -> bool {
+        self.0[LEFTMOSTS] >> place & 1 == 1
+    }
+
+    /// Is the state valid for this table, but for starts?
+    pub(crate) fn sound(&self, state: &[u64]) -> bool {
         state[STATE_RULES] == self.0[RULES]
             && state[STATE_POSITIONS] == self.0[POSITIONS]
             && (self.positions()..MAX_POSITIONS).all(|p| !has(state, 0, p) && !has(state, HELD, p))
@@ -97,24 +109,36 @@ impl Table<'_> {
             && (state[PENDING] == 0 || state[TAKEN] >= 2)
             && (0..64).all(|a| state[MARKS] >> a & 1 == 0 || (a < self.rules() && self.single(a)))
             && state[TAKEN] <= MAX_STREAM
+            && (state[TAKEN] > 0 || (0..2 * 4).all(|word| state[word] == 0))
     }
 
     /// The reports of two runs, each of some rules at an end, and the marks after them: a report for
     /// each rule that has no mark, and its mark if it is single-match.
-    fn reports(&self, runs: [(u64, u64); 2], mut marks: u64) -> (Vec<(u32, u64)>, u64) {
-        let mut reports = Vec::new();
-        for (found, end) in runs {
+    fn reports(&self, runs: [(u64, u64); 2], marks: u64) -> (Vec<(u32, u64)>, u64) {
+        let (places, marks) = self.places(runs, marks);
+        let report = |&(_, place, end): &(usize, usize, u64)| (self.0[id(place)] as u32, end);
+        (places.iter().map(report).collect(), marks)
+    }
+
+    /// The same by the run, 0 or 1, and the place of each report.
+    pub(crate) fn places(
+        &self,
+        runs: [(u64, u64); 2],
+        mut marks: u64,
+    ) -> (Vec<(usize, usize, u64)>, u64) {
+        let mut places = Vec::new();
+        for (run, (found, end)) in runs.into_iter().enumerate() {
             for place in (0..self.rules()).filter(|a| found >> a & 1 == 1) {
                 if marks >> place & 1 == 1 {
                     continue;
                 }
-                reports.push((self.0[id(place)] as u32, end));
+                places.push((run, place, end));
                 if self.single(place) {
                     marks |= 1 << place;
                 }
             }
         }
-        (reports, marks)
+        (places, marks)
     }
 }
 
@@ -146,7 +170,7 @@ fn write(reports: &[(u32, u64)], ids: &mut [u32], offsets: &mut [u64], count: &m
 }
 
 /// The test of docs/TABLE.md.
-fn table(words: &[u64]) -> Option<Table<'_>> {
+pub(crate) fn table(words: &[u64]) -> Option<Table<'_>> {
     if words.len() < TABLE_WORDS || words[0] != FORMAT {
         return None;
     }
@@ -160,7 +184,8 @@ fn table(words: &[u64]) -> Option<Table<'_>> {
     Some(Table(words))
 }
 
-/// The checks of a scan in their order; a closing is checked as a scan of no bytes.
+/// The checks of a scan of a state without starts in their order; a closing is checked as a scan of no
+/// bytes.
 fn checked<'w>(
     words: &'w [u64],
     state: &[u64],
@@ -170,8 +195,19 @@ fn checked<'w>(
     if state.len() < STATE_WORDS {
         return Err(SHORT_STATE);
     }
+    checked_with(words, state, block, space, |table| !table.needs_starts())
+}
+
+/// The same of a state of enough words, with what is asked of its starts.
+pub(crate) fn checked_with<'w>(
+    words: &'w [u64],
+    state: &[u64],
+    block: usize,
+    space: usize,
+    starts: impl Fn(&Table) -> bool,
+) -> Result<Table<'w>, u32> {
     let table = table(words).ok_or(1u32)?;
-    if !table.fits(state) {
+    if !table.sound(state) || !starts(&table) {
         return Err(18);
     }
     if state[CLOSED] != 0 {
@@ -186,7 +222,7 @@ fn checked<'w>(
     Ok(table)
 }
 
-fn refused(number: u32) -> Answer {
+pub(crate) fn refused(number: u32) -> Answer {
     Answer { number, taken: 0, count: 0, used: 0 }
 }
 

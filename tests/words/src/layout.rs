@@ -6,14 +6,15 @@ use std::ops::Range;
 use crate::gaps::{FIRST_GAPS, FOLLOW_GAPS, LAST_GAPS};
 
 pub const TABLE_WORDS: usize = 16_384;
-pub const FORMAT: u64 = u64::from_be_bytes(*b"watcher4");
+pub const FORMAT: u64 = u64::from_be_bytes(*b"watcher5");
 pub const MAX_RULES: usize = 64;
 pub const MAX_POSITIONS: usize = 256;
 /// How many bytes a stream may have.
 pub const MAX_STREAM: u64 = 1_099_511_627_775;
 
-pub const KNOWN_FLAGS: u32 = 1 + 2 + 4 + 8;
+pub const KNOWN_FLAGS: u32 = 1 + 2 + 4 + 8 + 256;
 pub const SINGLE_MATCH: u32 = 8;
+pub const LEFTMOST_START: u32 = 256;
 
 pub const RULES: usize = 1;
 pub const POSITIONS: usize = 2;
@@ -48,6 +49,12 @@ pub const fn owner(position: usize) -> usize {
     448 + position
 }
 
+/// The rules that report the leftmost start, a bit for each place.
+pub const LEFTMOSTS: usize = 704;
+
+/// The set of positions that keep the start of a match.
+pub const KEEPERS: usize = 712;
+
 /// The set of positions that take the byte.
 pub const fn takers(byte: u8) -> usize {
     4_096 + 4 * byte as usize
@@ -70,6 +77,8 @@ pub enum Region {
     Ids,
     Openers,
     Owners,
+    Leftmosts,
+    Keepers,
     Takers,
     Follows,
     /// Kept for what rules may yet say.
@@ -78,7 +87,7 @@ pub enum Region {
 }
 
 /// The whole table, from its first word to its last.
-pub const REGIONS: [(Region, Range<usize>); 16] = [
+pub const REGIONS: [(Region, Range<usize>); 19] = [
     (Region::Header, 0..SINGLES),
     (Region::Singles, SINGLES..last(0)),
     (Region::Lasts, last(0)..last(LAST_GAPS)),
@@ -87,9 +96,12 @@ pub const REGIONS: [(Region, Range<usize>); 16] = [
     (Region::Ids, id(0)..id(MAX_RULES)),
     (Region::Openers, opener(0)..opener(255) + 1),
     (Region::Owners, owner(0)..owner(MAX_POSITIONS)),
-    (Region::Unused, 704..706),
+    (Region::Leftmosts, LEFTMOSTS..LEFTMOSTS + 1),
+    (Region::Unused, 705..706),
     (Region::Kept, 706..708),
-    (Region::Unused, 708..768),
+    (Region::Unused, 708..KEEPERS),
+    (Region::Keepers, KEEPERS..KEEPERS + 4),
+    (Region::Unused, 716..768),
     (Region::Kept, 768..960),
     (Region::Unused, 960..4_096),
     (Region::Takers, takers(0)..takers(255) + 4),
@@ -130,6 +142,12 @@ pub const STATE_RULES: usize = 12;
 pub const STATE_POSITIONS: usize = 13;
 pub const CLOSED: usize = 14;
 pub const STATE_WORDS: usize = 15;
+/// The words of a state that keeps starts, besides: of live positions, of held positions, of the pairs
+/// held for the offset before the last byte.
+pub const LIVE_STARTS: usize = STATE_WORDS;
+pub const HELD_STARTS: usize = LIVE_STARTS + MAX_POSITIONS;
+pub const PAIR_STARTS: usize = HELD_STARTS + MAX_POSITIONS;
+pub const TRACED_WORDS: usize = PAIR_STARTS + MAX_RULES;
 /// The number for fewer words than a state has.
 pub const SHORT_STATE: u32 = 100;
 

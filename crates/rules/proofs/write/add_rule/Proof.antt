@@ -1,9 +1,6 @@
 -- `rules::write::add_rule` meets its contract: each call wrote its part, and together they are the defined words.
-use mathlib.Core.Path.{refl}
-use Prim.Native.Nat.{_/_, _%_}
 use native.Mathlib.Omega.{arith}
 use denote.Ref.{now}
-use lib.Dec.{eqb}
 use Rattle.table.specs.Layout.{positionsOf}
 use Rattle.nodes.specs.Nodes.{treeAt}
 use Rattle.rules.specs.Gaps.{holdingAt}
@@ -66,7 +63,7 @@ returns c =
     let start = place .before .before .before .before .before .before in
     let a = start .args in
     let p = start .pre in
-    added-is (now (a .words)) (a .id) (a .flags) (treeAt (now (a .nodes)) (a .root)) (p .0) (p .1) (p .2) (a .parts) (p .3) (eqb (a .flags / 8 % 2) 1) refl
+    added-is (now (a .words)) (a .id) (a .flags) (treeAt (now (a .nodes)) (a .root)) (p .0) (p .1) (p .2) (a .parts) (p .3)
     (place .put-place .last .0) (gaps .put-gaps .last .0) (takers .put-takers .last .0) (openers .put-openers .last .0) (lates .put-lates .last .0)
     (c .before .before .put-counts .last .0)
     (place .put-place .ensures) (gaps .put-gaps .ensures) (takers .put-takers .ensures) (openers .put-openers .ensures) (lates .put-lates .ensures)

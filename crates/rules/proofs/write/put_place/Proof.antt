@@ -11,23 +11,33 @@ place-of-requires c κs = omega arith
 put-id-requires : tie.Need-put-id-requires
 put-id-requires c κs = omega arith
 
-put-singles-requires : tie.Need-put-singles-requires
-put-singles-requires c κs = omega arith
+put-digits-requires : tie.Need-put-digits-requires
+put-digits-requires c κs = omega arith
+
+put-digits-requires-2 : tie.Need-put-digits-requires-2
+put-digits-requires-2 c κs = omega arith
 
 put-owners-requires : tie.Need-put-owners-requires
 put-owners-requires c κs = omega arith
+
+put-keepers-requires : tie.Need-put-keepers-requires
+put-keepers-requires c κs = omega arith
 
 same-length : tie.Need-same-length
 same-length c = omega arith
 
 returns : tie.Need-returns
 returns c =
-    let a = c .before .before .before .before .before .before .before .before .before .before .before .before .before .before .before .args in
-    let place = c .before .before .before .before .before .before .before .before .before .before .before .before .place-of in
-    let one = c .before .before .before .before .before .before .before .before .before .before .put-id in
-    let two = c .before .before .before .before .before .before .put-singles in
-    let three = c .before .before .put-owners in
-    place-is (a .rules) (a .n) (a .more) (a .id) (place .result) (a .single) (now (a .words)) (one .last .0) (two .last .0) (three .last .0) (place .ensures .1) (one .ensures) (two .ensures) (three .ensures)
+    let keepers = c .before .before in
+    let owners = keepers .before .before .before .before in
+    let leftmosts = owners .before .before .before .before in
+    let singles = leftmosts .before .before .before .before in
+    let ids = singles .before .before .before .before in
+    let place = ids .before .before in
+    let a = place .before .before .before .args in
+    place-is (a .rules) (a .n) (a .more) (a .id) (place .place-of .result) (a .single) (a .leftmost) (now (a .words)) (ids .put-id .last .0) (singles .put-digits .last .0)
+    (leftmosts .put-digits2 .last .0) (owners .put-owners .last .0) (keepers .put-keepers .last .0) (place .place-of .ensures .1) (ids .put-id .ensures) (singles .put-digits .ensures)
+    (leftmosts .put-digits2 .ensures) (owners .put-owners .ensures) (keepers .put-keepers .ensures)
 
 pub put-place-spec : {M : Type 1} → statement M
 put-place-spec =
@@ -35,7 +45,9 @@ put-place-spec =
     (tie.spec
     place-of-requires
     put-id-requires
-    put-singles-requires
+    put-digits-requires
+    put-digits-requires-2
     put-owners-requires
+    put-keepers-requires
     same-length
     returns)

@@ -1,75 +1,28 @@
--- `stream::checks::is_valid` meets its contract: it joins the tests of `valid`, both sets' in one.
-use mathlib.Core.Path.{ap, _∙_}
-use mathlib.Core.Bool.{not, _&&_, _||_}
-use mathlib.Core.List.{List}
-use Prim.Native.Nat.{ℕ}
-use lib.Dec.{eqb, leb}
-use lib.ListN.{length}
+-- `stream::checks::is_valid` meets its contract: both tests of `valid`.
+use mathlib.Core.Path.{ap, ap₂, _∙_}
+use mathlib.Core.Bool.{Bool, not, _&&_}
 use denote.Ref.{now}
-use Rattle.sets.specs.Set.{has, any}
-use Rattle.table.specs.Layout.{maxPositions, rulesOf, positionsOf}
+use lib.ListN.{length}
+use borrow.Author.Tests.{le-leb}
+use Rattle.table.specs.Layout.{tableWords}
 use Rattle.table.specs.Automaton.{automaton}
-use Rattle.stream.specs.Valid.{streamLimit, sameCounts, marksSingle, underLimit, pendingInside, pendingLate}
-use Rattle.stream.proofs.Bounds.{rules-word, positions-word}
-use Rattle.stream.proofs.Accepting.{valid-order}
+use Rattle.stream.specs.Valid.{needsStarts, valid}
 use Rattle.stream.proofs.checks.is_valid.Statement.{statement}
 use Rattle.stream.proofs.checks.is_valid.Tie as tie
 
-shared-slice-read-rules : tie.Need-shared-slice-read-rules
-shared-slice-read-rules c =
-    let c-start = c .before .before in
-    rules-word (length (now (c-start .args .words))) (c-start .pre)
+fits-table-requires : tie.Need-fits-table-requires
+fits-table-requires c κs = c .before .pre
 
-shared-slice-read-positions : tie.Need-shared-slice-read-positions
-shared-slice-read-positions c =
-    let c-start = c .before .before .before in
-    positions-word (length (now (c-start .args .words))) (c-start .pre)
-
-union-requires : tie.Need-union-requires
-union-requires c κs = tt
-
-inside-requires : tie.Need-inside-requires
-inside-requires c κs = tt
-
--- from the union back to the start
-abbrev sets : tie.After-union → tie.After-live
-sets c = c .before .before .before .before
-
-abbrev start : tie.After-union → tie.Start
-start c = sets c .before .before .before .before
-
-marks-single-requires : tie.Need-marks-single-requires
-marks-single-requires c κs = start (c .before) .pre
-
-pending-inside-requires : tie.Need-pending-inside-requires
-pending-inside-requires c κs = tt
+needs-starts-requires : tie.Need-needs-starts-requires
+needs-starts-requires c κs = tt
 
 returns : tie.Need-returns
-unfolding sameCounts marksSingle underLimit pendingInside pendingLate automaton
+unfolding valid
 returns c =
-    let c-pending = c .before .before .before .pending-inside in
-    let c-marks = c .before .before .before .before .marks-single in
-    let c-inside = c .before .before .before .before .before .inside in
-    let c-union = c .before .before .before .before .before .before in
-    let s = start c-union .args .s in
-    let t = now (start c-union .args .words) in
-    let inside =
-    c-inside .ensures
-    ∙ ap (λ (x : List ℕ). not (any maxPositions (λ q. has x q && leb (positionsOf t) q)))
-    (c-union .union .ensures) in
-    (λ i. (eqb (s .rules) (rulesOf t) && eqb (s .positions) (positionsOf t))
-    && (inside i && (c-marks .ensures i && (leb (s .taken) streamLimit
-    && (c-pending .ensures i && (eqb (s .pending) 0 || leb 2 (s .taken)))))))
-    ∙ valid-order (automaton t) s
+    let start = c .before .before .before in
+    let t = now (start .args .words) in
+    ap₂ (λ (a b : Bool). a && not b) (c .before .fits-table .ensures)
+    (c .needs-starts .ensures ∙ ap (λ (b : Bool). b && needsStarts (automaton t)) (le-leb tableWords (length t) (start .pre)))
 
 pub is-valid-spec : {M : Type 1} → statement M
-is-valid-spec =
-    tie.close
-    (tie.spec
-    shared-slice-read-rules
-    shared-slice-read-positions
-    union-requires
-    inside-requires
-    marks-single-requires
-    pending-inside-requires
-    returns)
+is-valid-spec = tie.close (tie.spec fits-table-requires needs-starts-requires returns)

@@ -12,7 +12,7 @@ use Rattle.table.specs.Automaton.{automaton}
 use Rattle.table.proofs.Test.{passes}
 use Rattle.stream.specs.Valid.{valid, streamLimit}
 use Rattle.stream.proofs.Bounds.{twice-fits}
-use Rattle.stream.proofs.Accepting.{fitting, refused-table, refused-state, refused-closed, refused-long, refused-space, not-refused}
+use Rattle.stream.proofs.Accepting.{fitting, valid-parts, refused-table, refused-state, refused-closed, refused-long, refused-space, not-refused}
 use Rattle.stream.proofs.checks.refusal.Statement.{statement}
 use Rattle.stream.proofs.checks.refusal.Tie as tie
 
@@ -36,7 +36,7 @@ module _ (e : tie.Else2) where
   state = sym (e .before .is-valid .ensures) ∙ not-false (e .before .is-valid .result) (e .if2 .left)
 
   limit : start passed .args .s .taken ≤ streamLimit
-  limit = fitting (automaton (t passed)) (start passed .args .s) state .limit
+  limit = fitting (automaton (t passed)) (start passed .args .s) (valid-parts (automaton (t passed)) (start passed .args .s) state .0) .limit
 
 -- and the block is not too long
 module _ (e : tie.Else4) where

@@ -24,10 +24,11 @@ open-requires c κs = search needs
 
 loop-holds : tie.Need-loop-holds Inv-loop μ-loop
 loop-holds c =
-    let o = opened-runs _ (c .before .before .before .before .before .before .before .pre .0) in
+    let start = c .before .before .before .before .before .before .before in
+    let o = opened-runs _ (start .pre .0) (start .pre .1) in
     record {
       runs = subst (Running _) (sym (ap (λ (o : Opened). o .stream) (c .before .«open» .ensures))) (o .0);
-      room = c .before .before .before .before .before .before .before .pre .1;
+      room = start .pre .2;
       block-same = refl;
       ids-same = refl;
       offsets-same = refl;

@@ -1,0 +1,197 @@
+// The starts of positions, one number for each of 256: what one byte makes of them. The starts of the positions before the byte are carried along the rows of these
+// positions, and of those that meet in one position the smallest is kept.
+use super::rows::row;
+use kinds::Side;
+use table::gaps::LAST_GAPS;
+use table::gaps::gap_of;
+use table::layout::FOLLOW_AT;
+use table::layout::FOLLOW_WORDS;
+use table::layout::LAST_AT;
+use table::layout::OWNERS_AT;
+use table::layout::SET_WORDS;
+use table::layout::TABLE_WORDS;
+ghost use mathlib.Core.Path.{_≡_};
+ghost use mathlib.Core.Bool.{true, cond};
+ghost use Prim.Native.Nat.{_≤_, _<_};
+ghost use lib.ListN.{length};
+ghost use Rattle.sets.specs.Set.{has, setOf, intersectionOf};
+ghost use Rattle.table.specs.Layout.{tableWords, maxRules, maxPositions};
+ghost use Rattle.table.specs.Automaton.{automaton};
+ghost use Rattle.steps.specs.Step.{listOn, steppedStarts, startsAt};
+ghost use Rattle.steps.specs.Invariants.{chosenOf, inWord, Put, Followed, leastOwned};
+
+// Of two starts the new one, or the smaller.
+fn chosen(keep: bool, old: u64, new: u64) -> u64
+    ensures { λ r. ⌜ r ≡ chosenOf keep old new ⌝ }
+{
+    if keep & (old < new) { old } else { new }
+}
+
+// Puts a start in for the positions of one word, the word i of a set.
+fn put_word(mut word: u64, i: usize, keep: bool, start: u64, starts: &mut [u64; 256])
+    requires { ⌜ i < 4 ⌝ }
+    ensures { λ _. ⌜ Put (inWord word i) keep start (now (starts .entry)) (now (starts .exit)) ⌝ }
+{
+    while word != 0 {
+        let q = i * 64 + u64::trailing_zeros(word) as usize;
+        let old = starts[q];
+        starts[q] = chosen(keep, old, start);
+        word = word & (word - 1);
+    }
+}
+
+// Puts a start in for the positions of a set.
+fn put(set: [u64; 4], keep: bool, start: u64, starts: &mut [u64; 256])
+    ensures { λ _. ⌜ Put (has set) keep start (now (starts .entry)) (now (starts .exit)) ⌝ }
+{
+    put_word(set[0], 0, keep, start, starts);
+    put_word(set[1], 1, keep, start, starts);
+    put_word(set[2], 2, keep, start, starts);
+    put_word(set[3], 3, keep, start, starts);
+}
+
+// Carries the starts of the positions of one word, the word i of a live set, along their rows, to the positions of `next`.
+fn follow_word(
+    mut word: u64,
+    i: usize,
+    next: [u64; 4],
+    from: &[u64; 256],
+    rows: usize,
+    words: &[u64],
+    starts: &mut [u64; 256],
+)
+    requires { ⌜ (tableWords ≤ length (now words)) × (i < 4) × (rows ≤ 14336) ⌝ }
+    ensures { λ _. ⌜ Followed (inWord word i) next (now (from .entry)) rows (now (words .entry)) (now (starts .entry)) (now (starts .exit)) ⌝ }
+{
+    while word != 0 {
+        let p = i * 64 + u64::trailing_zeros(word) as usize;
+        let to = sets::intersection(row(words, rows + p * SET_WORDS), next);
+        let start = from[p];
+        put(to, true, start, starts);
+        word = word & (word - 1);
+    }
+}
+
+// Carries the starts of the positions of a live set.
+fn follow(
+    live: [u64; 4],
+    next: [u64; 4],
+    from: &[u64; 256],
+    rows: usize,
+    words: &[u64],
+    starts: &mut [u64; 256],
+)
+    requires { ⌜ (tableWords ≤ length (now words)) × (rows ≤ 14336) ⌝ }
+    ensures { λ _. ⌜ Followed (has live) next (now (from .entry)) rows (now (words .entry)) (now (starts .entry)) (now (starts .exit)) ⌝ }
+{
+    follow_word(live[0], 0, next, from, rows, words, starts);
+    follow_word(live[1], 1, next, from, rows, words, starts);
+    follow_word(live[2], 2, next, from, rows, words, starts);
+    follow_word(live[3], 3, next, from, rows, words, starts);
+}
+
+// The starts after a byte, `taken` bytes into the stream: `live` are the positions before it that keep a start, `next` those after it. The sides are those of the gap
+// before the byte; where `line` is true, as if it were a newline and the last.
+pub fn step_starts(
+    line: bool,
+    before: Side,
+    after: Side,
+    live: [u64; 4],
+    starts: &[u64; 256],
+    next: [u64; 4],
+    taken: u64,
+    words: &[u64],
+) -> [u64; 256]
+    ensures { λ r. ⌜ r ≡ listOn (now (words .entry)) maxPositions (steppedStarts (automaton (now (words .entry))) line before after live (now (starts .entry)) next taken) ⌝ }
+{
+    let mut new = [0u64; 256];
+    if words.len() < TABLE_WORDS {
+        return new;
+    }
+    put(next, false, taken, &mut new);
+    let rows = FOLLOW_AT + gap_of(line, before, after) * FOLLOW_WORDS;
+    follow(live, next, starts, rows, words, &mut new);
+    new
+}
+
+// The smaller of two starts, if the second counts.
+fn lowered(counts: bool, least: u64, start: u64) -> u64
+    ensures { λ r. ⌜ r ≡ cond counts (chosenOf true least start) least ⌝ }
+{
+    if counts {
+        chosen(true, least, start)
+    } else {
+        least
+    }
+}
+
+// The smaller of a number and of the starts of the positions of one word, the word i of a set, that
+// have this owner.
+fn least_word(
+    mut word: u64,
+    i: usize,
+    owner: u64,
+    starts: &[u64; 256],
+    mut least: u64,
+    words: &[u64],
+) -> u64
+    requires { ⌜ (tableWords ≤ length (now words)) × (i < 4) ⌝ }
+    ensures { λ r. ⌜ r ≡ leastOwned (now (words .entry)) (inWord word i) owner (now (starts .entry)) least ⌝ }
+{
+    while word != 0 {
+        let p = i * 64 + u64::trailing_zeros(word) as usize;
+        let start = starts[p];
+        let own = words[OWNERS_AT + p] == owner;
+        least = lowered(own, least, start);
+        word = word & (word - 1);
+    }
+    least
+}
+
+// The smaller of a number and of the starts of the positions of a set that have this owner.
+fn least_start(set: [u64; 4], owner: u64, starts: &[u64; 256], least: u64, words: &[u64]) -> u64
+    requires { ⌜ tableWords ≤ length (now words) ⌝ }
+    ensures { λ r. ⌜ r ≡ leastOwned (now (words .entry)) (has set) owner (now (starts .entry)) least ⌝ }
+{
+    let a = least_word(set[0], 0, owner, starts, least, words);
+    let b = least_word(set[1], 1, owner, starts, a, words);
+    let c = least_word(set[2], 2, owner, starts, b, words);
+    least_word(set[3], 3, owner, starts, c, words)
+}
+
+// The positions of a set that can end a match at a gap.
+fn ending_in(gap: usize, set: [u64; 4], words: &[u64]) -> [u64; 4]
+    requires { ⌜ tableWords ≤ length (now words) ⌝ }
+    ensures { λ r. ⌜ r ≡ intersectionOf set (setOf (automaton (now (words .entry)) .ending gap)) ⌝ }
+{
+    if gap < LAST_GAPS {
+        return sets::intersection(set, row(words, LAST_AT + gap * SET_WORDS));
+    }
+    sets::empty()
+}
+
+// For each of some rules, a digit for each place, the smallest start of a match that ends at a gap
+// with a position of the set, or the number that is there for it, if that is smaller.
+pub fn rule_starts(
+    mut rules: u64,
+    gap: usize,
+    set: [u64; 4],
+    starts: &[u64; 256],
+    from: &[u64; 64],
+    words: &[u64],
+) -> [u64; 64]
+    ensures { λ r. ⌜ r ≡ listOn (now (words .entry)) maxRules (startsAt (automaton (now (words .entry))) rules gap set (now (starts .entry)) (now (from .entry))) ⌝ }
+{
+    let mut new = [0u64; 64];
+    if words.len() < TABLE_WORDS {
+        return new;
+    }
+    let found = ending_in(gap, set, words);
+    while rules != 0 {
+        let a = u64::trailing_zeros(rules);
+        let least = from[a as usize];
+        new[a as usize] = least_start(found, a as u64, starts, least, words);
+        rules = rules & (rules - 1);
+    }
+    new
+}

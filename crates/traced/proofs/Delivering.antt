@@ -1,0 +1,201 @@
+-- The reports of one byte. The words of the rules that end say what the tests say, and the start for
+-- each place is that of the definition wherever a rule reports.
+use mathlib.Core.Path.{_≡_, refl, sym, ap, ap₂, subst, _∙_}
+use mathlib.Core.Bool.{Bool, true, false, true≢false, cond, not, _&&_, _||_, and-eq-true-iff}
+use mathlib.Core.List.{List, [], _∷_, _++_}
+use Prim.Native.Nat.{ℕ, zero, suc, _+_, _-_, _^_, _<_, _≤_}
+use native.Mathlib.Nat.{lt-of-le-of-lt}
+use native.Mathlib.Omega.{arith}
+use lib.Bits.{bitAnd, bitOr, or-add-and, and-le-l, and-le-r}
+use lib.Dec.{eqb, ltb}
+use lib.ListN.{length}
+use borrow.Author.Tests.{lt-ltb, le-ltb, eqb-true}
+use Rattle.sets.specs.Set.{on, has, smallest, count}
+use Rattle.sets.proofs.Digits.{on-and, on-zero}
+use Rattle.sets.proofs.Smallest.{smallest-under}
+use Rattle.table.specs.Layout.{maxRules, maxPositions}
+use Rattle.table.specs.Automaton.{Automaton, single, last}
+use Rattle.table.proofs.Members.{on-places}
+use Rattle.steps.specs.Step.{rulesWhere, startAt}
+use Rattle.stream.specs.declared.Stream.{Stream}
+use Rattle.stream.specs.Byte.{given as stream-given}
+use Rattle.stream.specs.Byte.{due, runReports, runMarks, twoReports, twoMarks, byteState, lateTest, ownTest}
+use Rattle.stream.proofs.TwoRuns.{two-ext, two-marks-ext, two-none, two-marks-none, due-two}
+use Rattle.stream.proofs.Runs.{alone}
+use Rattle.traced.specs.declared.Starts.{Starts}
+use Rattle.traced.specs.declared.Traced.{Traced}
+use Rattle.traced.specs.Byte.{Start, Report, from, none, given, lateStart, ownStart, nextStarts, byteReports}
+use Rattle.traced.specs.Calls.{Lists, space, written}
+use Rattle.traced.specs.Invariants.{at, zeros, Small, RuleStarts, WroteTwo, Carried, Gone, Delivered}
+use Rattle.traced.proofs.Lists.{written-none}
+
+-- ---- what a run gives counts only where a rule is due
+
+run-give : {R : Type 0} (test : ℕ → Bool) (marks : ℕ) (give give′ : ℕ → R) (n : ℕ) → ((a : ℕ) → a < n → test a ≡ true → give a ≡ give′ a)
+    → runReports test marks give n ≡ runReports test marks give′ n
+unfolding runReports
+run-give test marks give give′ zero e = refl
+run-give {R} test marks give give′ (suc n) e =
+    ap₂ (λ (x y : List R). x ++ y) (run-give test marks give give′ n (λ a h. e a (omega arith))) (go (due test marks n) refl)
+  where
+    go : (b : Bool) → due test marks n ≡ b → cond b (give n ∷ []) [] ≡ cond b (give′ n ∷ []) []
+    go true d = ap (λ (r : R). r ∷ []) (e n (omega arith) (and-eq-true-iff (test n) (not (on marks n)) .0 d .0))
+    go false d = refl
+
+pub two-give : {R : Type 0} (w : Automaton) (one two : ℕ → Bool) (marks : ℕ) (first first′ second second′ : ℕ → R)
+    → ((a : ℕ) → a < w .rules → one a ≡ true → first a ≡ first′ a) → ((a : ℕ) → a < w .rules → two a ≡ true → second a ≡ second′ a)
+    → twoReports w one two marks first second ≡ twoReports w one two marks first′ second′
+unfolding twoReports
+two-give {R} w one two marks first first′ second second′ e f =
+    ap₂ (λ (x y : List R). x ++ y) (run-give one marks first first′ (w .rules) e) (run-give two (runMarks w one marks) second second′ (w .rules) f)
+
+-- ---- starts by place
+
+-- a start is no larger than the offset that it was looked for from
+pub start-under : (w : Automaton) (gap : ℕ) (set starts : List ℕ) (d a : ℕ) → startAt w gap set starts d a ≤ d
+unfolding startAt
+start-under w gap set starts d a = smallest-under (λ p. has set p && last w gap a p) (λ p. at starts p) d maxPositions
+
+pub starts-small : {rules : ℕ} {give : ℕ → ℕ} {froms : List ℕ} (d : ℕ) → RuleStarts rules give froms → ((a : ℕ) → give a ≤ d) → d < 2 ^ 63 → Small froms
+starts-small {rules} {give} {froms} d h under small a lt = subst (λ (n : ℕ). n < 2 ^ 63) (sym (h .each a lt)) (go (on rules a))
+  where
+    go : (b : Bool) → cond b (give a) 0 < 2 ^ 63
+    go true = lt-of-le-of-lt (under a) small
+    go false = omega arith
+
+module _ (w : Automaton) (few : w .rules ≤ 64) (leftmost : ℕ) (flags : leftmost ≡ rulesWhere w (w .leftmost)) where
+  pub give-same : (word : ℕ) (give : ℕ → ℕ) (froms : List ℕ) → RuleStarts (bitAnd word leftmost) give froms → (end a : ℕ) → a < w .rules → on word a ≡ true
+      → given w end (at froms) a ≡ given w end give a
+  give-same word give froms h end a lt e =
+      ap (λ (s : Start). record { pair = stream-given w end a; start = s }) (go (w .leftmost a) refl)
+    where
+      go : (b : Bool) → w .leftmost a ≡ b → cond b (from (at froms a)) none ≡ cond b (from (give a)) none
+      go true f =
+          ap from (h .each a (omega arith)
+          ∙ ap (λ (d : Bool). cond d (give a) 0)
+          (on-and word leftmost a ∙ ap₂ (λ (x y : Bool). x && y) e (ap (λ (x : ℕ). on x a) flags ∙ on-places (w .leftmost) (w .rules) a lt few ∙ f)))
+      go false f = refl
+
+-- ---- both runs of a byte
+
+-- the words of the rules that end
+module _ (w : Automaton) (few : w .rules ≤ 64) (z : Traced) (x late own : ℕ)
+    (late-is : late ≡ rulesWhere w (lateTest w (z .stream) x)) (own-is : own ≡ rulesWhere w (ownTest w (z .stream) x)) where
+  abbrev s : Stream
+  s = z .stream
+
+  late-at : (a : ℕ) → a < w .rules → on late a ≡ lateTest w s x a
+  late-at a h = ap (λ (n : ℕ). on n a) late-is ∙ on-places (lateTest w s x) (w .rules) a h few
+
+  own-at : (a : ℕ) → a < w .rules → on own a ≡ ownTest w s x a
+  own-at a h = ap (λ (n : ℕ). on n a) own-is ∙ on-places (ownTest w s x) (w .rules) a h few
+
+  pub late-alone : late ≡ rulesWhere w (on late)
+  late-alone = alone w (lateTest w s x) late-is
+
+  pub own-alone : own ≡ rulesWhere w (on own)
+  own-alone = alone w (ownTest w s x) own-is
+
+  -- the reports by the words
+  pub reports-by : twoReports w (on late) (on own) (s .reported) (given w (s .taken) (lateStart w z x)) (given w (suc (s .taken)) (ownStart w z x)) ≡ byteReports w z x
+  unfolding byteReports
+  reports-by =
+      two-ext w (on late) (lateTest w s x) (on own) (ownTest w s x) (s .reported) late-at own-at
+      (given w (s .taken) (lateStart w z x)) (given w (suc (s .taken)) (ownStart w z x))
+
+  pub marks-by : twoMarks w (on late) (on own) (s .reported) ≡ byteState w s x .reported
+  unfolding byteState
+  marks-by = two-marks-ext w (on late) (lateTest w s x) (on own) (ownTest w s x) (s .reported) late-at own-at
+
+  -- no rule ends
+  module _ (empty : bitOr late own ≡ 0) (small : s .reported < 2 ^ 64) where
+    none-late : late ≡ 0
+    none-late = omega (arith, or-add-and late own, and-le-l late own, and-le-r late own)
+
+    none-own : own ≡ 0
+    none-own = omega (arith, or-add-and late own, and-le-l late own, and-le-r late own)
+
+    off-late : (a : ℕ) → a < w .rules → lateTest w s x a ≡ false
+    off-late a h = sym (late-at a h) ∙ ap (λ (n : ℕ). on n a) none-late ∙ on-zero a
+
+    off-own : (a : ℕ) → a < w .rules → ownTest w s x a ≡ false
+    off-own a h = sym (own-at a h) ∙ ap (λ (n : ℕ). on n a) none-own ∙ on-zero a
+
+    no-reports : byteReports w z x ≡ []
+    unfolding byteReports
+    no-reports =
+        two-none w (lateTest w s x) (ownTest w s x) (s .reported) off-late off-own (given w (s .taken) (lateStart w z x)) (given w (suc (s .taken)) (ownStart w z x))
+
+    same-marks : byteState w s x .reported ≡ s .reported
+    unfolding byteState
+    same-marks = two-marks-none w (lateTest w s x) (ownTest w s x) (s .reported) off-late off-own small
+
+    pub delivered-quiet : (first : ℕ) (l : Lists) (some waits : Bool) (k : Starts) → Carried w z x some waits k
+        → Delivered w z x first l false 0 (s .reported) some waits k l
+    delivered-quiet first l some waits k h = record {
+      full-if = sym (le-ltb (space l) (length (byteReports w z x)) (omega (arith, ap length no-reports)));
+      stays = λ e. absurd (true≢false (sym e));
+      goes = λ e. record {
+        reports-are = sym (ap length no-reports);
+        marks-are = sym same-marks;
+        starts-are = h .starts-are;
+        lists-are = sym (ap (λ (r : List Report). written first r l) no-reports ∙ written-none first l);
+        live-none = h .live-none;
+        wait-none = h .wait-none;
+      };
+    }
+
+  -- as many are due as there are reports
+  pub due-is : s .reported < 2 ^ 64 → (singles : ℕ) → singles ≡ rulesWhere w (single w) → {due₁ due₂ : ℕ}
+      → due₁ ≡ count 64 (λ a. on late a && not (on (s .reported) a))
+      → due₂ ≡ count 64 (λ a. on own a && not (on (bitOr (s .reported) (bitAnd late singles)) a))
+      → due₁ + due₂ ≡ length (byteReports w z x)
+  due-is small singles is one two =
+      due-two w late own (s .reported) (given w (s .taken) (lateStart w z x)) (given w (suc (s .taken)) (ownStart w z x)) small few late-alone own-alone singles is one two
+      ∙ ap length reports-by
+
+  -- the starts for each place, as they were worked out
+  module _ (leftmost : ℕ) (flags : leftmost ≡ rulesWhere w (w .leftmost)) (one two : List ℕ)
+      (early : RuleStarts (bitAnd late leftmost) (lateStart w z x) one) (later : RuleStarts (bitAnd own leftmost) (ownStart w z x) two) where
+    pub given-by : twoReports w (on late) (on own) (s .reported) (given w (s .taken) (at one)) (given w (suc (s .taken)) (at two)) ≡ byteReports w z x
+    given-by =
+        two-give w (on late) (on own) (s .reported) (given w (s .taken) (at one)) (given w (s .taken) (lateStart w z x))
+        (given w (suc (s .taken)) (at two)) (given w (suc (s .taken)) (ownStart w z x))
+        (give-same w few leftmost flags late (lateStart w z x) one early (s .taken)) (give-same w few leftmost flags own (ownStart w z x) two later (suc (s .taken)))
+        ∙ reports-by
+
+    pub gone : {first : ℕ} {l : Lists} {reports marks : ℕ} {l′ : Lists} (some waits : Bool) (k : Starts)
+        → WroteTwo w (on late) (on own) (s .reported) (given w (s .taken) (at one)) (given w (suc (s .taken)) (at two)) first l reports marks l′
+        → Carried w z x some waits k → Gone w z x first l reports marks some waits k l′
+    gone {first} {l} some waits k wrote h = record {
+      reports-are = wrote .reports-are ∙ ap length given-by;
+      marks-are = wrote .marks-are ∙ marks-by;
+      starts-are = h .starts-are;
+      lists-are = wrote .lists-are ∙ ap (λ (r : List Report). written first r l) given-by;
+      live-none = h .live-none;
+      wait-none = h .wait-none;
+    }
+
+-- the reports do not fit, or all are written
+pub delivered-full : {w : Automaton} {z : Traced} {x first : ℕ} {l : Lists} (n room : ℕ) → n ≡ length (byteReports w z x) → room ≡ space l → room < n
+    → (reports marks : ℕ) (some waits : Bool) → Delivered w z x first l true reports marks some waits (z .starts) l
+delivered-full {w} {z} {x} {l = l} n room e f h reports marks some waits = record {
+  full-if = sym (lt-ltb (space l) (length (byteReports w z x)) (omega arith));
+  stays = λ q. (refl, refl);
+  goes = λ q. absurd (true≢false q);
+}
+
+pub delivered-gone : {w : Automaton} {z : Traced} {x first : ℕ} {l : Lists} {reports marks : ℕ} {some waits : Bool} {k : Starts} {l′ : Lists} (full : Bool)
+    → full ≡ false → length (byteReports w z x) ≤ space l → Gone w z x first l reports marks some waits k l′
+    → Delivered w z x first l full reports marks some waits k l′
+delivered-gone {w} {z} {x} {l = l} full e room h = record {
+  full-if = e ∙ sym (le-ltb (space l) (length (byteReports w z x)) room);
+  stays = λ q. absurd (true≢false (sym q ∙ e));
+  goes = λ q. h;
+}
+
+-- all starts at once
+pub carried : {w : Automaton} {z : Traced} {x : ℕ} {some waits : Bool} {k : Starts} → k ≡ nextStarts w z x
+    → (some ≡ false → k .live ≡ zeros maxPositions)
+    → (waits ≡ false → (k .held ≡ zeros maxPositions) × (k .pairs ≡ zeros maxRules)) → Carried w z x some waits k
+carried e f g = record { starts-are = e; live-none = f; wait-none = g }
