@@ -171,12 +171,14 @@ fn the_subset() {
     ]);
     assert_eq!(members(0, "[\\b]"), [8]);
     assert_eq!(rule(0, "\\b(\\b){9}a\\B").positions, 1);
-    for flags in [4, 5, 6, 7, 12, 13, 14, 15] {
+    for flags in [4, 5, 6, 7, 12, 13, 14, 15, 256, 263] {
         rule(flags, "a");
     }
-    for flags in [16, 20, 32, 64, 256, 0x8000_0000] {
-        assert_eq!(check(&[], 1, flags, b"a").map_err(|refusal| refusal.number).err(), Some(2));
+    let number = |flags| check(&[], 1, flags, b"a").map_err(|refusal| refusal.number).err();
+    for flags in [16, 20, 32, 64, 128, 272, 512, 0x8000_0000] {
+        assert_eq!(number(flags), Some(2));
     }
+    assert_eq!(number(256 + SINGLE_MATCH), Some(24));
 }
 
 #[test]
