@@ -109,7 +109,7 @@ pub fn add(text: &[u8]) -> Rules {
             rules.refused.push(Refused { line: line_number, number: MALFORMED, place: 0 });
             continue;
         };
-        match rules.table.add(id, Flags(flags), pattern) {
+        match add_rule(&mut rules.table, id, Flags(flags), pattern) {
             Ok(()) => rules.accepted.push(Rule { id, flags, pattern: pattern.to_vec() }),
             Err(error) => {
                 let (number, place) = (error.number(), error.place());
@@ -118,6 +118,16 @@ pub fn add(text: &[u8]) -> Rules {
         }
     }
     rules
+}
+
+/// Adds a rule that its flags allow, without flag 256: the streams of the wrapper keep no starts,
+/// and the ends of a rule, and their moments, are the same without them.
+fn add_rule(table: &mut Table, id: u32, flags: Flags, pattern: &[u8]) -> Result<(), Error> {
+    let Flags(start) = Flags::LEFTMOST_START;
+    if flags.0 & start != 0 {
+        table.clone().add(id, flags, pattern)?;
+    }
+    table.add(id, Flags(flags.0 & !start), pattern)
 }
 
 impl Rules {
@@ -190,6 +200,17 @@ mod tests {
         }
         let full: String = (0..64).map(|id| format!("{id} 0 a\n")).collect();
         assert_eq!(add(full.as_bytes()).positions(), None);
+    }
+
+    #[test]
+    fn a_rule_with_starts_is_judged_with_its_flags() {
+        let rules = add(b"1 256 a\n2 264 a\n3 768 a");
+        assert_eq!((rules.accepted[0].id, rules.accepted[0].flags), (1, 256));
+        assert_eq!(rules.refused.iter().map(|no| no.number).collect::<Vec<_>>(), [24, 2]);
+        let mut ends = vec![];
+        let mut stream = watcher::Stream::open(&rules.table);
+        stream.scan(watcher::NO_LIMIT, b"ba", |report| ends.push(report.end)).unwrap();
+        assert_eq!(ends, [2]);
     }
 
     #[test]
