@@ -189,13 +189,16 @@ impl Flags {
     /// # Ok::<(), watcher::Error>(())
     /// ```
     pub const SINGLE_MATCH: Flags = Flags(8);
-    /// The rule reports the leftmost start of each match, which takes a stream that keeps starts.
+    /// The rule reports the leftmost start of each match. A [`Stream`] keeps no starts: while its
+    /// table has such a rule, its scans and its closing are refused.
     ///
     /// ```
-    /// use watcher::{Error, Flags, Table};
+    /// use watcher::{Error, Flags, Stream, Table, NO_LIMIT};
     ///
     /// let mut table = Table::new();
     /// table.add(1, Flags::LEFTMOST_START, b"ab+")?;
+    /// let scanned = Stream::open(&table).scan(NO_LIMIT, b"abb", |_| ());
+    /// assert_eq!(scanned.err(), Some(Error::BadState));
     /// let both = Flags::LEFTMOST_START | Flags::SINGLE_MATCH;
     /// assert_eq!(table.add(2, both, b"ab+"), Err(Error::SingleStart));
     /// # Ok::<(), watcher::Error>(())
