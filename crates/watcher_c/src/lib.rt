@@ -1,26 +1,29 @@
 // The functions for C and Rust, over numbers and slices only: a slice is a pointer and a length
-// there. The state is fifteen words that the caller owns. Nothing is required of a caller but that
-// its slices are what they say. specs/Interface.antt has each answer and every lent word
-// afterwards.
+// there. The state is fifteen words that the caller owns; those for a stream with starts are in
+// trace.rt. Nothing is required of a caller but that its slices are what they say.
+// specs/Interface.antt has each answer and every lent word afterwards.
 mod state;
+mod trace;
 
 use plain::Bounds;
 use state::STATE_WORDS;
 use state::load;
 use state::store;
 use stream::Stream;
+use stream::needs_starts;
 ghost use mathlib.Core.Path.{_≡_};
 ghost use Rattle.table.specs.Table.{emptyNumber, emptied};
 ghost use Rattle.rules.specs.Add.{addition, addAnswer, addWords};
 ghost use Rattle.card.specs.Calls.{writeAnswer, writtenBlock, readAnswer, readWords};
-ghost use Rattle.stream.specs.Calls.{lists, call};
+ghost use Rattle.stream.specs.Calls.{opened, lists, call};
 ghost use Rattle.matched.specs.Matched.{matchedPart, matchedNumber};
 ghost use Rattle.plain.specs.Run.{lent};
 ghost use Rattle.plain.specs.Answer.{question, Matches};
-ghost use Rattle.watcher_c.specs.Interface.{bounds, matched, testNumber, openNumber, openState, scanAnswer, scanState, scanLists, closeAnswer, closeState, closeLists, busyFigure, matchedSource};
+ghost use Rattle.watcher_c.specs.State.{streamForm};
+ghost use Rattle.watcher_c.specs.Interface.{bounds, matched, testNumber, needsNumber, openNumber, openState, left, onState, scan, closing, scanCall, closeCall, busyFigure, matchedSource};
 
-// The number for a state of fewer than fifteen words. Numbers from 100 on are the interface's own,
-// not the rules'.
+// The number for a state of too few words. Numbers from 100 on are the interface's own, not the
+// rules'.
 const SHORT_STATE: u32 = 100;
 
 // Where the bytes of a match stand.
@@ -45,6 +48,19 @@ pub extern "C" fn watcher_test(table: &[u64]) -> u32
     if table::is_table(table) { 0 } else { 1 }
 }
 
+// 1 if a rule of a table needs a start, so that its streams are those with starts; else 0, and of
+// words that are no table.
+#[no_mangle]
+pub extern "C" fn watcher_needs_starts(table: &[u64]) -> u32
+    ensures { λ r. ⌜ r ≡ needsNumber (now (table .entry)) ⌝ }
+{
+    if table::is_table(table) & needs_starts(table) {
+        1
+    } else {
+        0
+    }
+}
+
 // Adds a rule, and says where the fault of a refused pattern lies.
 #[no_mangle]
 pub extern "C" fn watcher_add(
@@ -66,8 +82,8 @@ pub extern "C" fn watcher_add(
 // Opens a stream over a table.
 #[no_mangle]
 pub extern "C" fn watcher_open(table: &[u64], state: &mut [u64]) -> u32
-    ensures answer { λ r. ⌜ r ≡ openNumber (now (table .entry)) (now (state .entry)) ⌝ }
-    ensures state { λ r. ⌜ now (state .exit) ≡ openState (now (table .entry)) (now (state .entry)) ⌝ }
+    ensures answer { λ r. ⌜ r ≡ openNumber streamForm (opened (now (table .entry)) .number) (now (state .entry)) ⌝ }
+    ensures state { λ r. ⌜ now (state .exit) ≡ openState streamForm (opened (now (table .entry)) .stream) (now (state .entry)) ⌝ }
 {
     if state.len() < STATE_WORDS {
         return SHORT_STATE;
@@ -92,12 +108,8 @@ pub extern "C" fn watcher_scan(
     reports: &mut usize,
     used: &mut u64,
 ) -> u32
-    ensures answer { λ r. ⌜ r ≡ scanAnswer (now (table .entry)) (now (state .entry)) (call allowance (now (block .entry)) (lists (now (ids .entry)) (now (offsets .entry)))) .number ⌝ }
-    ensures state { λ r. ⌜ now (state .exit) ≡ scanState (now (table .entry)) (now (state .entry)) (call allowance (now (block .entry)) (lists (now (ids .entry)) (now (offsets .entry)))) ⌝ }
-    ensures lists { λ r. ⌜ lists (now (ids .exit)) (now (offsets .exit)) ≡ scanLists (now (table .entry)) (now (state .entry)) (call allowance (now (block .entry)) (lists (now (ids .entry)) (now (offsets .entry)))) ⌝ }
-    ensures taken { λ r. ⌜ now (taken .exit) ≡ scanAnswer (now (table .entry)) (now (state .entry)) (call allowance (now (block .entry)) (lists (now (ids .entry)) (now (offsets .entry)))) .taken ⌝ }
-    ensures reports { λ r. ⌜ now (reports .exit) ≡ scanAnswer (now (table .entry)) (now (state .entry)) (call allowance (now (block .entry)) (lists (now (ids .entry)) (now (offsets .entry)))) .reports ⌝ }
-    ensures used { λ r. ⌜ now (used .exit) ≡ scanAnswer (now (table .entry)) (now (state .entry)) (call allowance (now (block .entry)) (lists (now (ids .entry)) (now (offsets .entry)))) .used ⌝ }
+    ensures { λ r. ⌜ left (scan r (now (taken .exit)) (now (reports .exit)) (now (used .exit))) (now (state .exit)) (lists (now (ids .exit)) (now (offsets .exit)))
+        ≡ onState (scanCall (now (table .entry)) (call allowance (now (block .entry)) (lists (now (ids .entry)) (now (offsets .entry))))) (now (state .entry)) ⌝ }
 {
     if state.len() < STATE_WORDS {
         *taken = 0;
@@ -126,10 +138,8 @@ pub extern "C" fn watcher_close(
     offsets: &mut [u64],
     reports: &mut usize,
 ) -> u32
-    ensures answer { λ r. ⌜ r ≡ closeAnswer (now (table .entry)) (now (state .entry)) (lists (now (ids .entry)) (now (offsets .entry))) .number ⌝ }
-    ensures state { λ r. ⌜ now (state .exit) ≡ closeState (now (table .entry)) (now (state .entry)) (lists (now (ids .entry)) (now (offsets .entry))) ⌝ }
-    ensures lists { λ r. ⌜ lists (now (ids .exit)) (now (offsets .exit)) ≡ closeLists (now (table .entry)) (now (state .entry)) (lists (now (ids .entry)) (now (offsets .entry))) ⌝ }
-    ensures reports { λ r. ⌜ now (reports .exit) ≡ closeAnswer (now (table .entry)) (now (state .entry)) (lists (now (ids .entry)) (now (offsets .entry))) .reports ⌝ }
+    ensures { λ r. ⌜ left (closing r (now (reports .exit))) (now (state .exit)) (lists (now (ids .exit)) (now (offsets .exit)))
+        ≡ onState (closeCall (now (table .entry)) (lists (now (ids .entry)) (now (offsets .entry)))) (now (state .entry)) ⌝ }
 {
     if state.len() < STATE_WORDS {
         *reports = 0;
@@ -148,7 +158,7 @@ pub extern "C" fn watcher_close(
 // How many positions are live.
 #[no_mangle]
 pub extern "C" fn watcher_busy(state: &[u64]) -> u32
-    ensures { λ r. ⌜ r ≡ busyFigure (now (state .entry)) ⌝ }
+    ensures { λ r. ⌜ r ≡ busyFigure streamForm (now (state .entry)) ⌝ }
 {
     if state.len() < STATE_WORDS {
         return 0;

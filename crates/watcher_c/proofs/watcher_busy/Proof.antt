@@ -1,12 +1,15 @@
 -- `watcher_c::watcher_busy` meets its contract: the state is the one in the words.
+use mathlib.Core.Path.{ap, _∙_}
 use denote.Ref.{now}
+use Rattle.stream.specs.Byte.{busyOf}
+use Rattle.watcher_c.specs.State.{streamForm}
 use Rattle.watcher_c.proofs.Answers.{busy-short, busy-long}
 use borrow.Author.Needs.{needs}
 use Rattle.watcher_c.proofs.watcher_busy.Statement.{statement}
 use Rattle.watcher_c.proofs.watcher_busy.Tie as tie
 
 returns : tie.Need-returns
-returns c = busy-short (now (c .before .before .args .state)) (c .if1 .taken)
+returns c = busy-short streamForm (now (c .before .before .args .state)) (c .if1 .taken)
 
 load-requires : tie.Need-load-requires
 load-requires c κs = search needs
@@ -18,7 +21,7 @@ returns-2 : tie.Need-returns-2
 returns-2 c =
     let a = c .before .before .before .before .args in
     let s = c .before .load in
-    busy-long (now (a .state)) (s .result) (c .busy .result) (c .before .before .if1 .left) (s .ensures) (c .busy .ensures)
+    c .busy .ensures ∙ ap busyOf (s .ensures) ∙ busy-long streamForm (now (a .state)) (c .before .before .if1 .left)
 
 pub watcher-busy-spec : {M : Type 1} → statement M
 watcher-busy-spec = tie.close (tie.spec returns load-requires busy-requires returns-2)

@@ -1,5 +1,11 @@
--- `watcher_c::watcher_open` meets its contract: what the opening hands back is stored, also when it is refused.
+-- `watcher_c::watcher_open` meets its contract: what the opening hands back is stored, also when it
+-- is refused.
+use mathlib.Core.Path.{ap, _∙_}
 use denote.Ref.{now}
+use Rattle.stream.specs.declared.Opened.{Opened}
+use Rattle.stream.specs.Calls.{opened}
+use Rattle.watcher_c.specs.State.{streamForm, stored}
+use Rattle.watcher_c.specs.Interface.{openNumber}
 use Rattle.watcher_c.proofs.Answers.{open-short, open-long}
 use borrow.Author.Needs.{needs}
 use Rattle.watcher_c.proofs.watcher_open.Statement.{statement}
@@ -8,7 +14,8 @@ use Rattle.watcher_c.proofs.watcher_open.Tie as tie
 returns : tie.Need-returns
 returns c =
     let a = c .before .before .before .args in
-    open-short (now (a .table)) (now (a .state)) (c .if1 .taken)
+    let o = opened (now (a .table)) in
+    open-short streamForm (now (a .state)) (o .number) (o .stream) (c .if1 .taken)
 
 open-requires : tie.Need-open-requires
 open-requires c κs = search needs
@@ -21,10 +28,16 @@ same-length c = search needs
 
 returns-2 : tie.Need-returns-2
 returns-2 c =
-    let at-if = c .before .before .before .before .before .before in
+    let at-store = c .before .before in
+    let at-open = at-store .before .before .before in
+    let at-if = at-open .before in
     let a = at-if .before .before .before .args in
-    let o = c .before .before .before .before .before .«open» in
-    open-long (now (a .table)) (now (a .state)) (c .before .before .store .last .0) (o .result) (at-if .if1 .left) (o .ensures) (c .before .before .store .ensures)
+    let o = opened (now (a .table)) in
+    let l = open-long streamForm (now (a .state)) (o .number) (o .stream) (at-if .if1 .left) in
+    let e = at-open .«open» .ensures in (
+      ap (λ (r : Opened). r .number) e ∙ l .0,
+      at-store .store .ensures ∙ ap (λ (r : Opened). stored (streamForm .words (r .stream)) (now (a .state))) e ∙ l .1,
+    )
 
 pub watcher-open-spec : {M : Type 1} → statement M
 watcher-open-spec = tie.close (tie.spec returns open-requires store-requires same-length returns-2)

@@ -1,15 +1,30 @@
--- `watcher_c::watcher_scan` meets its contract: too few words, a refused scan, an accepted one, whose state is stored.
+-- `watcher_c::watcher_scan` meets its contract: too few words, a refused scan, an accepted one, whose
+-- state is stored.
+use mathlib.Core.Path.{ap₂}
 use denote.Ref.{now}
 use Rattle.stream.specs.Calls.{lists, call}
-use Rattle.watcher_c.proofs.Answers.{scan-short, scan-accepted, scan-refused}
+use Rattle.watcher_c.specs.Interface.{scanCall, scanGiven}
+use Rattle.watcher_c.proofs.Answers.{call-short, call-accepted, call-refused}
 use borrow.Author.Needs.{needs}
 use Rattle.watcher_c.proofs.watcher_scan.Statement.{statement}
 use Rattle.watcher_c.proofs.watcher_scan.Tie as tie
 
+-- the scan
+abbrev called : tie.After-struct-known → tie.After-scan
+called c =
+    c .before .before .before .before .before .before
+
+-- the test of the words, and what was handed in
+abbrev tested : tie.After-scan → tie.Else1
+tested c = c .before .before .before .before .before
+
+abbrev begun : tie.After-slice-known3 → tie.Start
+begun c = c .before .before .before .before .before
+
 returns : tie.Need-returns
 returns c =
-    let a = c .before .before .before .before .before .before .args in
-    scan-short (now (a .table)) (now (a .state)) (call (a .allowance) (now (a .block)) (lists (now (a .ids)) (now (a .offsets)))) (c .if1 .taken)
+    let a = begun (c .before) .args in
+    call-short (scanCall (now (a .table)) (call (a .allowance) (now (a .block)) (lists (now (a .ids)) (now (a .offsets))))) (now (a .state)) (c .if1 .taken)
 
 load-requires : tie.Need-load-requires
 load-requires c κs = search needs
@@ -33,12 +48,13 @@ returns-2 : tie.Need-returns-2
 returns-2 c =
     let at-store = c .before .before in
     let at-if2 = at-store .before .before in
-    let at-scan = at-if2 .before .before .before .before .before .before .before in
-    let at-load = at-scan .before .before .before in
-    let at-if1 = at-load .before .before in
-    let a = at-if1 .before .before .before .before .before .before .args in
-    let e = at-scan .scan .ensures in
-    scan-accepted (now (a .table)) (now (a .state)) (call (a .allowance) (now (a .block)) (lists (now (a .ids)) (now (a .offsets)))) (at-if1 .if1 .left) (at-load .load .ensures) (e .0) (e .1) (at-if2 .if2 .taken) (at-store .store .ensures)
+    let at-call = called (at-if2 .before) in
+    let at-if1 = tested at-call in
+    let at-load = at-call .before .before .before in
+    let a = begun (at-if1 .before) .args in
+    let e = at-call .scan .ensures in
+    call-accepted (scanCall (now (a .table)) (call (a .allowance) (now (a .block)) (lists (now (a .ids)) (now (a .offsets))))) (now (a .state))
+    (at-if1 .if1 .left) (at-load .load .ensures) (ap₂ scanGiven (e .0) (e .1)) (at-if2 .if2 .taken) (at-store .store .ensures)
 
 same-length-4 : tie.Need-same-length-4
 same-length-4 c = search needs
@@ -51,12 +67,13 @@ same-length-6 c = search needs
 
 returns-3 : tie.Need-returns-3
 returns-3 c =
-    let at-scan = c .before .before .before .before .before .before .before in
-    let at-load = at-scan .before .before .before in
-    let at-if1 = at-load .before .before in
-    let a = at-if1 .before .before .before .before .before .before .args in
-    let e = at-scan .scan .ensures in
-    scan-refused (now (a .table)) (now (a .state)) (call (a .allowance) (now (a .block)) (lists (now (a .ids)) (now (a .offsets)))) (at-if1 .if1 .left) (at-load .load .ensures) (e .0) (e .1) (c .if2 .left)
+    let at-call = called (c .before) in
+    let at-if1 = tested at-call in
+    let at-load = at-call .before .before .before in
+    let a = begun (at-if1 .before) .args in
+    let e = at-call .scan .ensures in
+    call-refused (scanCall (now (a .table)) (call (a .allowance) (now (a .block)) (lists (now (a .ids)) (now (a .offsets))))) (now (a .state))
+    (at-if1 .if1 .left) (at-load .load .ensures) (ap₂ scanGiven (e .0) (e .1)) (c .if2 .left)
 
 pub watcher-scan-spec : {M : Type 1} → statement M
 watcher-scan-spec =
