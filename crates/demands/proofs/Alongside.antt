@@ -1,12 +1,12 @@
--- A stream with starts takes bytes as its stream does: the same states, as many reports, the same costs, so as many bytes of a block. And its starts stay in order,
--- since none is above the bytes taken before the byte that gave it. Assumes nothing.
+-- The starts of a stream stay in order, since none is above the bytes taken before the byte that gave
+-- it. Assumes nothing.
 use mathlib.Core.Path.{_≡_, refl, sym, ap, ap₂, _∙_}
 use mathlib.Core.Bool.{Bool, true, false, true≢false, cond, not, _&&_}
-use mathlib.Core.List.{List, [], _∷_, _++_}
-use Prim.Native.Nat.{ℕ, zero, suc, _+_, _≤_, _<_}
+use mathlib.Core.List.{List}
+use Prim.Native.Nat.{ℕ, zero, suc, _≤_, _<_}
 use native.Mathlib.Omega.{arith}
-use lib.Dec.{eqb, ltb, leb}
-use lib.ListN.{length, getD, length-append}
+use lib.Dec.{eqb, ltb}
+use lib.ListN.{getD}
 use borrow.Author.Tests.{lt-ltb, eq-eqb}
 use Rattle.sets.specs.Set.{on, has, any, emptySet}
 use Rattle.sets.proofs.Laws.{any-never, has-empty, has-intersection, on-zero}
@@ -18,79 +18,18 @@ use Rattle.kinds.specs.declared.Side.{Side}
 use Rattle.kinds.specs.Side.{sideOf}
 use Rattle.steps.specs.Step.{listFrom, keepersOf, startAfter, steppedStarts, startAt}
 use Rattle.stream.specs.declared.Stream.{Stream}
-use Rattle.stream.specs.Byte.{Machine, after, reportsBy, costBy, withinBy, fitsBy, due, runReports, runMarks, twoReports, nextLive, nextHeld, nextPending, lateTest, ownTest, given, byteState, plain, stateAfter, fits}
-use Rattle.stream.specs.Byte as stream
+use Rattle.stream.specs.Byte.{after, nextLive, nextHeld, nextPending, byteState}
 use Rattle.traced.specs.declared.Traced.{Traced}
-use Rattle.traced.specs.Byte.{keeping, nextStarts, nextState, byteReports, lateStart, ownStart, traced}
-use Rattle.traced.specs.Byte as starts
+use Rattle.traced.specs.Byte.{keeping, nextStarts, nextState, traced}
 use Rattle.traced.specs.Valid.{startOk, startsOk}
 use Rattle.traced.specs.Calls.{noStarts}
 use Rattle.traced.proofs.Accepting.{inOrder}
 use Rattle.demands.proofs.Starting.{list-entry}
 
--- ---- as the stream goes
-
--- how many reports a run has does not depend on what they are
-run-length : {R Q : Type 0} (test : ℕ → Bool) (marks : ℕ) (f : ℕ → R) (g : ℕ → Q) (n : ℕ) → length (runReports test marks f n) ≡ length (runReports test marks g n)
-unfolding runReports
-run-length test marks f g zero = refl
-run-length {R} {Q} test marks f g (suc n) =
-    length-append (runReports test marks f n) (cond (due test marks n) (f n ∷ []) [])
-    ∙ ap₂ (λ (i j : ℕ). i + j) (run-length test marks f g n) (one (due test marks n))
-    ∙ sym (length-append (runReports test marks g n) (cond (due test marks n) (g n ∷ []) []))
-  where
-    one : (b : Bool) → length (cond b (f n ∷ []) []) ≡ length (cond b (g n ∷ []) [])
-    one true = refl
-    one false = refl
-
-module _ (w : Automaton) where
-  two-length : {R Q : Type 0} (one two : ℕ → Bool) (marks : ℕ) (f g : ℕ → R) (h i : ℕ → Q) → length (twoReports w one two marks f g) ≡ length (twoReports w one two marks h i)
-  unfolding twoReports
-  two-length one two marks f g h i =
-      length-append (runReports one marks f (w .rules)) (runReports two (runMarks w one marks) g (w .rules))
-      ∙ ap₂ (λ (x y : ℕ). x + y) (run-length one marks f h (w .rules)) (run-length two (runMarks w one marks) g i (w .rules))
-      ∙ sym (length-append (runReports one marks h (w .rules)) (runReports two (runMarks w one marks) i (w .rules)))
-
-  module _ (z : Traced) (block : List ℕ) where
-    pub stream-after : (n : ℕ) → after (traced w) z block n .stream ≡ stateAfter w (z .stream) block n
-    unfolding after nextState
-    stream-after zero = refl
-    stream-after (suc n) = ap (λ (s : Stream). byteState w s (getD block n 0)) (stream-after n)
-
-    byte-length : (n : ℕ) → length (byteReports w (after (traced w) z block n) (getD block n 0)) ≡ length (stream.byteReports w (stateAfter w (z .stream) block n) (getD block n 0))
-    unfolding byteReports stream.byteReports
-    byte-length n =
-        let y : Traced = after (traced w) z block n in
-        let x : ℕ = getD block n 0 in
-        two-length (lateTest w (y .stream) x) (ownTest w (y .stream) x) (y .stream .reported)
-        (starts.given w (y .stream .taken) (lateStart w y x)) (starts.given w (suc (y .stream .taken)) (ownStart w y x)) (given w (y .stream .taken)) (given w (suc (y .stream .taken)))
-        ∙ ap (λ (s : Stream). length (stream.byteReports w s x)) (stream-after n)
-
-    reports-length : (n : ℕ) → length (reportsBy (traced w) z block n) ≡ length (reportsBy (plain w) (z .stream) block n)
-    unfolding reportsBy
-    reports-length zero = refl
-    reports-length (suc n) =
-        length-append (reportsBy (traced w) z block n) (byteReports w (after (traced w) z block n) (getD block n 0))
-        ∙ ap₂ (λ (i j : ℕ). i + j) (reports-length n) (byte-length n)
-        ∙ sym (length-append (reportsBy (plain w) (z .stream) block n) (stream.byteReports w (stateAfter w (z .stream) block n) (getD block n 0)))
-
-    pub cost-same : (n : ℕ) → costBy (traced w) z block n ≡ costBy (plain w) (z .stream) block n
-    unfolding costBy
-    cost-same zero = refl
-    cost-same (suc n) = ap₂ (λ (i : ℕ) (s : Stream). i + suc (stream.busyOf s)) (cost-same n) (stream-after n)
-
-    -- so as many bytes fit
-    pub fits-same : (allowance room n : ℕ) → fitsBy (traced w) z allowance block room n ≡ fits w (z .stream) allowance block room n
-    unfolding fitsBy
-    fits-same allowance room zero = refl
-    fits-same allowance room (suc n) =
-        ap₂ (λ (i j : ℕ). cond (leb i room && leb j allowance) (suc n) (fitsBy (traced w) z allowance block room n)) (reports-length (suc n)) (cost-same (suc n))
-        ∙ ap (λ (k : ℕ). cond (withinBy (plain w) (z .stream) allowance block room (suc n)) (suc n) k) (fits-same allowance room n)
-
 -- ---- starts in order
 
 -- numbers that are 0 where nothing is there, and else below the bytes taken
-order-list : (n : ℕ) (there : ℕ → Bool) (taken : ℕ) (f : ℕ → ℕ) → ((q : ℕ) → q < n → there q ≡ true → f q < taken) → ((q : ℕ) → q < n → there q ≡ false → f q ≡ 0)
+pub order-list : (n : ℕ) (there : ℕ → Bool) (taken : ℕ) (f : ℕ → ℕ) → ((q : ℕ) → q < n → there q ≡ true → f q < taken) → ((q : ℕ) → q < n → there q ≡ false → f q ≡ 0)
     → startsOk n there taken (listFrom 0 n f) ≡ true
 unfolding startsOk
 order-list n there taken f below none =

@@ -29,3 +29,4 @@ pub mod Logs
 pub mod Cases
 pub mod Example
 pub mod Alone
+pub mod Alike

@@ -39,7 +39,9 @@ use Rattle.demands.proofs.Carried.{Carries}
 use Rattle.demands.proofs.TwoRuns.{Told, placed, twoRuns}
 use Rattle.demands.proofs.Tracked.{Tracked, opens}
 use Rattle.demands.proofs.Starting.{told, told-last, Started, starts-none, byte-turn, closing-turn, started}
-use Rattle.demands.proofs.Alongside.{stream-after, cost-same, fits-same, order-after, order-none}
+use Rattle.traced.proofs.Same as same
+use Rattle.traced.proofs.Same.{stream-after, cost-after}
+use Rattle.demands.proofs.Alongside.{order-after, order-none}
 use Rattle.demands.proofs.Whole.{byteEntries, closingOf, whole}
 use Rattle.demands.proofs.Bytewise.{two-given}
 use Rattle.demands.proofs.Lawful.{givenBy, Lawful, Serves, joined-bytes}
@@ -229,7 +231,7 @@ module _ (t : List ℕ) where
       omega (
         arith,
         taken-is t z c (sym (scan-number t z c) ∙ ok),
-        fits-same (automaton t) z (c .block) (c .allowance) (space (c .slots)) (length (c .block)),
+        same.fits-after (automaton t) z (c .block) (c .allowance) (space (c .slots)) (length (c .block)),
         one-fits (automaton t) (z .stream) (c .block) (c .allowance) (space (c .slots)) (length (c .block)) some (omega (arith, scan-holds z c ok .space)) paid,
       )
 
@@ -298,8 +300,8 @@ writes t = record {
       let r = refused-scan t z c (λ e. bad (scan-number t z c ∙ e)) in
       (ap (λ (a : Scanned). a .taken) r, ap (λ (a : Scanned). a .used) r, ap (λ (a : Scanned). a .reports) r);
   costs = λ z block n. (
-    subst (λ (i : ℕ). n ≤ i) (sym (cost-same (automaton t) z block n)) (cost-some (automaton t) (z .stream) block n),
-    subst (λ (i : ℕ). i ≤ 257 * n) (sym (cost-same (automaton t) z block n)) (cost-few (automaton t) (z .stream) block n),
+    subst (λ (i : ℕ). n ≤ i) (sym (cost-after (automaton t) z block n)) (cost-some (automaton t) (z .stream) block n),
+    subst (λ (i : ℕ). i ≤ 257 * n) (sym (cost-after (automaton t) z block n)) (cost-few (automaton t) (z .stream) block n),
   );
   fronts = λ z part rest l. λ i.
       lists (column-front (λ r. r .pair .id) part rest (l .ids) i) (column-front (λ r. r .pair .end) part rest (l .offsets) i)

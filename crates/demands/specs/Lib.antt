@@ -8,3 +8,4 @@ pub mod Demands
 pub mod Cases
 pub mod Example
 pub mod Alone
+pub mod Alike

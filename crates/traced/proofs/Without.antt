@@ -3,7 +3,7 @@
 use mathlib.Core.Path.{_≡_, refl, sym, ap, ap₂, _∙_}
 use mathlib.Core.Bool.{Bool, true, false, true≢false, cond, not, _&&_, _||_, and-false}
 use mathlib.Core.List.{List, [], _++_, map}
-use Prim.Native.Nat.{ℕ, zero, suc, _<_, _≤_}
+use Prim.Native.Nat.{ℕ, zero, suc, _-_, _<_, _≤_}
 use native.Mathlib.Omega.{arith}
 use lib.Dec.{eqb, ltb}
 use lib.ListN.{getD}
@@ -19,10 +19,10 @@ use Rattle.steps.specs.Step.{keepersOf, stepped, startAt}
 use Rattle.stream.specs.declared.Stream.{Stream}
 use Rattle.stream.specs.Valid.{needsStarts}
 use Rattle.stream.specs.Byte as stream
-use Rattle.stream.specs.Byte.{after, reportsBy, runReports, runMarks, twoReports, nextLive, nextHeld, nextPending, lateTest, ownTest, stateAfter, reportsOf}
+use Rattle.stream.specs.Byte.{after, reportsBy, runReports, runMarks, twoReports, nextLive, nextHeld, nextPending, lateTest, ownTest, heldTest, endTest, stateAfter, reportsOf}
 use Rattle.traced.specs.declared.Starts.{Starts}
 use Rattle.traced.specs.declared.Traced.{Traced}
-use Rattle.traced.specs.Byte.{Start, Report, none, from, given, keeping, lateStart, ownStart, nextStarts, nextState, byteReports, traced}
+use Rattle.traced.specs.Byte.{Start, Report, none, from, given, keeping, lateStart, ownStart, endStart, nextStarts, nextState, byteReports, closeReports, traced}
 use Rattle.traced.specs.Calls.{noStarts}
 use Rattle.traced.proofs.Carrying.{stepped-none, list-ext, pending-ruled}
 use Rattle.traced.proofs.Delivering.{two-give}
@@ -117,6 +117,15 @@ module _ (w : Automaton) (needs : needsStarts w ≡ false) where
         (given w (suc (s .taken)) (ownStart w z x)) (λ a. plainly (stream.given w (suc (s .taken)) a))
         (λ a l e. plain-given (s .taken) (lateStart w z x) a l) (λ a l e. plain-given (suc (s .taken)) (ownStart w z x) a l)
         ∙ sym (two-map w plainly (lateTest w s x) (ownTest w s x) (s .reported) (stream.given w (s .taken)) (stream.given w (suc (s .taken))))
+
+    pub close-plain : (z : Traced) → closeReports w z ≡ map plainly (stream.closeReports w (z .stream))
+    unfolding closeReports stream.closeReports
+    close-plain z =
+        let s : Stream = z .stream in
+        two-give w (heldTest w s) (endTest w s) (s .reported) (given w (s .taken - 1) (λ a. getD (z .starts .pairs) a 0)) (λ a. plainly (stream.given w (s .taken - 1) a))
+        (given w (s .taken) (endStart w z)) (λ a. plainly (stream.given w (s .taken) a))
+        (λ a l e. plain-given (s .taken - 1) (λ a. getD (z .starts .pairs) a 0) a l) (λ a l e. plain-given (s .taken) (endStart w z) a l)
+        ∙ sym (two-map w plainly (heldTest w s) (endTest w s) (s .reported) (stream.given w (s .taken - 1)) (stream.given w (s .taken)))
 
     -- some bytes
     module _ (s : Stream) (block : List ℕ) where
