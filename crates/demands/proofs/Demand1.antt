@@ -31,6 +31,10 @@ use Rattle.stream.proofs.Stream.«open».Met.{met as open-met}
 use Rattle.stream.proofs.Stream.scan.Met.{met as scan-met}
 use Rattle.stream.proofs.Stream.close.Met.{met as close-met}
 use Rattle.stream.proofs.Stream.busy.Met.{met as busy-met}
+use Rattle.traced.proofs.Traced.«open».Met.{met as trace-open-met}
+use Rattle.traced.proofs.Traced.scan.Met.{met as trace-scan-met}
+use Rattle.traced.proofs.Traced.close.Met.{met as trace-close-met}
+use Rattle.traced.proofs.Traced.busy.Met.{met as trace-busy-met}
 use Rattle.demands.specs.Chain.{this, emptying, adding, reading-block, numberOf, tableAfter}
 use Rattle.demands.specs.Demand1.{Answers, CallsRefused, Refusals, Demand1}
 use Rattle.demands.specs.Kinds.{short, traces}
@@ -46,6 +50,10 @@ answers = record {
   scanning = scan-met;
   closing = close-met;
   busy = busy-met;
+  trace-opening = trace-open-met;
+  trace-scanning = trace-scan-met;
+  trace-closing = trace-close-met;
+  trace-busy = trace-busy-met;
   writing-block = card-write-met;
   reading-block = card-read-met;
   showing = matched-bytes-met;

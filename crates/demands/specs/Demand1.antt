@@ -27,6 +27,10 @@ use Rattle.stream.proofs.Stream.«open».Statement.{statement as stream-open}
 use Rattle.stream.proofs.Stream.scan.Statement.{statement as stream-scan}
 use Rattle.stream.proofs.Stream.close.Statement.{statement as stream-close}
 use Rattle.stream.proofs.Stream.busy.Statement.{statement as stream-busy}
+use Rattle.traced.proofs.Traced.«open».Statement.{statement as traced-open}
+use Rattle.traced.proofs.Traced.scan.Statement.{statement as traced-scan}
+use Rattle.traced.proofs.Traced.close.Statement.{statement as traced-close}
+use Rattle.traced.proofs.Traced.busy.Statement.{statement as traced-busy}
 
 -- "every call ends and gives one fixed answer": each call's answer and all that it was lent are,
 -- afterwards, what these definitions give for what it was handed
@@ -48,6 +52,12 @@ pub record Answers : Type 2 where
   pub closing : {M : Type 1} → stream-close M
   -- the busy figure: `busyOf`
   pub busy : {M : Type 1} → stream-busy M
+  -- the same four calls on a stream with starts (crates/traced/src/lib.rt), by the definitions of
+  -- the same names in its specs, with four lists
+  pub trace-opening : {M : Type 1} → traced-open M
+  pub trace-scanning : {M : Type 1} → traced-scan M
+  pub trace-closing : {M : Type 1} → traced-close M
+  pub trace-busy : {M : Type 1} → traced-busy M
   -- writing a block of the table (crates/card/src/lib.rt): number and place are `writeAnswer`, the
   -- block is `writtenBlock`
   pub writing-block : {M : Type 1} → card-write M
