@@ -38,7 +38,7 @@ use Rattle.traced.proofs.Accepting.{inOrder}
 use Rattle.traced.proofs.Same.{cost-after, fits-after}
 use Rattle.traced.proofs.Without.{plainly, state-plain, reports-plain, close-plain}
 use Rattle.demands.specs.Alike.{bare, pairLists, pairCall, Roomy, times, zeroed, OpensAlike, ScansAlike, ClosesAlike, Alike}
-use Rattle.demands.proofs.Alongside.{order-list}
+use Rattle.traced.proofs.Ordered.{order-list}
 
 -- ---- the same states fit
 

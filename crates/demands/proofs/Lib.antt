@@ -9,7 +9,6 @@ pub mod TwoRuns
 pub mod Endings
 pub mod Tracked
 pub mod Starting
-pub mod Alongside
 pub mod Whole
 pub mod Bytewise
 pub mod Others

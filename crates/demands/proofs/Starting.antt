@@ -6,7 +6,7 @@ use mathlib.Core.Logic.{inl, inr, _↔_}
 use mathlib.Core.Bool.{Bool, true, false, cond, _&&_, and-true}
 use mathlib.Core.List.{List, [], _∷_, _++_}
 use Prim.Native.Nat.{ℕ, zero, suc, _+_, _-_, _^_, _≤_, _<_}
-use native.Mathlib.Nat.{lt-trans, zero-add}
+use native.Mathlib.Nat.{lt-trans}
 use native.Mathlib.Omega.{arith}
 use native.Mathlib.Decide.{ℕ-discrete}
 use lib.Dec.{T, eqb, lit<}
@@ -22,7 +22,7 @@ use Rattle.table.specs.Gaps.{between, beforeLast, unsettled, atEnd, gapOf, last
 use Rattle.table.specs.Automaton.{Automaton, last as lastIn}
 use Rattle.table.proofs.GapBounds.{between-inner, beforeLast-follow, atEnd-last}
 use Rattle.steps.specs.Step.{listFrom, keepersOf, startAfter, steppedStarts, startAt}
-use Rattle.steps.proofs.Carrying.{list-at}
+use Rattle.traced.proofs.Ordered.{list-entry}
 use Rattle.stream.specs.declared.Stream.{Stream}
 use Rattle.stream.specs.Byte.{after, nextLive, nextHeld, nextPending, byteState, lateTest, ownTest, heldTest, endTest}
 use Rattle.traced.specs.declared.Traced.{Traced}
@@ -47,10 +47,6 @@ use Rattle.demands.proofs.Carried.{Carries, Within, formOf}
 use Rattle.demands.proofs.TwoRuns.{Told, Turn}
 use Rattle.demands.proofs.Endings.{newline-side, Late, last-byte, late-falls}
 use Rattle.demands.proofs.Tracked.{Alive, Tracked, last-at, comes-is, tracks, byte-tested, closing-tested}
-
--- entry q of a list of n numbers
-pub list-entry : (n : ℕ) (f : ℕ → ℕ) (q : ℕ) → q < n → getD (listFrom 0 n f) q 0 ≡ f q
-list-entry n f q lq = list-at 0 n f q lq ∙ ap f (zero-add q)
 
 -- what a traced stream goes by at byte x, and at the closing: the starts of rules that report none are 0
 unfoldable pub told : Automaton → Traced → ℕ → Told

@@ -31,6 +31,9 @@ use Rattle.traced.specs.Byte as starts
 use Rattle.traced.specs.Valid.{valid}
 use Rattle.traced.specs.Calls.{Lists, lists, Call, noStarts, opened, space, inStream, fromOffset, written, scanNumber, closeNumber, callNumber, takenBy, scanned, scannedLists, closed, closedLists}
 use Rattle.traced.proofs.Accepting.{inOrder, both, valid-parts, Accepted, accepted, close-number, not-refused}
+use Rattle.traced.proofs.Same.{stream-after, cost-after}
+pub use Rattle.traced.proofs.Results.{ended, refused-scan, scan-number, refused-close, close-number-is, close-holds, close-state, close-valid, opened-is, opened-fits, progress}
+use Rattle.traced.proofs.Results.{accepted-scan, taken-is, scanned-lists, accepted-close, scan-holds, scan-state, taken-within, scan-valid, scan-limit}
 use Rattle.regex.specs.Rule.{Rule, ByteSet}
 use Rattle.regex.specs.Ordered.{Pair, Report, report, Ordered}
 use Rattle.demands.specs.Kinds.{withStart, tracesIn, traces}
@@ -39,9 +42,6 @@ use Rattle.demands.proofs.Carried.{Carries}
 use Rattle.demands.proofs.TwoRuns.{Told, placed, twoRuns}
 use Rattle.demands.proofs.Tracked.{Tracked, opens}
 use Rattle.demands.proofs.Starting.{told, told-last, Started, starts-none, byte-turn, closing-turn, started}
-use Rattle.traced.proofs.Same as same
-use Rattle.traced.proofs.Same.{stream-after, cost-after}
-use Rattle.demands.proofs.Alongside.{order-after, order-none}
 use Rattle.demands.proofs.Whole.{byteEntries, closingOf, whole}
 use Rattle.demands.proofs.Bytewise.{two-given}
 use Rattle.demands.proofs.Lawful.{givenBy, Lawful, Serves, joined-bytes}
@@ -52,10 +52,6 @@ use Rattle.demands.proofs.Streams.{ordered-by}
 -- a report of the ordered list
 abbrev pub trace : Trace → Report
 trace r = (r .pair .id, r .pair .end, inStream (r .start))
-
--- the state after a closing
-abbrev pub ended : Traced → Traced
-ended z = record { stream = shut (z .stream); starts = z .starts }
 
 -- ---- one call
 
@@ -78,140 +74,42 @@ module _ (t : List ℕ) (z : Traced) (c : Call) where
   abbrev m : Machine Traced Trace
   m = traced (automaton t)
 
-  accepted-scan : callNumber t z c ≡ 0 → scanned t z c ≡ record {
-    number = 0;
-    taken = takenBy t z c;
-    reports = length (reportsBy m z (c .block) (takenBy t z c));
-    used = costBy m z (c .block) (takenBy t z c);
-    traced = after m z (c .block) (takenBy t z c);
-  }
-  unfolding scanned
-  accepted-scan ok = rw (eq-eqb (callNumber t z c) 0 ok)
-
-  pub refused-scan : ¬ (callNumber t z c ≡ 0) → scanned t z c ≡ record { number = callNumber t z c; taken = 0; reports = 0; used = 0; traced = z }
-  unfolding scanned
-  refused-scan bad = rw (ne-eqb (callNumber t z c) 0 bad)
-
-  pub scan-number : scanned t z c .number ≡ callNumber t z c
-  scan-number = go (ℕ-discrete (callNumber t z c) 0)
-    where
-      go : Dec (callNumber t z c ≡ 0) → scanned t z c .number ≡ callNumber t z c
-      go (yes ok) = ap (λ (a : Scanned). a .number) (accepted-scan ok) ∙ sym ok
-      go (no bad) = ap (λ (a : Scanned). a .number) (refused-scan bad)
-
-  taken-is : callNumber t z c ≡ 0 → scanned t z c .taken ≡ takenBy t z c
-  taken-is ok = ap (λ (a : Scanned). a .taken) (accepted-scan ok)
-
-  taken-le : takenBy t z c ≤ length (c .block)
-  unfolding takenBy
-  taken-le = fits-le m z (c .block) (c .allowance) (space (c .slots)) (length (c .block))
-
-  scanned-lists : callNumber t z c ≡ 0 → scannedLists t z c ≡ written (z .stream .taken) (reportsBy m z (c .block) (takenBy t z c)) (c .slots)
-  unfolding scannedLists
-  scanned-lists ok = rw (eq-eqb (callNumber t z c) 0 ok)
-
   scan-reports : callNumber t z c ≡ 0 → tracesIn (scanned t z c .reports) (scannedLists t z c) ≡ givenBy m trace z (c .block) (takenBy t z c)
   unfolding scannedLists
   scan-reports ok =
       ap₂ (λ (n : ℕ) (b : Bool). tracesIn n (cond b (written (z .stream .taken) (reportsBy m z (c .block) (takenBy t z c)) (c .slots)) (c .slots)))
-      (ap (λ (a : Scanned). a .reports) (accepted-scan ok)) (eq-eqb (callNumber t z c) 0 ok)
+      (ap (λ (a : Scanned). a .reports) (accepted-scan t z c ok)) (eq-eqb (callNumber t z c) 0 ok)
       ∙ slots-hold (z .stream .taken) (reportsBy m z (c .block) (takenBy t z c)) (c .slots)
 
 module _ (t : List ℕ) (z : Traced) (l : Lists) where
-  abbrev number : ℕ
-  number = closeNumber t z (space l)
-
-  accepted-close : closeNumber t z (space l) ≡ 0 → closed t z l ≡ record { number = 0; reports = length (closeReports (automaton t) z); traced = ended z }
-  unfolding closed
-  accepted-close ok = rw (eq-eqb number 0 ok)
-
-  pub refused-close : ¬ (closeNumber t z (space l) ≡ 0) → closed t z l ≡ record { number = closeNumber t z (space l); reports = 0; traced = z }
-  unfolding closed
-  refused-close bad = rw (ne-eqb number 0 bad)
-
-  pub close-number-is : closed t z l .number ≡ closeNumber t z (space l)
-  close-number-is = go (ℕ-discrete number 0)
-    where
-      go : Dec (number ≡ 0) → closed t z l .number ≡ number
-      go (yes ok) = ap (λ (a : Closed). a .number) (accepted-close ok) ∙ sym ok
-      go (no bad) = ap (λ (a : Closed). a .number) (refused-close bad)
-
   close-reports : closeNumber t z (space l) ≡ 0 → tracesIn (closed t z l .reports) (closedLists t z l) ≡ map trace (closeReports (automaton t) z)
   unfolding closedLists
   close-reports ok =
       ap₂ (λ (n : ℕ) (b : Bool). tracesIn n (cond b (written (z .stream .taken) (closeReports (automaton t) z) l) l))
-      (ap (λ (a : Closed). a .reports) (accepted-close ok)) (eq-eqb number 0 ok)
+      (ap (λ (a : Closed). a .reports) (accepted-close t z l ok)) (eq-eqb (closeNumber t z (space l)) 0 ok)
       ∙ slots-hold (z .stream .taken) (closeReports (automaton t) z) l
 
 -- ---- the machine of the calls
-
--- the state after some bytes of a valid one
-module _ (w : Automaton) (z : Traced) (block : List ℕ) (fits : Fitting w (z .stream)) (ordered : inOrder z ≡ true) (n : ℕ) (short : z .stream .taken + n ≤ streamLimit) where
-  fits-after : Fitting w (after (traced w) z block n .stream)
-  fits-after = subst (Fitting w) (sym (stream-after w z block n)) (fitting-after w (z .stream) block fits n short)
-
-  valid-after : valid w (after (traced w) z block n) ≡ true
-  valid-after = both w (after (traced w) z block n) (fitted w (after (traced w) z block n .stream) fits-after) (order-after w z block ordered n)
-
--- the closed mark is no part of the test
-valid-ended : (w : Automaton) (z : Traced) → valid w (ended z) ≡ valid w z
-unfolding valid sound sameCounts liveInside marksSingle underLimit heldInside pendingInside pendingLate begun
-valid-ended w z = refl
 
 module _ (t : List ℕ) where
   abbrev w : Automaton
   w = automaton t
 
-  scan-holds : (z : Traced) (c : Call) → scanned t z c .number ≡ 0 → Accepted t z (length (c .block)) (space (c .slots))
-  scan-holds z c ok = accepted t z (length (c .block)) (space (c .slots)) (sym (scan-number t z c) ∙ ok)
-
-  pub close-holds : (z : Traced) (l : Lists) → closed t z l .number ≡ 0 → Accepted t z 0 (space l)
-  close-holds z l ok = accepted t z 0 (space l) (close-number t z (space l) ∙ sym (close-number-is t z l) ∙ ok)
-
-  scan-state : (z : Traced) (c : Call) → scanned t z c .number ≡ 0 → scanned t z c .traced ≡ after (traced w) z (c .block) (scanned t z c .taken)
-  scan-state z c ok =
-      let e : callNumber t z c ≡ 0 = sym (scan-number t z c) ∙ ok in
-      ap (λ (a : Scanned). a .traced) (accepted-scan t z c e) ∙ ap (after (traced w) z (c .block)) (sym (taken-is t z c e))
-
-  taken-within : (z : Traced) (c : Call) → scanned t z c .number ≡ 0 → scanned t z c .taken ≤ length (c .block)
-  taken-within z c ok = omega (arith, taken-is t z c (sym (scan-number t z c) ∙ ok), taken-le t z c)
-
-  scan-valid : (z : Traced) (c : Call) → scanned t z c .number ≡ 0 → valid w (scanned t z c .traced) ≡ true
-  scan-valid z c ok =
-      let h = scan-holds z c ok in
-      ap (valid w) (scan-state z c ok)
-      ∙ valid-after w z (c .block) (h .state) (h .ordered) (scanned t z c .taken) (omega (arith, h .short, taken-within z c ok))
-
-  pub close-state : (z : Traced) (l : Lists) → closed t z l .number ≡ 0 → closed t z l .traced ≡ ended z
-  close-state z l ok = ap (λ (a : Closed). a .traced) (accepted-close t z l (sym (close-number-is t z l) ∙ ok))
-
-  pub close-valid : (z : Traced) (l : Lists) → closed t z l .number ≡ 0 → valid w (closed t z l .traced) ≡ true
-  close-valid z l ok =
-      let h = close-holds z l ok in
-      ap (valid w) (close-state z l ok) ∙ valid-ended w z ∙ both w z (fitted w (z .stream) (h .state)) (h .ordered)
-
-  scan-limit : (z : Traced) (c : Call) → scanned t z c .number ≡ 0 → scanned t z c .traced .stream .taken ≤ streamLimit
-  scan-limit z c ok =
-      let h = scan-holds z c ok in
-      let n : ℕ = scanned t z c .taken in
-      subst (λ (y : Traced). y .stream .taken ≤ streamLimit) (sym (scan-state z c ok))
-      (fits-after w z (c .block) (h .state) (h .ordered) n (omega (arith, h .short, taken-within z c ok)) .limit)
-
   pub lawful : Lawful traces t (traced (automaton t)) trace (closeReports (automaton t)) ended
   unfolding zip mathlib.Core.List.zipWith
   lawful = record {
-    scan-open = λ z c ok. scan-holds z c ok .still-open;
-    scan-taken = taken-within;
-    scan-state = scan-state;
+    scan-open = λ z c ok. scan-holds t z c ok .still-open;
+    scan-taken = taken-within t;
+    scan-state = scan-state t;
     scan-reports = λ z c ok.
         let e : callNumber t z c ≡ 0 = sym (scan-number t z c) ∙ ok in
         scan-reports t z c e ∙ ap (givenBy (traced w) trace z (c .block)) (sym (taken-is t z c e));
-    scan-limit = scan-limit;
+    scan-limit = scan-limit t;
     scan-refused = λ z c bad.
         let r = refused-scan t z c (λ e. bad (scan-number t z c ∙ e)) in
         (ap (λ (a : Scanned). a .taken) r, ap (λ (a : Scanned). tracesIn (a .reports) (scannedLists t z c)) r, ap (λ (a : Scanned). a .traced) r);
-    close-open = λ z l ok. close-holds z l ok .still-open;
-    close-state = close-state;
+    close-open = λ z l ok. close-holds t z l ok .still-open;
+    close-state = close-state t;
     close-reports = λ z l ok. close-reports t z l (sym (close-number-is t z l) ∙ ok);
     close-refused = λ z l bad.
         let r = refused-close t z l (λ e. bad (close-number-is t z l ∙ e)) in
@@ -225,16 +123,6 @@ module _ (t : List ℕ) where
 
   -- ---- states that fit
 
-  pub progress : (z : Traced) (c : Call) → scanned t z c .number ≡ 0 → 257 ≤ c .allowance → 0 < length (c .block) → 0 < scanned t z c .taken
-  unfolding takenBy automaton
-  progress z c ok paid some =
-      omega (
-        arith,
-        taken-is t z c (sym (scan-number t z c) ∙ ok),
-        same.fits-after (automaton t) z (c .block) (c .allowance) (space (c .slots)) (length (c .block)),
-        one-fits (automaton t) (z .stream) (c .block) (c .allowance) (space (c .slots)) (length (c .block)) some (omega (arith, scan-holds z c ok .space)) paid,
-      )
-
   module _ (table : isTable t ≡ true) where
     scan-fit : (z : Traced) → valid w z ≡ true → (len room : ℕ) → Fit (scanNumber t z len room)
     unfolding scanNumber
@@ -247,14 +135,14 @@ module _ (t : List ℕ) where
     scan-fits z c fits = go (ℕ-discrete (scanned t z c .number) 0)
       where
         go : Dec (scanned t z c .number ≡ 0) → valid w (scanned t z c .traced) ≡ true
-        go (yes ok) = scan-valid z c ok
+        go (yes ok) = scan-valid t z c ok
         go (no bad) = ap (λ (a : Scanned). valid w (a .traced)) (refused-scan t z c (λ e. bad (scan-number t z c ∙ e))) ∙ fits
 
     close-fits : (z : Traced) (l : Lists) → valid w z ≡ true → valid w (closed t z l .traced) ≡ true
     close-fits z l fits = go (ℕ-discrete (closed t z l .number) 0)
       where
         go : Dec (closed t z l .number ≡ 0) → valid w (closed t z l .traced) ≡ true
-        go (yes ok) = close-valid z l ok
+        go (yes ok) = close-valid t z l ok
         go (no bad) = ap (λ (a : Closed). valid w (a .traced)) (refused-close t z l (λ e. bad (close-number-is t z l ∙ e))) ∙ fits
 
     pub serves : Serves traces t (λ z. valid w z ≡ true)
@@ -267,22 +155,11 @@ module _ (t : List ℕ) where
       close-accepted = λ z l fits running wide.
           close-number-is t z l ∙ sym (close-number t z (space l))
           ∙ sym (not-refused t z 0 (space l) table fits running (omega (arith, limit z fits)) wide);
-      progress = progress;
+      progress = progress t;
     }
       where
         limit : (z : Traced) → valid w z ≡ true → z .stream .taken ≤ streamLimit
         limit z fits = fitting w (z .stream) (valid-parts w z fits .0) .limit
-
-    pub opened-is : traces .begun t .stream ≡ fresh (rulesOf t) (positionsOf t) false
-    unfolding opened
-    opened-is = opened-stream t table
-
-    pub opened-fits : valid w (opened t .traced) ≡ true
-    unfolding opened
-    opened-fits =
-        let e = opened-is in
-        both w (opened t .traced) (opened-sound t table)
-        (order-none (opened t .traced .stream) (ap (λ (s : Stream). s .live) e) (ap (λ (s : Stream). s .held) e) (ap (λ (s : Stream). s .pending) e))
 
 -- ---- what a scan writes
 

@@ -2,7 +2,8 @@
 -- starts), Accepting (when a call is accepted), Lists (the four lent lists), Runs (a run of reports,
 -- and two), Carrying (the starts along a byte), Delivering (the reports of a byte), Taking (a byte
 -- that is offered, and the loop), Closing (a closing, and the answers), Same (the same pairs at the
--- same moments as a stream), Without (where no rule needs a start).
+-- same moments as a stream), Without (where no rule needs a start), Ordered (starts stay in order),
+-- Results (what calls give, and that valid states stay valid).
 pub mod Bounds
 pub mod Checking
 pub mod Accepting
@@ -14,3 +15,5 @@ pub mod Taking
 pub mod Closing
 pub mod Same
 pub mod Without
+pub mod Ordered
+pub mod Results

@@ -4,6 +4,7 @@ use mathlib.Core.Path.{_≡_, refl, sym, ap, ap₂, _∙_}
 use mathlib.Core.Bool.{Bool, true, false, true≢false, cond, not, _&&_}
 use mathlib.Core.List.{List}
 use Prim.Native.Nat.{ℕ, zero, suc, _≤_, _<_}
+use native.Mathlib.Nat.{zero-add}
 use native.Mathlib.Omega.{arith}
 use lib.Dec.{eqb, ltb}
 use lib.ListN.{getD}
@@ -19,12 +20,16 @@ use Rattle.kinds.specs.Side.{sideOf}
 use Rattle.steps.specs.Step.{listFrom, keepersOf, startAfter, steppedStarts, startAt}
 use Rattle.stream.specs.declared.Stream.{Stream}
 use Rattle.stream.specs.Byte.{after, nextLive, nextHeld, nextPending, byteState}
 use Rattle.traced.specs.declared.Traced.{Traced}
 use Rattle.traced.specs.Byte.{keeping, nextStarts, nextState, traced}
 use Rattle.traced.specs.Valid.{startOk, startsOk}
 use Rattle.traced.specs.Calls.{noStarts}
 use Rattle.traced.proofs.Accepting.{inOrder}
-use Rattle.demands.proofs.Starting.{list-entry}
+use Rattle.steps.proofs.Carrying.{list-at}
+
+-- an entry of a list of numbers
+pub list-entry : (n : ℕ) (f : ℕ → ℕ) (q : ℕ) → q < n → getD (listFrom 0 n f) q 0 ≡ f q
+list-entry n f q lt = list-at 0 n f q lt ∙ ap f (zero-add q)
 
 -- ---- starts in order
 
