@@ -99,7 +99,7 @@ module _ (w : Automaton) (z : Traced) (block : List ℕ) (fits : Fitting w (z .s
   fits-after : Fitting w (after (traced w) z block n .stream)
   fits-after = subst (Fitting w) (sym (stream-after w z block n)) (fitting-after w (z .stream) block fits n short)
 
-  valid-after : valid w (after (traced w) z block n) ≡ true
+  pub valid-after : valid w (after (traced w) z block n) ≡ true
   valid-after = both w (after (traced w) z block n) (fitted w (after (traced w) z block n .stream) fits-after) (order-after w z block ordered n)
 
 -- the closed mark is no part of the test

@@ -1,3 +1,3 @@
 -- What the proofs of the program's functions share.
 pub mod Keeping
-pub mod Tracing
+pub mod Watching

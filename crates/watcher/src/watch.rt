@@ -1,5 +1,6 @@
-// Watching standard input: it is read in blocks, each scanned until all its bytes are taken, and then the stream is closed. No call of the library is refused
-// here: the lists have room for two reports of each rule, and what is asked for stays within the stream's limit.
+// Watching standard input: it is read in blocks, each scanned until all its bytes are taken, and
+// then the stream is closed. No call of the library is refused here: the lists have room for two
+// reports of each rule, and what is asked for stays within the stream's limit.
 use crate::output;
 use crate::trace::trace_input;
 use libc::STDIN_FILENO;
@@ -15,7 +16,7 @@ ghost use Rattle.lines.specs.Numbers.{askable};
 ghost use Rattle.table.specs.Table.{isTable};
 ghost use Rattle.table.specs.Automaton.{automaton};
 ghost use Rattle.stream.specs.Valid.{streamLimit, needsStarts};
-ghost use Rattle.watcher.specs.Invariants.{Running, Roomy, AllTaken};
+ghost use Rattle.watcher.specs.Invariants.{pairs, Running, Roomy, AllTaken};
 
 // What became of a block: whether its reports were written, and the state after it.
 struct Watched {
@@ -23,7 +24,8 @@ struct Watched {
     stream: Stream,
 }
 
-// Reads some of the next bytes of the input; how many. There are none at its end, and none where a read fails.
+// Reads some of the next bytes of the input; how many. There are none at its end, and none where a
+// read fails.
 fn read_some(part: &mut [u8]) -> usize
     ensures { λ r. ⌜ Counts r (now (part .exit)) ⌝ }
 {
@@ -40,7 +42,8 @@ pub(super) fn read_block(block: &mut [u8], taken: u64) -> usize
     read_some(&mut block[..most])
 }
 
-// Scans a block and writes its reports. What a scan leaves, because its reports would not have fitted, is offered again.
+// Scans a block and writes its reports. What a scan leaves, because its reports would not have
+// fitted, is offered again.
 fn watch_block(
     stream: Stream,
     words: &[u64],
@@ -49,8 +52,8 @@ fn watch_block(
     offsets: &mut [u64],
     out: &mut [u8],
 ) -> Watched
-    requires { ⌜ Running (now words) stream × (stream .taken + length (now block) ≤ streamLimit) × Roomy (now ids) (now offsets) ⌝ }
-    ensures { λ r. ⌜ AllTaken (now (words .entry)) stream (now (block .entry)) (r .good) (r .stream) ⌝ }
+    requires { ⌜ Running pairs (now words) stream × (stream .taken + length (now block) ≤ streamLimit) × Roomy (now ids) (now offsets) ⌝ }
+    ensures { λ r. ⌜ AllTaken pairs (now (words .entry)) stream (now (block .entry)) (r .good) (r .stream) ⌝ }
 {
     let mut stream = stream;
     let mut from = 0;
@@ -68,7 +71,8 @@ fn watch_block(
     Watched { good: true, stream }
 }
 
-// Watches the input to its end, closes the stream and writes the last lines; a write that fails ends it before. Whether all was written.
+// Watches the input to its end, closes the stream and writes the last lines; a write that fails
+// ends it before. Whether all was written.
 fn watch_input(
     words: &[u64],
     block: &mut [u8],
@@ -95,7 +99,8 @@ fn watch_input(
     output::say_end(out, ids, offsets, closed.reports, stream.taken)
 }
 
-// Watches standard input under a table. The lines of all reports of a call fit in the output's 65,536 bytes: 1,536 times at most 42 bytes.
+// Watches standard input under a table. The lines of all reports of a call fit in the output's
+// 65,536 bytes: 1,536 times at most 42 bytes.
 pub fn watch(words: &[u64], out: &mut [u8])
     requires { ⌜ isTable (now words) ≡ true ⌝ }
 {

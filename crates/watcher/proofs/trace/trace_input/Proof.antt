@@ -1,11 +1,18 @@
--- `watcher::trace::trace_input` is safe and ends: a block that was read is not empty, so the bytes read grow towards the stream's limit.
-use mathlib.Core.Path.{_≡_, refl, sym, _∙_}
-use Prim.Native.Nat.{ℕ, _+_, _-_, _≤_, zero-le}
+-- `watcher::trace::trace_input` is safe and ends: a block is not empty and is taken whole, so the stream
+-- grows towards its limit.
+use mathlib.Core.Path.{_≡_, refl, sym, ap, subst, _∙_}
+use mathlib.Core.List.{List}
+use Prim.Native.Nat.{ℕ, _+_, _-_, _≤_}
 use native.Mathlib.Omega.{arith}
+use borrow.Author.Tests.{not-false}
 use denote.Ref.{now}
-use lib.ListN.{length}
+use lib.ListN.{length, take}
+use lib.Seq.{length-take-le}
+use Rattle.traced.specs.declared.Opened.{Opened}
 use Rattle.stream.specs.Valid.{streamLimit}
-use Rattle.watcher.proofs.Tracing.{Reading, asked-within}
+use Rattle.watcher.specs.Invariants.{traces, Running}
+use Rattle.watcher.proofs.Watching.{Input, still-roomy, runs-on, longer, asked-fits, trace-law, opened-traces}
+use borrow.Author.Needs.{needs}
 use Rattle.watcher.proofs.trace.trace_input.Statement.{statement}
 use Rattle.watcher.proofs.trace.trace_input.Tie as tie
 
@@ -14,28 +21,46 @@ abbrev slots : ℕ
 slots = 1536
 
 abbrev Inv-loop : tie.InvT-loop
-Inv-loop words block₀ ids₀ offsets₀ out₀ starts₀ relatives₀ traced₀ total₀ block ids offsets out starts relatives traced total =
-    Reading block₀ ids₀ offsets₀ out₀ block ids offsets out total × (length starts ≡ slots) × (length relatives ≡ slots)
+Inv-loop words block₀ ids₀ offsets₀ out₀ starts₀ relatives₀ traced₀ block ids offsets out starts relatives traced =
+    Input traces words block₀ ids₀ offsets₀ out₀ block ids offsets out traced × (length starts ≡ slots) × (length relatives ≡ slots)
 
 abbrev μ-loop : tie.MeasureT-loop
-μ-loop words block₀ ids₀ offsets₀ out₀ starts₀ relatives₀ traced₀ total₀ block ids offsets out starts relatives traced total = streamLimit - total
+μ-loop words block₀ ids₀ offsets₀ out₀ starts₀ relatives₀ traced₀ block ids offsets out starts relatives traced = streamLimit - traced .stream .taken
 
 open-requires : tie.Need-open-requires Inv-loop μ-loop
 open-requires c κs = tt
 
 loop-holds : tie.Need-loop-holds Inv-loop μ-loop
-loop-holds c = (record { within = zero-le; block-same = refl; ids-same = refl; offsets-same = refl; out-same = refl }, refl, refl)
+loop-holds c =
+    let start = c .before .before .before .before .before .before .before in
+    let runs = subst (Running traces _) (sym (ap (λ (o : Opened). o .traced) (c .before .«open» .ensures))) (opened-traces _ (start .pre .0)) in
+    (record { runs = runs; block-same = refl; lent = record { ids-same = refl; offsets-same = refl; out-same = refl } }, refl, refl)
 
 read-block-requires : tie.Need-read-block-requires Inv-loop μ-loop
 read-block-requires c κs = tt
 
--- what is known once a block was read
+-- what is known once a block was read: the loop, the start of the call, and that the bytes fit
 module _ (r : tie.After-read-block Inv-loop μ-loop) where
   abbrev loop-at : tie.At-loop Inv-loop μ-loop
   loop-at = r .before .before
 
-  fits : loop-at .loop .total + r .read-block .result ≤ streamLimit
-  fits = asked-within (loop-at .loop .total) (length (loop-at .loop .block)) (r .read-block .result) (loop-at .loop .inv .0 .within) (r .read-block .ensures .1)
+  abbrev begun : tie.Start Inv-loop μ-loop
+  begun = let opened = loop-at .before .before in opened .before .before .before .before .before .before
+
+  abbrev bytes : List ℕ
+  bytes = take (r .read-block .result) (r .read-block .last .0)
+
+  size : length bytes ≡ r .read-block .result
+  size = length-take-le _ _ (r .read-block .ensures .0 .0)
+
+  fits : loop-at .loop .traced .stream .taken + length bytes ≤ streamLimit
+  fits =
+      omega (
+        arith,
+        size,
+        asked-fits traces trace-law (now (begun .args .words)) (loop-at .loop .traced) (length (loop-at .loop .block)) (r .read-block .result)
+            (loop-at .loop .inv .0 .runs) (r .read-block .ensures .1),
+      )
 
 slice-reshare-prefix-trace-block : tie.Need-slice-reshare-prefix-trace-block Inv-loop μ-loop
 slice-reshare-prefix-trace-block c = c .before .before .before .read-block .ensures .0 .0
@@ -44,13 +69,21 @@ slice-aggregate-trace-block : tie.Need-slice-aggregate-trace-block Inv-loop μ-l
 slice-aggregate-trace-block c = c .before .before .before .before .read-block .ensures .0 .1
 
 slice-aggregate-trace-block-2 : tie.Need-slice-aggregate-trace-block-2 Inv-loop μ-loop
-slice-aggregate-trace-block-2 c = let read = c .before .before .before .before .before .before .before in sym (loop-at read .loop .inv .1)
+slice-aggregate-trace-block-2 c =
+    let some = c .before .before .before .before in
+    sym (loop-at (some .before .before .before) .loop .inv .1)
 
 slice-aggregate-trace-block-3 : tie.Need-slice-aggregate-trace-block-3 Inv-loop μ-loop
-slice-aggregate-trace-block-3 c = let read = c .before .before .before .before .before .before .before .before in sym (loop-at read .loop .inv .2)
+slice-aggregate-trace-block-3 c =
+    let some = c .before .before .before .before .before in
+    sym (loop-at (some .before .before .before) .loop .inv .2)
 
 trace-block-requires : tie.Need-trace-block-requires Inv-loop μ-loop
-trace-block-requires c κs = tt
+trace-block-requires c κs =
+    let some = c .before .before .before .before .before .before in
+    let r = some .before .before .before in
+    let k = loop-at r .loop .inv in
+    (k .0 .runs, fits r, (still-roomy (k .0 .lent) (begun r .pre .1), (omega (arith, k .1), omega (arith, k .2))))
 
 -- what is known once its reports were written
 module _ (o : tie.After-out Inv-loop μ-loop) where
@@ -60,53 +93,66 @@ module _ (o : tie.After-out Inv-loop μ-loop) where
   abbrev ids-at : tie.After-ids Inv-loop μ-loop
   ids-at = offsets-at .before .before
 
+  abbrev called : tie.After-trace-block Inv-loop μ-loop
+  called = ids-at .before
+
   abbrev some : tie.Else1 Inv-loop μ-loop
-  some = let lent = ids-at .before .before .before .before .before in lent .before .before .before
+  some = let lent = called .before .before .before in lent .before .before .before .before
 
   abbrev block-at : tie.After-block Inv-loop μ-loop
   block-at = some .before .before
+
+  abbrev read : tie.After-read-block Inv-loop μ-loop
+  read = block-at .before
 
 same-length : tie.Need-same-length Inv-loop μ-loop
 same-length c = let b = block-at (c .before .before .before) in b .block .given ∙ loop-at (b .before) .loop .inv .0 .block-same
 
 same-length-2 : tie.Need-same-length-2 Inv-loop μ-loop
-same-length-2 c = let o = c .before .before .before in ids-at o .ids .given ∙ loop-at (block-at o .before) .loop .inv .0 .ids-same
+same-length-2 c = let o = c .before .before .before in ids-at o .ids .given ∙ loop-at (read o) .loop .inv .0 .lent .ids-same
 
 same-length-3 : tie.Need-same-length-3 Inv-loop μ-loop
-same-length-3 c = let o = c .before .before .before in offsets-at o .offsets .given ∙ loop-at (block-at o .before) .loop .inv .0 .offsets-same
+same-length-3 c = let o = c .before .before .before in offsets-at o .offsets .given ∙ loop-at (read o) .loop .inv .0 .lent .offsets-same
 
 same-length-4 : tie.Need-same-length-4 Inv-loop μ-loop
-same-length-4 c = let o = c .before .before .before in o .out .given ∙ loop-at (block-at o .before) .loop .inv .0 .out-same
+same-length-4 c = let o = c .before .before .before in o .out .given ∙ loop-at (read o) .loop .inv .0 .lent .out-same
 
 returns : tie.Need-returns Inv-loop μ-loop
 returns c = tt
 
-add-total : tie.Need-add-total Inv-loop μ-loop
-add-total c = let o = c .before .before .before .before in omega (arith, fits (block-at o .before))
-
 loop-less : tie.Need-loop-less Inv-loop μ-loop
-loop-less c = let o = c .before .before .before .before in omega (arith, fits (block-at o .before), some o .if1 .left)
+loop-less c =
+    let o = c .before .before .before .before in
+    let r = read o in
+    let e = called o .trace-block .ensures (not-false _ (c .before .if2 .left)) in
+    omega (arith, size r, fits r, some o .if1 .left, longer traces trace-law (now (begun r .args .words)) (loop-at r .loop .traced) (called o .trace-block .result .traced) (bytes r) e)
 
 loop-again : tie.Need-loop-again Inv-loop μ-loop
 loop-again c =
     let o = c .before .before .before .before in
-    let k = loop-at (block-at o .before) .loop .inv in (
+    let r = read o in
+    let k = loop-at r .loop .inv .0 in
+    let e = called o .trace-block .ensures (not-false _ (c .before .if2 .left)) in (
       record {
-        within = fits (block-at o .before);
-        block-same = block-at o .block .given ∙ k .0 .block-same;
-        ids-same = ids-at o .ids .given ∙ k .0 .ids-same;
-        offsets-same = offsets-at o .offsets .given ∙ k .0 .offsets-same;
-        out-same = o .out .given ∙ k .0 .out-same;
+        runs = runs-on traces trace-law (now (begun r .args .words)) (loop-at r .loop .traced) (called o .trace-block .result .traced) (bytes r) e (k .runs) (fits r);
+        block-same = block-at o .block .given ∙ k .block-same;
+        lent = record {
+          ids-same = ids-at o .ids .given ∙ k .lent .ids-same;
+          offsets-same = offsets-at o .offsets .given ∙ k .lent .offsets-same;
+          out-same = o .out .given ∙ k .lent .out-same;
+        };
       },
       o .before .before .starts2 .given,
       o .before .relatives2 .given,
     )
 
 slice-aggregate-close : tie.Need-slice-aggregate-close Inv-loop μ-loop
-slice-aggregate-close c = let read = c .before .before .before .before .before .before in sym (loop-at read .loop .inv .1)
+slice-aggregate-close c = let r = c .before .before .before .before .before .before in sym (loop-at r .loop .inv .1)
 
 slice-aggregate-close-2 : tie.Need-slice-aggregate-close-2 Inv-loop μ-loop
-slice-aggregate-close-2 c = let read = c .before .before .before .before .before .before .before in sym (loop-at read .loop .inv .2)
+slice-aggregate-close-2 c =
+    let none = c .before .before .before .before in
+    sym (loop-at (none .before .before .before) .loop .inv .2)
 
 close-requires : tie.Need-close-requires Inv-loop μ-loop
 close-requires c κs = tt
@@ -116,26 +162,29 @@ say-end-requires c κs = tt
 
 -- what is known once the last lines were written
 module _ (o : tie.After-out2 Inv-loop μ-loop) where
-  abbrev offsets2-at : tie.After-offsets2 Inv-loop μ-loop
-  offsets2-at = let closed = o .before .before .before .before .before in closed .before .before .before
+  abbrev last-offsets : tie.After-offsets2 Inv-loop μ-loop
+  last-offsets = let said = o .before in let lists = said .before .before .before .before in lists .before .before .before
 
-  abbrev ids2-at : tie.After-ids2 Inv-loop μ-loop
-  ids2-at = offsets2-at .before .before
+  abbrev last-ids : tie.After-ids2 Inv-loop μ-loop
+  last-ids = last-offsets .before .before
 
-  abbrev last-at : tie.After-block Inv-loop μ-loop
-  last-at = let none = ids2-at .before .before .before .before .before .before in none .before .before
+  abbrev none : tie.Then1 Inv-loop μ-loop
+  none = last-ids .before .before .before .before .before .before
+
+  abbrev last-block : tie.After-block Inv-loop μ-loop
+  last-block = none .before .before
 
 same-length-5 : tie.Need-same-length-5 Inv-loop μ-loop
-same-length-5 c = let b = last-at (c .before) in b .block .given ∙ loop-at (b .before) .loop .inv .0 .block-same
+same-length-5 c = let b = last-block (c .before) in b .block .given ∙ loop-at (b .before) .loop .inv .0 .block-same
 
 same-length-6 : tie.Need-same-length-6 Inv-loop μ-loop
-same-length-6 c = ids2-at (c .before) .ids2 .given ∙ loop-at (last-at (c .before) .before) .loop .inv .0 .ids-same
+same-length-6 c = let o = c .before in last-ids o .ids2 .given ∙ loop-at (last-block o .before) .loop .inv .0 .lent .ids-same
 
 same-length-7 : tie.Need-same-length-7 Inv-loop μ-loop
-same-length-7 c = offsets2-at (c .before) .offsets2 .given ∙ loop-at (last-at (c .before) .before) .loop .inv .0 .offsets-same
+same-length-7 c = let o = c .before in last-offsets o .offsets2 .given ∙ loop-at (last-block o .before) .loop .inv .0 .lent .offsets-same
 
 same-length-8 : tie.Need-same-length-8 Inv-loop μ-loop
-same-length-8 c = c .before .out2 .given ∙ loop-at (last-at (c .before) .before) .loop .inv .0 .out-same
+same-length-8 c = let o = c .before in o .out2 .given ∙ loop-at (last-block o .before) .loop .inv .0 .lent .out-same
 
 returns-2 : tie.Need-returns-2 Inv-loop μ-loop
 returns-2 c = tt
@@ -159,7 +208,6 @@ trace-input-spec =
     same-length-3
     same-length-4
     returns
-    add-total
     loop-less
     loop-again
     slice-aggregate-close

@@ -1,62 +1,45 @@
--- `watcher::watch::watch` meets its contract: the way that watches without starts is taken only where no rule needs one.
+-- `watcher::watch::watch` meets its contract: the way that watches without starts is taken only where
+-- no rule needs one.
 use borrow.Author.Needs.{needs}
 use native.Mathlib.Omega.{arith}
 use denote.Ref.{now}
-use Rattle.watcher.proofs.Keeping.{startless}
+use Rattle.watcher.proofs.Watching.{startless}
 use Rattle.watcher.proofs.watch.watch.Statement.{statement}
 use Rattle.watcher.proofs.watch.watch.Tie as tie
-use Rattle.watcher.proofs.watch.watch.Reads as reads
-use Rattle.watcher.proofs.watch.watch.Lts as lts
-use Rattle.io.proofs.large_buffer.Reads as large-buffer-reads
-use Rattle.stream.proofs.needs_starts.Reads as needs-starts-reads
-use Rattle.watcher.proofs.trace.trace_input.Reads as trace-input-reads
-use Rattle.watcher.proofs.watch.watch_input.Reads as watch-input-reads
 
--- src/watch.rt:102:21
 large-buffer-requires : tie.Need-large-buffer-requires
 large-buffer-requires c κs = search needs
 
--- src/watch.rt:105:8
 needs-starts-requires : tie.Need-needs-starts-requires
 needs-starts-requires c κs = search needs
 
--- src/watch.rt:106:28
 slice-aggregate-trace-input : tie.Need-slice-aggregate-trace-input
 slice-aggregate-trace-input c = search needs
 
--- src/watch.rt:106:40
 slice-aggregate-trace-input-2 : tie.Need-slice-aggregate-trace-input-2
 slice-aggregate-trace-input-2 c = search needs
 
--- src/watch.rt:106:50
 slice-aggregate-trace-input-3 : tie.Need-slice-aggregate-trace-input-3
 slice-aggregate-trace-input-3 c = search needs
 
--- src/watch.rt:106:9
 trace-input-requires : tie.Need-trace-input-requires
 trace-input-requires c κs = search needs
 
--- src/watch.rt:107:9
 same-length : tie.Need-same-length
 same-length c = search needs
 
--- src/watch.rt:107:9
 returns : tie.Need-returns
 returns c = search needs
 
--- src/watch.rt:109:24
 slice-aggregate-watch-input : tie.Need-slice-aggregate-watch-input
 slice-aggregate-watch-input c = search needs
 
--- src/watch.rt:109:36
 slice-aggregate-watch-input-2 : tie.Need-slice-aggregate-watch-input-2
 slice-aggregate-watch-input-2 c = search needs
 
--- src/watch.rt:109:46
 slice-aggregate-watch-input-3 : tie.Need-slice-aggregate-watch-input-3
 slice-aggregate-watch-input-3 c = search needs
 
--- src/watch.rt:109:5
 watch-input-requires : tie.Need-watch-input-requires
 watch-input-requires c κs =
     let other = c .before .before .before .before in
@@ -65,11 +48,9 @@ watch-input-requires c κs =
     let t = now (start .args .words) in
     (start .pre, startless t (start .pre) (asked .needs-starts .result) (asked .needs-starts .ensures) (other .if1 .left), (omega arith, omega arith))
 
--- src/watch.rt:99:1
 same-length-2 : tie.Need-same-length-2
 same-length-2 c = search needs
 
--- src/watch.rt:99:1
 returns-2 : tie.Need-returns-2
 returns-2 c = search needs
 
