@@ -4,14 +4,17 @@
  * Rules are added to a table, a stream is opened on the table, blocks of bytes
  * are scanned, the stream is closed. Every match is reported as the id of its
  * rule and its end offset in the stream, whatever the blocks are like. The rules
- * of matching are Hyperscan's: all matches, end offsets only.
+ * of matching are Hyperscan's: all matches, by their ends. A rule with
+ * WATCHER_FLAG_SOM_LEFTMOST reports where each match started too; the streams of
+ * a table with such a rule are those of the watcher_trace_ calls.
  *
  * The library has no heap, no globals and no callbacks. The caller owns all
  * memory: WATCHER_TABLE_WORDS words for a table, WATCHER_STATE_WORDS words for a
- * stream, and two lists for reports. Both may be copied with memcpy and kept in a
- * file; a table of another format than this library's is refused with
+ * stream and two lists for its reports, or WATCHER_TRACE_WORDS words and four
+ * lists for a stream with starts. Tables and states may be copied with memcpy and
+ * kept in a file; a table of another format than this library's is refused with
  * WATCHER_NO_TABLE. Calls on different memory may run at once; a table is only
- * read by watcher_open, watcher_scan and watcher_close, so streams may share it.
+ * read by the calls on streams, so streams may share it.
  *
  * Every function answers for any content of the words it is lent. What it asks
  * of its caller is what C cannot check: each pointer is valid for as many
@@ -42,10 +45,12 @@ extern "C" {
 /*
  * The words of a table, and of a stream's state. Word 10 of a state is what the
  * last byte is to the assertions after it: 1 a word byte, 2 a newline, every
- * other number neither.
+ * other number neither. A state with starts has the same 15 words, and then 256
+ * starts of live positions, 256 of held positions and 64 of held pairs.
  */
 #define WATCHER_TABLE_WORDS 16384
 #define WATCHER_STATE_WORDS 15
+#define WATCHER_TRACE_WORDS 591
 
 /*
  * A table holds at most so many rules. A byte and a closing may each report all
@@ -77,9 +82,9 @@ extern "C" {
 #define WATCHER_FLAG_MULTILINE 4u
 #define WATCHER_FLAG_SINGLEMATCH 8u
 /*
- * A rule that reports the leftmost start of each match. A stream opened with
- * watcher_open keeps no starts: while its table has such a rule, its scans and
- * closings are refused with WATCHER_BAD_STATE.
+ * A rule that reports the leftmost start of each match. Its table needs streams
+ * with starts, as watcher_needs_starts tells: a stream of watcher_open keeps none,
+ * so its scans and closings on that table are refused with WATCHER_BAD_STATE.
  */
 #define WATCHER_FLAG_SOM_LEFTMOST 256u
 
@@ -119,7 +124,7 @@ typedef uint32_t watcher_error_t;
 #define WATCHER_NO_BLOCK 27u        /* not the block of a table that was asked for */
 #define WATCHER_LONG_LOG 28u        /* a log of more than WATCHER_PLAIN_LOG bytes */
 /* Numbers from 100 on are this interface's own. */
-#define WATCHER_SHORT_STATE 100u    /* fewer than 15 words for the state */
+#define WATCHER_SHORT_STATE 100u    /* fewer words than a state has: 15, or 591 with starts */
 
 /*
  * What a number means, in a few words: "a quantifier with nothing to repeat" for
@@ -198,6 +203,51 @@ watcher_error_t watcher_close(const uint64_t *table, size_t table_words,
  * words.
  */
 uint32_t watcher_busy(const uint64_t *state, size_t state_words);
+
+/*
+ * 1 if a rule of the table reports starts, so that its streams are those with
+ * starts; else 0, also for words that are no table.
+ */
+uint32_t watcher_needs_starts(const uint64_t *table, size_t table_words);
+
+/*
+ * The same calls on a stream with starts. They work on every table; where no rule
+ * needs a start they give what the calls above give, with a larger state and more
+ * slowly. Fewer than WATCHER_TRACE_WORDS words of state are WATCHER_SHORT_STATE.
+ *
+ * Each report has a slot in four lists, and the space is the shortest of them.
+ * starts[i] is where the match began in the stream: the smallest start whose
+ * match is known when the report is given. relatives[i] is the same measured from
+ * the first byte of the block lent to this call, and at closing from the stream's
+ * end: it is below zero when the match began in an earlier block. For a rule
+ * without WATCHER_FLAG_SOM_LEFTMOST both are 0.
+ *
+ * WATCHER_BAD_STATE is also given where the start of a live position, of a held
+ * position or of a held pair is not below the bytes taken, or any other start is
+ * not 0.
+ */
+watcher_error_t watcher_trace_open(const uint64_t *table, size_t table_words,
+                                   uint64_t *state, size_t state_words);
+
+watcher_error_t watcher_trace_scan(const uint64_t *table, size_t table_words,
+                                   uint64_t *state, size_t state_words,
+                                   uint64_t allowance,
+                                   const uint8_t *block, size_t block_length,
+                                   uint32_t *ids, size_t ids_length,
+                                   uint64_t *offsets, size_t offsets_length,
+                                   uint64_t *starts, size_t starts_length,
+                                   int64_t *relatives, size_t relatives_length,
+                                   size_t *taken, size_t *reports, uint64_t *used);
+
+watcher_error_t watcher_trace_close(const uint64_t *table, size_t table_words,
+                                    uint64_t *state, size_t state_words,
+                                    uint32_t *ids, size_t ids_length,
+                                    uint64_t *offsets, size_t offsets_length,
+                                    uint64_t *starts, size_t starts_length,
+                                    int64_t *relatives, size_t relatives_length,
+                                    size_t *reports);
+
+uint32_t watcher_trace_busy(const uint64_t *state, size_t state_words);
 
 /*
  * Writes block `number` of the table, from 0 to WATCHER_BLOCKS - 1, into

@@ -1,6 +1,8 @@
 /*
- * Two rules, their table to a card and back, a stream in two blocks with a match across the border, the second in
- * slices of work, and what was reported.
+ * Two rules, their table to a card and back, a stream in two blocks with a match across the border,
+ * the second in slices of work, and what was reported. Then a rule that reports where its matches
+ * start, on a stream with starts: of a match that began in an earlier block the start measured from
+ * this one is below zero.
  */
 #include <stdio.h>
 #include <string.h>
@@ -10,8 +12,11 @@
 static uint64_t table[WATCHER_TABLE_WORDS];
 static uint8_t card[WATCHER_BLOCKS][WATCHER_BLOCK_BYTES];
 static uint64_t state[WATCHER_STATE_WORDS];
+static uint64_t trace[WATCHER_TRACE_WORDS];
 static uint32_t ids[WATCHER_REPORT_SLOTS];
 static uint64_t offsets[WATCHER_REPORT_SLOTS];
+static uint64_t starts[WATCHER_REPORT_SLOTS];
+static int64_t relatives[WATCHER_REPORT_SLOTS];
 
 static int refused(const char *what, watcher_error_t number) {
   printf("%s refused %u\n", what, (unsigned)number);
@@ -35,7 +40,10 @@ static void show(size_t reports) {
   }
 }
 
-/* Offers a block until all of it is taken, with so many units of work a call; WATCHER_MAX_BYTE_UNITS at least. */
+/*
+ * Offers a block until all of it is taken, with so many units of work a call;
+ * WATCHER_MAX_BYTE_UNITS at least.
+ */
 static int scan(const char *block, uint64_t allowance) {
   const uint8_t *next = (const uint8_t *)block;
   size_t left = strlen(block);
@@ -43,8 +51,9 @@ static int scan(const char *block, uint64_t allowance) {
     size_t taken, reports;
     uint64_t used;
     watcher_error_t number =
-        watcher_scan(table, WATCHER_TABLE_WORDS, state, WATCHER_STATE_WORDS, allowance, next, left, ids,
-                     WATCHER_REPORT_SLOTS, offsets, WATCHER_REPORT_SLOTS, &taken, &reports, &used);
+        watcher_scan(table, WATCHER_TABLE_WORDS, state, WATCHER_STATE_WORDS, allowance, next, left,
+                     ids, WATCHER_REPORT_SLOTS, offsets, WATCHER_REPORT_SLOTS, &taken, &reports,
+                     &used);
     if (number != WATCHER_SUCCESS) {
       return refused("scan", number);
     }
@@ -59,14 +68,16 @@ static int scan(const char *block, uint64_t allowance) {
 static int to_card_and_back(void) {
   uint64_t place;
   for (uint64_t i = 0; i < WATCHER_BLOCKS; i++) {
-    watcher_error_t number = watcher_write_block(table, WATCHER_TABLE_WORDS, i, card[i], WATCHER_BLOCK_BYTES, &place);
+    watcher_error_t number = watcher_write_block(table, WATCHER_TABLE_WORDS, i, card[i],
+                                                 WATCHER_BLOCK_BYTES, &place);
     if (number != WATCHER_SUCCESS) {
       return refused("writing", number);
     }
   }
   memset(table, 0, sizeof table);
   for (uint64_t i = 0; i < WATCHER_BLOCKS; i++) {
-    watcher_error_t number = watcher_read_block(table, WATCHER_TABLE_WORDS, i, card[i], WATCHER_BLOCK_BYTES, &place);
+    watcher_error_t number =
+        watcher_read_block(table, WATCHER_TABLE_WORDS, i, card[i], WATCHER_BLOCK_BYTES, &place);
     if (number != WATCHER_SUCCESS) {
       return refused("reading", number);
     }
@@ -74,7 +85,7 @@ static int to_card_and_back(void) {
   return 0;
 }
 
-int main(void) {
+static int ends(void) {
   size_t reports;
   watcher_error_t number = watcher_empty(table, WATCHER_TABLE_WORDS);
   if (number != WATCHER_SUCCESS) {
@@ -97,11 +108,70 @@ int main(void) {
     return 1;
   }
   printf("busy %u\n", (unsigned)watcher_busy(state, WATCHER_STATE_WORDS));
-  number = watcher_close(table, WATCHER_TABLE_WORDS, state, WATCHER_STATE_WORDS, ids, WATCHER_REPORT_SLOTS, offsets,
-                         WATCHER_REPORT_SLOTS, &reports);
+  number = watcher_close(table, WATCHER_TABLE_WORDS, state, WATCHER_STATE_WORDS, ids,
+                         WATCHER_REPORT_SLOTS, offsets, WATCHER_REPORT_SLOTS, &reports);
   if (number != WATCHER_SUCCESS) {
     return refused("closing", number);
   }
   show(reports);
   return 0;
+}
+
+static void show_starts(size_t reports) {
+  for (size_t i = 0; i < reports; i++) {
+    printf("%u %llu start %llu, %lld from here\n", (unsigned)ids[i], (unsigned long long)offsets[i],
+           (unsigned long long)starts[i], (long long)relatives[i]);
+  }
+}
+
+/* These blocks have fewer reports than there are slots, so one call takes each of them whole. */
+static int scan_for_starts(const char *block) {
+  size_t taken, reports;
+  uint64_t used;
+  watcher_error_t number = watcher_trace_scan(
+      table, WATCHER_TABLE_WORDS, trace, WATCHER_TRACE_WORDS, WATCHER_NO_LIMIT,
+      (const uint8_t *)block, strlen(block), ids, WATCHER_REPORT_SLOTS, offsets,
+      WATCHER_REPORT_SLOTS, starts, WATCHER_REPORT_SLOTS, relatives, WATCHER_REPORT_SLOTS, &taken,
+      &reports, &used);
+  if (number != WATCHER_SUCCESS) {
+    return refused("scan", number);
+  }
+  show_starts(reports);
+  return 0;
+}
+
+static int with_starts(void) {
+  static const char *blocks[] = {"xa", "b", "c"};
+  size_t reports;
+  watcher_empty(table, WATCHER_TABLE_WORDS);
+  if (add(3, WATCHER_FLAG_SOM_LEFTMOST, "abc") || add(4, 0, "b")) {
+    return 1;
+  }
+  if (add(5, WATCHER_FLAG_SOM_LEFTMOST, "bc$")) {
+    return 1;
+  }
+  printf("starts %u\n", (unsigned)watcher_needs_starts(table, WATCHER_TABLE_WORDS));
+  watcher_error_t number =
+      watcher_trace_open(table, WATCHER_TABLE_WORDS, trace, WATCHER_TRACE_WORDS);
+  if (number != WATCHER_SUCCESS) {
+    return refused("opening", number);
+  }
+  for (size_t i = 0; i < sizeof blocks / sizeof *blocks; i++) {
+    if (scan_for_starts(blocks[i])) {
+      return 1;
+    }
+  }
+  printf("busy %u\n", (unsigned)watcher_trace_busy(trace, WATCHER_TRACE_WORDS));
+  number = watcher_trace_close(table, WATCHER_TABLE_WORDS, trace, WATCHER_TRACE_WORDS, ids,
+                               WATCHER_REPORT_SLOTS, offsets, WATCHER_REPORT_SLOTS, starts,
+                               WATCHER_REPORT_SLOTS, relatives, WATCHER_REPORT_SLOTS, &reports);
+  if (number != WATCHER_SUCCESS) {
+    return refused("closing", number);
+  }
+  show_starts(reports);
+  return 0;
+}
+
+int main(void) {
+  return ends() || with_starts();
 }

@@ -4,7 +4,8 @@ use std::fmt;
 
 use crate::refusal::Refusal;
 
-/// A refusal. The cases and numbers are those of `include/watcher.h`; [`Refusal`] has them in words.
+/// A refusal. The cases and numbers are those of `include/watcher.h`; [`Refusal`] has them in
+/// words.
 ///
 /// ```
 /// use watcher::{Error, Flags, Table};
@@ -111,7 +112,8 @@ pub enum Error {
         /// The block's number.
         place: usize,
     },
-    /// 100: too few words for a state.
+    /// 100: fewer words than a state has, or in [`Stream::resume`](crate::Stream::resume) another
+    /// number of them.
     ShortState,
     /// A number that this wrapper does not know.
     Other {
@@ -199,8 +201,8 @@ impl Error {
     }
 
     /// Where the fault lies in the pattern: the first byte of the faulty token, or the pattern's
-    /// length for a fault known only at its end; of a block that is none, its number. 0 for all other
-    /// refusals.
+    /// length for a fault known only at its end; of a block that is none, its number. 0 for all
+    /// other refusals.
     ///
     /// ```
     /// use watcher::{Flags, Table};

@@ -11,21 +11,26 @@
 //! # Ok::<(), watcher::Error>(())
 //! ```
 //!
-//! A table is 128 KiB and a stream 120 bytes and a reference; nothing here uses the heap. A stream
-//! borrows its table, so that no rule can be added while a stream is open on it.
+//! A table is 128 KiB and a stream 136 bytes. A stream borrows its table, so that no rule can be
+//! added while a stream is open on it. On a table with a rule that reports starts
+//! ([`Flags::LEFTMOST_START`]) a stream keeps [`TRACE_WORDS`] words on the heap; nothing else here
+//! uses the heap.
 //!
-//! [`raw`] has the library's functions over slices, for words of any content; [`sys`] declares them.
-//! [`Refusal`] tells each number in words.
+//! [`raw`] has the library's functions over slices, for words of any content; [`sys`] declares
+//! them. [`Refusal`] tells each number in words.
 
 #![warn(missing_docs)]
 
 mod error;
 pub mod raw;
 mod refusal;
+mod stream;
 pub mod sys;
 
 pub use error::Error;
+pub use raw::Lists;
 pub use refusal::{Example, Refusal};
+pub use stream::{Report, Scanned, Stream};
 
 /// The version of this crate and of the library that it belongs to, `WATCHER_VERSION` in C.
 ///
@@ -40,13 +45,25 @@ pub const VERSION: &str = env!("CARGO_PKG_VERSION");
 /// assert_eq!(watcher::Table::new().words().len(), watcher::TABLE_WORDS);
 /// ```
 pub const TABLE_WORDS: usize = 16_384;
-/// The words of a stream's state.
+/// The words of a stream's state, where no rule of its table reports starts.
 ///
 /// ```
 /// let table = watcher::Table::new();
 /// assert_eq!(watcher::Stream::open(&table).state().len(), watcher::STATE_WORDS);
 /// ```
 pub const STATE_WORDS: usize = 15;
+/// The words of a stream's state with starts: the same fifteen, then 256 starts of live positions,
+/// 256 of held positions and 64 of held pairs.
+///
+/// ```
+/// use watcher::{Flags, Stream, Table, TRACE_WORDS};
+///
+/// let mut table = Table::new();
+/// table.add(1, Flags::LEFTMOST_START, b"ab")?;
+/// assert_eq!(Stream::open(&table).state().len(), TRACE_WORDS);
+/// # Ok::<(), watcher::Error>(())
+/// ```
+pub const TRACE_WORDS: usize = STATE_WORDS + 2 * 256 + MAX_RULES;
 /// A table has at most so many rules.
 ///
 /// ```
@@ -60,16 +77,17 @@ pub const STATE_WORDS: usize = 15;
 /// # Ok::<(), Error>(())
 /// ```
 pub const MAX_RULES: usize = 64;
-/// So many report slots in each list are enough for any table: a byte may report each rule twice, and so
-/// may a closing.
+/// So many report slots in each list are enough for any table: a byte may report each rule twice,
+/// and so may a closing.
 ///
 /// ```
-/// use watcher::{Flags, Stream, Table, NO_LIMIT, REPORT_SLOTS};
+/// use watcher::{raw, Flags, Stream, Table, NO_LIMIT, REPORT_SLOTS};
 ///
 /// let mut table = Table::new();
 /// table.add(1, Flags::NONE, b"a")?;
+/// let mut state = Stream::open(&table).state().to_vec();
 /// let (mut ids, mut offsets) = ([0; REPORT_SLOTS], [0; REPORT_SLOTS]);
-/// let answer = Stream::open(&table).scan_into(NO_LIMIT, b"aa", &mut ids, &mut offsets)?;
+/// let answer = raw::scan(table.words(), &mut state, NO_LIMIT, b"aa", &mut ids, &mut offsets);
 /// assert_eq!(&offsets[..answer.reports], [1, 2]);
 /// # Ok::<(), watcher::Error>(())
 /// ```
@@ -85,8 +103,8 @@ pub const REPORT_SLOTS: usize = 2 * MAX_RULES;
 /// # Ok::<(), watcher::Error>(())
 /// ```
 pub const NO_LIMIT: u64 = u64::MAX;
-/// A byte costs one unit of work and one for each live position, so never more than this. A scan with
-/// so many units takes at least one byte of its block.
+/// A byte costs one unit of work and one for each live position, so never more than this. A scan
+/// with so many units takes at least one byte of its block.
 ///
 /// ```
 /// use watcher::{Stream, Table, MAX_BYTE_UNITS};
@@ -189,16 +207,19 @@ impl Flags {
     /// # Ok::<(), watcher::Error>(())
     /// ```
     pub const SINGLE_MATCH: Flags = Flags(8);
-    /// The rule reports the leftmost start of each match. A [`Stream`] keeps no starts: while its
-    /// table has such a rule, its scans and its closing are refused.
+    /// The rule reports the leftmost start of each match: the smallest whose match is known when
+    /// it is reported. Not with [`Flags::SINGLE_MATCH`]. The streams of its table keep starts, and
+    /// are slower for it.
     ///
     /// ```
     /// use watcher::{Error, Flags, Stream, Table, NO_LIMIT};
     ///
     /// let mut table = Table::new();
     /// table.add(1, Flags::LEFTMOST_START, b"ab+")?;
-    /// let scanned = Stream::open(&table).scan(NO_LIMIT, b"abb", |_| ());
-    /// assert_eq!(scanned.err(), Some(Error::BadState));
+    /// let mut found = vec![];
+    /// let mut stream = Stream::open(&table);
+    /// stream.scan(NO_LIMIT, b"xabb", |report| found.push((report.start, report.end)))?;
+    /// assert_eq!(found, [(1, 3), (1, 4)]);
     /// let both = Flags::LEFTMOST_START | Flags::SINGLE_MATCH;
     /// assert_eq!(table.add(2, both, b"ab+"), Err(Error::SingleStart));
     /// # Ok::<(), watcher::Error>(())
@@ -214,28 +235,8 @@ impl std::ops::BitOr for Flags {
     }
 }
 
-/// A match: the id of its rule, and its end offset in the stream.
-///
-/// ```
-/// use watcher::{Flags, Report, Stream, Table, NO_LIMIT};
-///
-/// let mut table = Table::new();
-/// table.add(7, Flags::NONE, b"foo.*bar")?;
-/// let mut reports = vec![];
-/// Stream::open(&table).scan(NO_LIMIT, b"fooxyzbar", |report| reports.push(report))?;
-/// assert_eq!(reports, [Report { id: 7, end: 9 }]);
-/// # Ok::<(), watcher::Error>(())
-/// ```
-#[derive(Clone, Copy, Debug, PartialEq, Eq)]
-pub struct Report {
-    /// The id that the rule was added with.
-    pub id: u32,
-    /// The offset after the match's last byte, counted from the stream's first.
-    pub end: u64,
-}
-
-/// The bytes of a match from `start` up to `end`, from what was kept of a stream: a tail, and the block
-/// right after it, which begins at `offset`. The block is asked first.
+/// The bytes of a match from `start` up to `end`, from what was kept of a stream: a tail, and the
+/// block right after it, which begins at `offset`. The block is asked first.
 ///
 /// ```
 /// use watcher::{matched_bytes, Error};
@@ -255,24 +256,6 @@ pub fn matched_bytes<'b>(
     let part = raw::matched_bytes(tail, block, offset, start, end);
     let bytes = if part.tail { tail } else { block };
     Ok(&bytes[part.place..part.place + part.size])
-}
-
-/// How far a scan went: the bytes that it took, and the units of work that they cost.
-///
-/// ```
-/// use watcher::{Scanned, Stream, Table, NO_LIMIT};
-///
-/// let table = Table::new();
-/// let scanned = Stream::open(&table).scan(NO_LIMIT, b"abc", |_| ())?;
-/// assert_eq!(scanned, Scanned { taken: 3, used: 3 });
-/// # Ok::<(), watcher::Error>(())
-/// ```
-#[derive(Clone, Copy, Debug, Default, PartialEq, Eq)]
-pub struct Scanned {
-    /// The bytes of the block that were taken, from its front.
-    pub taken: usize,
-    /// The units of work that they cost.
-    pub used: u64,
 }
 
 /// The longest log of the plain matcher, in bytes; no rule reports more often on it.
@@ -468,180 +451,20 @@ impl Table {
         let (number, place) = raw::add(&mut self.words, id, flags.0, pattern);
         Error::check(number, place)
     }
-}
 
-/// An open stream on a table.
-///
-/// ```
-/// use watcher::{Flags, Stream, Table, NO_LIMIT};
-///
-/// let mut table = Table::new();
-/// table.add(1, Flags::NONE, b"sl[ai]")?;
-/// let mut stream = Stream::open(&table);
-/// let mut ends = vec![];
-/// stream.scan(NO_LIMIT, b"rope s", |report| ends.push(report.end))?;
-/// stream.scan(NO_LIMIT, b"lack", |report| ends.push(report.end))?;
-/// stream.close(|report| ends.push(report.end))?;
-/// assert_eq!(ends, [8]);
-/// # Ok::<(), watcher::Error>(())
-/// ```
-#[derive(Clone)]
-pub struct Stream<'t> {
-    table: &'t Table,
-    state: [u64; STATE_WORDS],
-}
-
-impl<'t> Stream<'t> {
-    /// Opens a stream, at offset 0.
+    /// Whether a rule of the table reports starts, so that its streams keep them.
     ///
     /// ```
-    /// let table = watcher::Table::new();
-    /// let stream = watcher::Stream::open(&table);
-    /// ```
-    pub fn open(table: &'t Table) -> Stream<'t> {
-        let mut state = [0; STATE_WORDS];
-        raw::open(&table.words, &mut state);
-        Stream { table, state }
-    }
-
-    /// The stream with this state, as [`state`](Stream::state) once gave it. The state is tested at
-    /// each call.
-    ///
-    /// ```
-    /// use watcher::{Flags, Stream, Table, NO_LIMIT};
+    /// use watcher::{Flags, Table};
     ///
     /// let mut table = Table::new();
     /// table.add(1, Flags::NONE, b"slack")?;
-    /// let mut before = Stream::open(&table);
-    /// before.scan(NO_LIMIT, b"sla", |_| ())?;
-    /// let kept = *before.state();
-    /// let mut ends = vec![];
-    /// Stream::resume(&table, kept).scan(NO_LIMIT, b"ck", |report| ends.push(report.end))?;
-    /// assert_eq!(ends, [5]);
+    /// assert!(!table.needs_starts());
+    /// table.add(2, Flags::LEFTMOST_START, b"state=.*")?;
+    /// assert!(table.needs_starts());
     /// # Ok::<(), watcher::Error>(())
     /// ```
-    pub fn resume(table: &'t Table, state: [u64; STATE_WORDS]) -> Stream<'t> {
-        Stream { table, state }
-    }
-
-    /// The state's words, which may be kept in a file.
-    ///
-    /// ```
-    /// let table = watcher::Table::new();
-    /// let kept = *watcher::Stream::open(&table).state();
-    /// let stream = watcher::Stream::resume(&table, kept);
-    /// ```
-    pub fn state(&self) -> &[u64; STATE_WORDS] {
-        &self.state
-    }
-
-    /// Scans a block as far as the allowance of work goes, with `NO_LIMIT` all of it, and gives each
-    /// report in order. With fewer units than [`MAX_BYTE_UNITS`] it may take nothing.
-    ///
-    /// ```
-    /// use watcher::{Flags, Stream, Table, MAX_BYTE_UNITS};
-    ///
-    /// let mut table = Table::new();
-    /// table.add(1, Flags::NONE, b"a+")?;
-    /// let (mut stream, mut rest) = (Stream::open(&table), &b"baab"[..]);
-    /// let mut ends = vec![];
-    /// while !rest.is_empty() {
-    ///     let scanned = stream.scan(MAX_BYTE_UNITS, rest, |report| ends.push(report.end))?;
-    ///     rest = &rest[scanned.taken..];
-    /// }
-    /// assert_eq!(ends, [2, 3]);
-    /// # Ok::<(), watcher::Error>(())
-    /// ```
-    pub fn scan(
-        &mut self,
-        allowance: u64,
-        block: &[u8],
-        mut found: impl FnMut(Report),
-    ) -> Result<Scanned, Error> {
-        let (mut ids, mut offsets) = ([0; REPORT_SLOTS], [0; REPORT_SLOTS]);
-        let mut done = Scanned::default();
-        loop {
-            let (left, rest) = (allowance - done.used, &block[done.taken..]);
-            let answer = self.scan_into(left, rest, &mut ids, &mut offsets)?;
-            give(&ids, &offsets, answer.reports, &mut found);
-            done.taken += answer.taken;
-            done.used += answer.used;
-            if answer.taken == 0 || done.taken == block.len() {
-                return Ok(done);
-            }
-        }
-    }
-
-    /// One scan into lists of the caller's: it stops before the first byte that the allowance does not
-    /// pay for, or whose reports do not all fit. Both lists need twice as many slots as the table has
-    /// rules.
-    ///
-    /// ```
-    /// use watcher::{Flags, Stream, Table, NO_LIMIT};
-    ///
-    /// let mut table = Table::new();
-    /// table.add(5, Flags::NONE, b"a")?;
-    /// let (mut ids, mut offsets) = ([0; 2], [0; 2]);
-    /// let answer = Stream::open(&table).scan_into(NO_LIMIT, b"aaa", &mut ids, &mut offsets)?;
-    /// assert_eq!((answer.taken, ids, offsets), (2, [5, 5], [1, 2]));
-    /// # Ok::<(), watcher::Error>(())
-    /// ```
-    pub fn scan_into(
-        &mut self,
-        allowance: u64,
-        block: &[u8],
-        ids: &mut [u32],
-        offsets: &mut [u64],
-    ) -> Result<raw::Answer, Error> {
-        let answer = raw::scan(&self.table.words, &mut self.state, allowance, block, ids, offsets);
-        Error::check(answer.number, 0)?;
-        Ok(answer)
-    }
-
-    /// Closes the stream, and gives the reports that needed its end: those before a last newline,
-    /// then those at the end.
-    ///
-    /// ```
-    /// use watcher::{Flags, Stream, Table, NO_LIMIT};
-    ///
-    /// let mut table = Table::new();
-    /// table.add(1, Flags::NONE, b"end$")?;
-    /// let mut stream = Stream::open(&table);
-    /// let mut ends = vec![];
-    /// stream.scan(NO_LIMIT, b"the end\n", |report| ends.push(report.end))?;
-    /// assert_eq!(ends, []);
-    /// stream.close(|report| ends.push(report.end))?;
-    /// assert_eq!(ends, [7]);
-    /// # Ok::<(), watcher::Error>(())
-    /// ```
-    pub fn close(mut self, mut found: impl FnMut(Report)) -> Result<(), Error> {
-        let (mut ids, mut offsets) = ([0; REPORT_SLOTS], [0; REPORT_SLOTS]);
-        let answer = raw::close(&self.table.words, &mut self.state, &mut ids, &mut offsets);
-        Error::check(answer.number, 0)?;
-        give(&ids, &offsets, answer.reports, &mut found);
-        Ok(())
-    }
-
-    /// How many positions are live; those that wait for the end are none. The next byte costs one unit
-    /// more than this.
-    ///
-    /// ```
-    /// use watcher::{Flags, Stream, Table, NO_LIMIT};
-    ///
-    /// let mut table = Table::new();
-    /// table.add(1, Flags::NONE, b"slack")?;
-    /// let mut stream = Stream::open(&table);
-    /// stream.scan(NO_LIMIT, b"rope sla", |_| ())?;
-    /// assert_eq!(stream.busy(), 1);
-    /// # Ok::<(), watcher::Error>(())
-    /// ```
-    pub fn busy(&self) -> u32 {
-        raw::busy(&self.state)
-    }
-}
-
-fn give(ids: &[u32], offsets: &[u64], reports: usize, found: &mut impl FnMut(Report)) {
-    for (&id, &end) in ids.iter().zip(offsets).take(reports) {
-        found(Report { id, end });
+    pub fn needs_starts(&self) -> bool {
+        raw::needs_starts(&self.words) != 0
     }
 }

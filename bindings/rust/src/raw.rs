@@ -163,6 +163,195 @@ pub fn busy(state: &[u64]) -> u32 {
     unsafe { sys::watcher_busy(state.as_ptr(), state.len()) }
 }
 
+/// 1 if a rule of the table reports starts, so that its streams are those with starts; else 0, also
+/// for words that are no table.
+///
+/// ```
+/// use watcher::{raw, Flags, Table};
+///
+/// let mut table = Table::new();
+/// assert_eq!(raw::needs_starts(table.words()), 0);
+/// table.add(7, Flags::LEFTMOST_START, b"ab")?;
+/// assert_eq!(raw::needs_starts(table.words()), 1);
+/// assert_eq!(raw::needs_starts(&[]), 0);
+/// # Ok::<(), watcher::Error>(())
+/// ```
+pub fn needs_starts(table: &[u64]) -> u32 {
+    unsafe { sys::watcher_needs_starts(table.as_ptr(), table.len()) }
+}
+
+/// Four lists that the reports of a stream with starts are written into, a slot of each for a
+/// report; the space is the shortest of them.
+///
+/// ```
+/// use watcher::Lists;
+///
+/// let (mut ids, mut offsets, mut starts, mut relatives) = ([0; 4], [0; 5], [0; 6], [0; 3]);
+/// let lists = Lists {
+///     ids: &mut ids,
+///     offsets: &mut offsets,
+///     starts: &mut starts,
+///     relatives: &mut relatives,
+/// };
+/// assert_eq!(lists.space(), 3);
+/// ```
+#[derive(Debug)]
+pub struct Lists<'l> {
+    /// The ids of the rules.
+    pub ids: &'l mut [u32],
+    /// The end offsets in the stream.
+    pub offsets: &'l mut [u64],
+    /// The starts in the stream; 0 for a rule without the flag.
+    pub starts: &'l mut [u64],
+    /// The starts measured from the first byte of the block, at closing from the stream's end:
+    /// below zero when the match began in an earlier block. 0 for a rule without the flag.
+    pub relatives: &'l mut [i64],
+}
+
+impl Lists<'_> {
+    /// How many reports fit: the slots of the shortest list.
+    ///
+    /// ```
+    /// use watcher::Lists;
+    ///
+    /// let (mut ids, mut offsets, mut starts, mut relatives) = ([0; 4], [0; 4], [0; 4], [0; 4]);
+    /// let lists = Lists {
+    ///     ids: &mut ids[..2],
+    ///     offsets: &mut offsets,
+    ///     starts: &mut starts,
+    ///     relatives: &mut relatives,
+    /// };
+    /// assert_eq!(lists.space(), 2);
+    /// ```
+    pub fn space(&self) -> usize {
+        let lengths = [self.offsets.len(), self.starts.len(), self.relatives.len()];
+        lengths.into_iter().fold(self.ids.len(), usize::min)
+    }
+}
+
+/// Opens a stream with starts. The number.
+///
+/// ```
+/// let mut state = [9; watcher::TRACE_WORDS];
+/// assert_eq!(watcher::raw::trace_open(watcher::Table::new().words(), &mut state), 0);
+/// assert_eq!(state, [0; watcher::TRACE_WORDS]);
+/// ```
+pub fn trace_open(table: &[u64], state: &mut [u64]) -> u32 {
+    let (words, count) = (state.as_mut_ptr(), state.len());
+    unsafe { sys::watcher_trace_open(table.as_ptr(), table.len(), words, count) }
+}
+
+/// Scans a block of a stream with starts into the lists.
+///
+/// ```
+/// use watcher::{raw, Flags, Lists, Table, NO_LIMIT};
+///
+/// let mut table = Table::new();
+/// table.add(7, Flags::LEFTMOST_START, b"abc")?;
+/// let mut state = [0; watcher::TRACE_WORDS];
+/// raw::trace_open(table.words(), &mut state);
+/// let (mut ids, mut offsets, mut starts, mut relatives) = ([0; 2], [0; 2], [0; 2], [0; 2]);
+/// let mut reports = 0;
+/// for block in [&b"xa"[..], b"b", b"c"] {
+///     let lists = Lists {
+///         ids: &mut ids,
+///         offsets: &mut offsets,
+///         starts: &mut starts,
+///         relatives: &mut relatives,
+///     };
+///     reports += raw::trace_scan(table.words(), &mut state, NO_LIMIT, block, lists).reports;
+/// }
+/// assert_eq!((reports, ids[0], offsets[0], starts[0], relatives[0]), (1, 7, 4, 1, -2));
+/// # Ok::<(), watcher::Error>(())
+/// ```
+pub fn trace_scan(
+    table: &[u64],
+    state: &mut [u64],
+    allowance: u64,
+    block: &[u8],
+    lists: Lists,
+) -> Answer {
+    let (mut taken, mut reports, mut used) = (0, 0, 0);
+    let number = unsafe {
+        sys::watcher_trace_scan(
+            table.as_ptr(),
+            table.len(),
+            state.as_mut_ptr(),
+            state.len(),
+            allowance,
+            block.as_ptr(),
+            block.len(),
+            lists.ids.as_mut_ptr(),
+            lists.ids.len(),
+            lists.offsets.as_mut_ptr(),
+            lists.offsets.len(),
+            lists.starts.as_mut_ptr(),
+            lists.starts.len(),
+            lists.relatives.as_mut_ptr(),
+            lists.relatives.len(),
+            &mut taken,
+            &mut reports,
+            &mut used,
+        )
+    };
+    Answer { number, taken, reports, used }
+}
+
+/// Closes a stream with starts, with the reports that needed its end.
+///
+/// ```
+/// use watcher::{raw, Flags, Lists, Stream, Table, NO_LIMIT};
+///
+/// let mut table = Table::new();
+/// table.add(7, Flags::LEFTMOST_START, b"ab$")?;
+/// let mut stream = Stream::open(&table);
+/// stream.scan(NO_LIMIT, b"cab", |_| ())?;
+/// let mut state = stream.state().to_vec();
+/// let (mut ids, mut offsets, mut starts, mut relatives) = ([0; 2], [0; 2], [0; 2], [0; 2]);
+/// let lists = Lists {
+///     ids: &mut ids,
+///     offsets: &mut offsets,
+///     starts: &mut starts,
+///     relatives: &mut relatives,
+/// };
+/// assert_eq!(raw::trace_close(table.words(), &mut state, lists).reports, 1);
+/// assert_eq!((ids[0], offsets[0], starts[0], relatives[0]), (7, 3, 1, -2));
+/// # Ok::<(), watcher::Error>(())
+/// ```
+pub fn trace_close(table: &[u64], state: &mut [u64], lists: Lists) -> Answer {
+    let mut reports = 0;
+    let number = unsafe {
+        sys::watcher_trace_close(
+            table.as_ptr(),
+            table.len(),
+            state.as_mut_ptr(),
+            state.len(),
+            lists.ids.as_mut_ptr(),
+            lists.ids.len(),
+            lists.offsets.as_mut_ptr(),
+            lists.offsets.len(),
+            lists.starts.as_mut_ptr(),
+            lists.starts.len(),
+            lists.relatives.as_mut_ptr(),
+            lists.relatives.len(),
+            &mut reports,
+        )
+    };
+    Answer { number, taken: 0, reports, used: 0 }
+}
+
+/// How many positions of a state with starts are live; 0 for too few words.
+///
+/// ```
+/// let mut state = [0; watcher::TRACE_WORDS];
+/// state[0] = 0b101;
+/// assert_eq!(watcher::raw::trace_busy(&state), 2);
+/// assert_eq!(watcher::raw::trace_busy(&state[1..]), 0);
+/// ```
+pub fn trace_busy(state: &[u64]) -> u32 {
+    unsafe { sys::watcher_trace_busy(state.as_ptr(), state.len()) }
+}
+
 /// Writes a block of the table. The number and the place.
 ///
 /// ```
@@ -226,8 +415,8 @@ pub struct Part {
     pub size: usize,
 }
 
-/// Where the bytes from `start` up to `end` stand, in the tail or in the block, which begins at `offset`;
-/// none of the block if neither holds them all.
+/// Where the bytes from `start` up to `end` stand, in the tail or in the block, which begins at
+/// `offset`; none of the block if neither holds them all.
 ///
 /// ```
 /// let part = watcher::raw::matched_bytes(b"ab", b"cd", 2, 3, 4);

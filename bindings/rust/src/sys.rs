@@ -61,12 +61,13 @@ extern "C" {
     /// ```
     /// let table = watcher::Table::new();
     /// let (t, n) = (table.words().as_ptr(), table.words().len());
-    /// let mut state = *watcher::Stream::open(&table).state();
+    /// let mut state = watcher::Stream::open(&table).state().to_vec();
     /// let (mut ids, mut offsets, block) = ([0; 2], [0; 2], b"abc");
     /// let (mut taken, mut reports, mut used) = (0, 0, 0);
     /// let number = unsafe {
     ///     watcher::sys::watcher_scan(
-    ///         t, n, state.as_mut_ptr(), state.len(), watcher::NO_LIMIT, block.as_ptr(), block.len(),
+    ///         t, n, state.as_mut_ptr(), state.len(), watcher::NO_LIMIT,
+    ///         block.as_ptr(), block.len(),
     ///         ids.as_mut_ptr(), ids.len(), offsets.as_mut_ptr(), offsets.len(),
     ///         &mut taken, &mut reports, &mut used,
     ///     )
@@ -95,7 +96,7 @@ extern "C" {
     /// ```
     /// let table = watcher::Table::new();
     /// let (t, n) = (table.words().as_ptr(), table.words().len());
-    /// let mut state = *watcher::Stream::open(&table).state();
+    /// let mut state = watcher::Stream::open(&table).state().to_vec();
     /// let (mut ids, mut offsets, mut reports) = ([0; 2], [0; 2], 0);
     /// let number = unsafe {
     ///     watcher::sys::watcher_close(
@@ -121,10 +122,123 @@ extern "C" {
     ///
     /// ```
     /// let table = watcher::Table::new();
-    /// let state = *watcher::Stream::open(&table).state();
+    /// let stream = watcher::Stream::open(&table);
+    /// let state = stream.state();
     /// assert_eq!(unsafe { watcher::sys::watcher_busy(state.as_ptr(), state.len()) }, 0);
     /// ```
     pub fn watcher_busy(state: *const u64, state_words: usize) -> u32;
+
+    /// Whether a rule of the table reports starts.
+    ///
+    /// ```
+    /// let table = watcher::Table::new();
+    /// let (t, n) = (table.words().as_ptr(), table.words().len());
+    /// assert_eq!(unsafe { watcher::sys::watcher_needs_starts(t, n) }, 0);
+    /// ```
+    pub fn watcher_needs_starts(table: *const u64, table_words: usize) -> u32;
+
+    /// Opens a stream with starts.
+    ///
+    /// ```
+    /// let table = watcher::Table::new();
+    /// let (t, n) = (table.words().as_ptr(), table.words().len());
+    /// let mut state = [9; watcher::TRACE_WORDS];
+    /// let (s, size) = (state.as_mut_ptr(), state.len());
+    /// assert_eq!(unsafe { watcher::sys::watcher_trace_open(t, n, s, size) }, 0);
+    /// assert_eq!(unsafe { watcher::sys::watcher_trace_open(t, n, s, size - 1) }, 100);
+    /// ```
+    pub fn watcher_trace_open(
+        table: *const u64,
+        table_words: usize,
+        state: *mut u64,
+        state_words: usize,
+    ) -> u32;
+
+    /// Scans a block of a stream with starts.
+    ///
+    /// ```
+    /// let mut table = watcher::Table::new();
+    /// table.add(7, watcher::Flags::LEFTMOST_START, b"bc")?;
+    /// let (t, n) = (table.words().as_ptr(), table.words().len());
+    /// let mut state = watcher::Stream::open(&table).state().to_vec();
+    /// let (mut ids, mut offsets, block) = ([0; 2], [0; 2], b"abc");
+    /// let (mut starts, mut relatives) = ([0; 2], [0; 2]);
+    /// let (mut taken, mut reports, mut used) = (0, 0, 0);
+    /// let number = unsafe {
+    ///     watcher::sys::watcher_trace_scan(
+    ///         t, n, state.as_mut_ptr(), state.len(), watcher::NO_LIMIT,
+    ///         block.as_ptr(), block.len(),
+    ///         ids.as_mut_ptr(), ids.len(), offsets.as_mut_ptr(), offsets.len(),
+    ///         starts.as_mut_ptr(), starts.len(), relatives.as_mut_ptr(), relatives.len(),
+    ///         &mut taken, &mut reports, &mut used,
+    ///     )
+    /// };
+    /// assert_eq!((number, taken, reports, used), (0, 3, 1, 4));
+    /// assert_eq!((ids[0], offsets[0], starts[0], relatives[0]), (7, 3, 1, 1));
+    /// # Ok::<(), watcher::Error>(())
+    /// ```
+    pub fn watcher_trace_scan(
+        table: *const u64,
+        table_words: usize,
+        state: *mut u64,
+        state_words: usize,
+        allowance: u64,
+        block: *const u8,
+        block_length: usize,
+        ids: *mut u32,
+        ids_length: usize,
+        offsets: *mut u64,
+        offsets_length: usize,
+        starts: *mut u64,
+        starts_length: usize,
+        relatives: *mut i64,
+        relatives_length: usize,
+        taken: *mut usize,
+        reports: *mut usize,
+        used: *mut u64,
+    ) -> u32;
+
+    /// Closes a stream with starts.
+    ///
+    /// ```
+    /// let table = watcher::Table::new();
+    /// let (t, n) = (table.words().as_ptr(), table.words().len());
+    /// let mut state = [0; watcher::TRACE_WORDS];
+    /// let (mut ids, mut offsets, mut reports) = ([0; 2], [0; 2], 0);
+    /// let (mut starts, mut relatives) = ([0; 2], [0; 2]);
+    /// let number = unsafe {
+    ///     watcher::sys::watcher_trace_close(
+    ///         t, n, state.as_mut_ptr(), state.len(),
+    ///         ids.as_mut_ptr(), ids.len(), offsets.as_mut_ptr(), offsets.len(),
+    ///         starts.as_mut_ptr(), starts.len(), relatives.as_mut_ptr(), relatives.len(),
+    ///         &mut reports,
+    ///     )
+    /// };
+    /// assert_eq!((number, reports), (0, 0));
+    /// ```
+    pub fn watcher_trace_close(
+        table: *const u64,
+        table_words: usize,
+        state: *mut u64,
+        state_words: usize,
+        ids: *mut u32,
+        ids_length: usize,
+        offsets: *mut u64,
+        offsets_length: usize,
+        starts: *mut u64,
+        starts_length: usize,
+        relatives: *mut i64,
+        relatives_length: usize,
+        reports: *mut usize,
+    ) -> u32;
+
+    /// The busy figure of a state with starts.
+    ///
+    /// ```
+    /// let state = [0; watcher::TRACE_WORDS];
+    /// assert_eq!(unsafe { watcher::sys::watcher_trace_busy(state.as_ptr(), state.len()) }, 0);
+    /// ```
+    pub fn watcher_trace_busy(state: *const u64, state_words: usize) -> u32;
 
     /// Writes a block of the table.
     ///

@@ -1,5 +1,5 @@
-//! What stands in two places is compared here: the refusals of `refusals.txt` with the C header, the
-//! documentation and this crate's own cases; the version; and each public item has an example.
+//! What stands in two places is compared here: the refusals of `refusals.txt` with the C header,
+//! the documentation and this crate's own cases; the version; and each public item has an example.
 
 use std::fs;
 
@@ -91,9 +91,10 @@ fn the_version_is_one() {
 /// The documentation comment above each public item holds a fenced example.
 #[test]
 fn each_public_item_has_an_example() {
-    for path in ["src/lib.rs", "src/error.rs", "src/raw.rs", "src/refusal.rs", "src/sys.rs"] {
+    let files = ["lib.rs", "error.rs", "raw.rs", "refusal.rs", "stream.rs", "sys.rs"];
+    for path in files {
         let (mut fenced, mut without) = (false, vec![]);
-        for line in file(path).lines().map(str::trim) {
+        for line in file(&format!("src/{path}")).lines().map(str::trim) {
             if line.starts_with("///") || line.starts_with("#[") {
                 fenced |= line == "/// ```";
                 continue;
