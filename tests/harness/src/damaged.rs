@@ -3,8 +3,9 @@
 //! afterwards. States start anywhere in a stream, also past 65,535 and 4,294,967,296 bytes and at its
 //! limit, with live and held positions, marks and held pairs, after a byte of any kind. Each scan is
 //! made a second time, with no smaller an allowance. Case i of a run depends on the seed and on i alone.
-//! States that keep starts have them at all their positions and pairs, now and then one too many or too
-//! large.
+//! States that keep starts have them at all their positions and pairs, now and then one too many or
+//! too large. On a table in which no rule needs a start each call is made on a state without starts
+//! too, and must be the same.
 
 use std::collections::BTreeMap;
 
@@ -17,7 +18,10 @@ use words::layout::*;
 use crate::patterns::pattern;
 use crate::rng::Rng;
 use crate::slices::{carried_further, in_bounds, Scanned};
-use crate::traced_model::{ample, columns};
+use crate::traced::{ample, columns};
+
+/// How many starts a state keeps.
+const STARTS: usize = TRACED_WORDS - STATE_WORDS;
 
 #[derive(Clone, Debug, Default)]
 pub struct Count {
@@ -30,6 +34,8 @@ pub struct Count {
     /// Calls by their number, and additions.
     pub by_number: BTreeMap<u32, u64>,
     pub additions: BTreeMap<u32, u64>,
+    /// Calls with starts that were made without them too.
+    pub alike: u64,
     /// By region: words that were changed, and first calls that they gave another outcome.
     pub changed: BTreeMap<Region, u64>,
     pub decided: BTreeMap<Region, u64>,
@@ -47,6 +53,19 @@ struct Lent {
 }
 
 impl Lent {
+    /// What a call without starts is lent: the words and slots that both forms have.
+    fn without_starts(&self) -> Lent {
+        let lengths = self.starts.as_ref().map(|of| of.starts.len().min(of.relatives.len()));
+        let space = self.ids.len().min(self.offsets.len()).min(lengths.unwrap_or(usize::MAX));
+        Lent {
+            table: self.table.clone(),
+            state: self.state[..STATE_WORDS].to_vec(),
+            ids: self.ids[..space].to_vec(),
+            offsets: self.offsets[..space].to_vec(),
+            starts: None,
+        }
+    }
+
     fn scanned(&self, answer: &Answer) -> Scanned<'_> {
         let &Answer { number, taken, count, used } = answer;
         let (ids, offsets) = (&self.ids[..], &self.offsets[..]);
@@ -167,6 +186,7 @@ fn one_case<F: Form, I: Form>(
     let Damaged { table, changed } = damaged(rng, F::TRACES);
     changed.iter().for_each(|&(at, _)| one_more(&mut count.changed, region(at)));
     same("test", calls.calls().test(&table), Interpreter.test(&table))?;
+    needed(calls.calls(), &table)?;
     let state = if F::TRACES { traced_state(rng, &table) } else { state(rng, &table) };
     let mut lent = Lent { table, state, ids: Vec::new(), offsets: Vec::new(), starts: None };
     for turn in 0..1 + rng.below(4) {
@@ -190,6 +210,7 @@ fn one_case<F: Form, I: Form>(
         let before = lent.clone();
         let answer = called(calls, interpreter, rng, &mut lent, scan)
             .map_err(|message| format!("{scan:?} on state {:?}: {message}", before.state))?;
+        count.alike += u64::from(alike(calls, before.clone(), &lent, scan, answer)?);
         if turn == 0 {
             let outcome = (answer, lent.clone());
             let deciding = deciding(interpreter, &changed, &before, scan, &outcome);
@@ -237,6 +258,43 @@ fn called<F: Form, I: Form>(
         carried_further(&lent.scanned(&answer), &others.scanned(&another))?;
     }
     Ok(answer)
+}
+
+/// Does a rule of these words need a start?
+fn needed<C: Calls>(calls: &C, table: &[u64]) -> Result<(), String> {
+    same("needs starts", calls.needs_starts(table), Interpreter.needs_starts(table))
+}
+
+/// A call with starts that left these words, made without them: where no rule needs a start, it
+/// gives the same answer, reports and words, and the call with starts left no start but 0. Says
+/// whether there was something to compare; a state may be refused for its starts alone.
+fn alike<F: Form>(
+    calls: &F,
+    before: Lent,
+    after: &Lent,
+    scan: Option<(&[u8], u64)>,
+    answer: Answer,
+) -> Result<bool, String> {
+    let whole = F::TRACES && before.state.len() >= TRACED_WORDS;
+    if !whole || answer.number == 18 || Interpreter.needs_starts(&before.table) != 0 {
+        return Ok(false);
+    }
+    let form = Untraced(calls.calls());
+    let mut short = before.without_starts();
+    same("busy figure without starts", form.busy(&short.state), calls.busy(&before.state))?;
+    same("answer without starts", form.call(&mut short, scan), answer)?;
+    if short != after.without_starts() {
+        return Err("without starts other words were left".to_string());
+    }
+    let zero = after.starts.iter().all(|of| {
+        of.starts[..answer.count].iter().all(|&start| start == 0)
+            && of.relatives[..answer.count].iter().all(|&start| start == 0)
+    });
+    let kept = answer.taken == 0 || after.state[STATE_WORDS..TRACED_WORDS] == [0; STARTS];
+    if !zero || !kept {
+        return Err("a start other than 0 where no rule needs one".to_string());
+    }
+    Ok(true)
 }
 
 /// The regions whose changed words gave a call this outcome: with what they were before, it is
@@ -288,6 +346,7 @@ fn added<C: Calls>(calls: &C, rng: &mut Rng, lent: &mut Lent) -> Result<u32, Str
         let pattern = pattern.escape_ascii();
         return Err(format!("the addition of {pattern} left other words at {other:?}"));
     }
+    needed(calls, &lent.table)?;
     Ok(answer.0)
 }
 
@@ -503,7 +562,8 @@ fn traced_state(rng: &mut Rng, table: &[u64]) -> Vec<u64> {
         return state;
     }
     state.truncate(STATE_WORDS);
-    state.resize(TRACED_WORDS + rng.below(2), 0);
+    state.resize(TRACED_WORDS, 0);
+    state.extend((0..rng.below(2)).map(|_| rng.word()));
     let taken = state[TAKEN];
     let near = *rng.pick(&[2, 20, u64::MAX]);
     let start = |rng: &mut Rng| match taken {

@@ -1,16 +1,15 @@
 //! The comparing harness: cases from the corpus and from the generators, carried out on whatever is
 //! under test and compared with the definition.
 //!
-//! `watcher` is the interface to what is under test; `model` puts the reference's calls behind it, and
-//! `traced_model` those whose streams keep starts.
+//! `watcher` is the interface to what is under test; `model` puts the reference's calls behind it,
+//! `over_words` calls over lent words, be they the interpreter's of `words` or the library's
+//! (`library`); `traced` makes of either the watcher whose streams keep starts.
 //! `scenario` turns additions, a log and a caller's doings into a case whose answers the definition
 //! gives; `play` carries a case out, be it from there or from the corpus. `slices` is what every scan
 //! owes for the work it may do. `exhaustive` and `random` make scenarios, `shrink` makes a failing one
 //! small. `readings` compares the reader alone.
-//! `over_words` is a watcher made of calls over lent words, be they the interpreter's of `words` or
-//! the library's (`library`), and `damaged` compares such calls where the words are of any content.
-//! `card` does so for the blocks of a table on the card, `matched` for the bytes of a match. `process` is
-//! the built program.
+//! `damaged` compares calls over words where the words are of any content. `card` does so for the
+//! blocks of a table on the card, `matched` for the bytes of a match. `process` is the built program.
 
 pub mod card;
 pub mod corpus_run;
@@ -33,6 +32,5 @@ pub mod rng;
 pub mod scenario;
 pub mod shrink;
 pub mod slices;
-pub mod traced_model;
-pub mod traced_words;
+pub mod traced;
 pub mod watcher;

@@ -1,7 +1,8 @@
 //! The library behind the calls over words, through the functions that its static library exports.
 
-use watcher::raw;
-use words::calls::{Answer, Calls};
+use reference::calls::Columns;
+use watcher::{raw, Lists};
+use words::calls::{Answer, Calls, Traces};
 use words::card::Card;
 
 use crate::matched::Matched;
@@ -16,6 +17,10 @@ impl Calls for Library {
 
     fn test(&self, table: &[u64]) -> u32 {
         raw::test(table)
+    }
+
+    fn needs_starts(&self, table: &[u64]) -> u32 {
+        raw::needs_starts(table)
     }
 
     fn add(&self, table: &mut [u64], id: u32, flags: u32, pattern: &[u8]) -> (u32, usize) {
@@ -51,6 +56,36 @@ impl Calls for Library {
     fn busy(&self, state: &[u64]) -> u32 {
         raw::busy(state)
     }
+}
+
+impl Traces for Library {
+    fn trace_open(&self, table: &[u64], state: &mut [u64]) -> u32 {
+        raw::trace_open(table, state)
+    }
+
+    fn trace_scan(
+        &self,
+        table: &[u64],
+        state: &mut [u64],
+        allowance: u64,
+        block: &[u8],
+        lists: Columns,
+    ) -> Answer {
+        answer(raw::trace_scan(table, state, allowance, block, lent(lists)))
+    }
+
+    fn trace_close(&self, table: &[u64], state: &mut [u64], lists: Columns) -> Answer {
+        answer(raw::trace_close(table, state, lent(lists)))
+    }
+
+    fn trace_busy(&self, state: &[u64]) -> u32 {
+        raw::trace_busy(state)
+    }
+}
+
+fn lent(lists: Columns) -> Lists {
+    let Columns { ids, offsets, starts, relatives } = lists;
+    Lists { ids, offsets, starts, relatives }
 }
 
 impl Card for Library {

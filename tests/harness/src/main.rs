@@ -1,5 +1,6 @@
 //! The harness as a command: what is under test, and then the corpus, the exhaustive mode with one of
-//! its alphabets, the random mode, or damaged words. It prints counts, and ends with status 1 when anything disagrees.
+//! its alphabets, the random mode, or damaged words. It prints counts, and ends with status 1 when
+//! anything disagrees.
 
 use std::path::Path;
 use std::process::ExitCode;
@@ -13,8 +14,7 @@ use harness::over_words::OverWords;
 #[cfg(feature = "library")]
 use harness::plain;
 use harness::process::Process;
-use harness::traced_model::TracedModel;
-use harness::traced_words::TracedWords;
+use harness::traced::Traced;
 use harness::watcher::{PatternReader, Watcher};
 use harness::{card, damaged, random, readings};
 use words::calls::{Calls, Traces};
@@ -30,7 +30,7 @@ const USAGE: &str = "usage:
   harness [WATCHER] braces TOKENS BYTES [PART OF]
   harness [WATCHER] readings LENGTH
   harness [WATCHER] random SEED COUNT [FIRST]
-  harness library damaged SEED COUNT [FIRST]
+  harness [traced] library damaged SEED COUNT [FIRST]
   harness library card SEED COUNT [FIRST]
   harness library matched LENGTH
   harness plain exhaustive TOKENS BYTES
@@ -46,8 +46,10 @@ fn main() -> ExitCode {
     let words: Vec<&str> = words.iter().map(String::as_str).collect();
     let done = match &words[..] {
         ["model", rest @ ..] => command(&Model, rest),
-        ["traced", "model", rest @ ..] => command(&TracedModel, rest),
+        ["traced", "model", rest @ ..] => command(&Traced(Model), rest),
         ["traced", "words", rest @ ..] => traced_words(Interpreter, rest),
+        #[cfg(feature = "library")]
+        ["traced", "library", rest @ ..] => traced_words(Library, rest),
         ["words", rest @ ..] => over_words(Interpreter, rest),
         ["program", path] => program(path),
         #[cfg(feature = "library")]
@@ -82,8 +84,14 @@ fn numbers(words: &[&str]) -> Result<Vec<u64>, String> {
     words.iter().map(|word| word.parse().map_err(|_| USAGE.to_string())).collect()
 }
 
-/// The commands on calls over words, two of which no other watcher has.
-fn over_words<C: Calls + Card>(calls: C, words: &[&str]) -> Result<(), String> {
+/// The commands on calls over words, two of which no other watcher has; the corpus is played on
+/// streams with starts too.
+fn over_words<C: Calls + Traces + Card + Copy>(calls: C, words: &[&str]) -> Result<(), String> {
+    if let ["corpus"] = words {
+        corpus(&OverWords(calls))?;
+        let tally = run_folder(&Traced(OverWords(calls)), corpus::files::folder())?;
+        return show("corpus on the calls with starts", &tally);
+    }
     if let ["damaged", rest @ ..] = words {
         return match numbers(rest)?[..] {
             [seed, count] => many_damaged(&calls, seed, 0, count),
@@ -111,7 +119,7 @@ fn traced_words<C: Calls + Traces + Copy>(calls: C, words: &[&str]) -> Result<()
         };
         return show_damaged(seed, damaged::run_traced(&calls, seed, first, count)?);
     }
-    command(&TracedWords(calls), words)
+    command(&Traced(OverWords(calls)), words)
 }
 
 fn command<W: Watcher + PatternReader>(watcher: &W, words: &[&str]) -> Result<(), String> {
@@ -220,6 +228,9 @@ fn show_damaged(seed: u64, count: damaged::Count) -> Result<(), String> {
         "damaged: seed {seed}, {} cases, {} calls, {} bytes taken, {} reports, {} units",
         count.cases, count.calls, count.taken, count.reports, count.used
     );
+    if count.alike > 0 {
+        println!("damaged: {} calls with starts made without them too", count.alike);
+    }
     println!("damaged: calls by number {:?}", count.by_number);
     println!("damaged: additions by number {:?}", count.additions);
     println!("damaged: words changed by region {:?}", count.changed);

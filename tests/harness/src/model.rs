@@ -1,11 +1,15 @@
-//! The reference behind the interface: the model of the calls, the reader, and the program.
+//! The reference behind the interface: the model of the calls, with both forms of streams, the
+//! reader, and the program.
 
-use reference::calls::{Stream, Table};
+use corpus::Kept;
+use reference::calls::{self, Columns, Stream, Table};
 use reference::windows::Windows;
 use reference::{program, rule};
 
+use crate::traced::Tracing;
 use crate::watcher::{Answer, Change, PatternReader, Program, Reading, Watcher};
 
+#[derive(Clone, Copy, Debug)]
 pub struct Model;
 
 impl Watcher for Model {
@@ -92,7 +96,51 @@ impl Watcher for Model {
     }
 }
 
-pub(crate) fn answer<S>(answer: reference::calls::Answer<S>) -> Answer<S> {
+impl Tracing for Model {
+    type Traced = calls::Traced;
+
+    fn trace(&self, table: &Table) -> (u32, calls::Traced) {
+        table.trace()
+    }
+
+    fn trace_scan(
+        &self,
+        table: &Table,
+        stream: calls::Traced,
+        allowance: u64,
+        block: &[u8],
+        lists: Columns,
+    ) -> Answer<calls::Traced> {
+        answer(stream.scan(table, allowance, block, lists))
+    }
+
+    fn trace_close(
+        &self,
+        table: &Table,
+        stream: calls::Traced,
+        lists: Columns,
+    ) -> Answer<calls::Traced> {
+        answer(stream.close(table, lists))
+    }
+
+    fn trace_busy(&self, stream: &calls::Traced) -> usize {
+        stream.busy()
+    }
+
+    fn trace_changed(&self, stream: &calls::Traced, change: Change) -> Option<calls::Traced> {
+        let Change::Start(kept, index, start) = change else {
+            return stream.changed(|inner: &Stream| self.changed(inner, change));
+        };
+        let kept = match kept {
+            Kept::Live => calls::Kept::Live,
+            Kept::Held => calls::Kept::Held,
+            Kept::Pair => calls::Kept::Pair,
+        };
+        stream.with_start(kept, index, start)
+    }
+}
+
+fn answer<S>(answer: calls::Answer<S>) -> Answer<S> {
     Answer {
         number: answer.number,
         taken: answer.taken,

@@ -1,10 +1,11 @@
-//! A watcher made of calls over lent words.
+//! A watcher made of calls over lent words, with both forms of streams.
 
-use words::calls::{self, Calls};
-use words::layout::{
-    FORMAT, HELD, MARKS, PENDING, POSITIONS, SIDE, STATE_WORDS, TABLE_WORDS, TAKEN,
-};
+use corpus::Kept;
+use reference::calls::Columns;
+use words::calls::{self, Calls, Traces};
+use words::layout::*;
 
+use crate::traced::Tracing;
 use crate::watcher::{Answer, Change, PatternReader, Reading, Watcher};
 
 #[derive(Clone, Copy, Debug)]
@@ -82,7 +83,56 @@ impl<C: Calls> Watcher for OverWords<C> {
     }
 }
 
-pub(crate) fn answer<S>(answer: calls::Answer, stream: S) -> Answer<S> {
+impl<C: Calls + Traces> Tracing for OverWords<C> {
+    type Traced = Vec<u64>;
+
+    fn trace(&self, table: &Vec<u64>) -> (u32, Vec<u64>) {
+        let mut state = vec![0xdead_beef; TRACED_WORDS];
+        (self.0.trace_open(table, &mut state), state)
+    }
+
+    fn trace_scan(
+        &self,
+        table: &Vec<u64>,
+        mut stream: Vec<u64>,
+        allowance: u64,
+        block: &[u8],
+        lists: Columns,
+    ) -> Answer<Vec<u64>> {
+        answer(self.0.trace_scan(table, &mut stream, allowance, block, lists), stream)
+    }
+
+    fn trace_close(
+        &self,
+        table: &Vec<u64>,
+        mut stream: Vec<u64>,
+        lists: Columns,
+    ) -> Answer<Vec<u64>> {
+        answer(self.0.trace_close(table, &mut stream, lists), stream)
+    }
+
+    fn trace_busy(&self, stream: &Vec<u64>) -> usize {
+        self.0.trace_busy(stream) as usize
+    }
+
+    fn trace_changed(&self, stream: &Vec<u64>, change: Change) -> Option<Vec<u64>> {
+        let mut state = stream.clone();
+        let Change::Start(kept, index, start) = change else {
+            let first: [u64; STATE_WORDS] = stream[..STATE_WORDS].try_into().ok()?;
+            state[..STATE_WORDS].copy_from_slice(&self.changed(&first, change)?);
+            return Some(state);
+        };
+        let (from, many) = match kept {
+            Kept::Live => (LIVE_STARTS, MAX_POSITIONS),
+            Kept::Held => (HELD_STARTS, MAX_POSITIONS),
+            Kept::Pair => (PAIR_STARTS, MAX_RULES),
+        };
+        *state[from..from + many].get_mut(index)? = start;
+        Some(state)
+    }
+}
+
+fn answer<S>(answer: calls::Answer, stream: S) -> Answer<S> {
     let calls::Answer { number, taken, count, used } = answer;
     Answer { number, taken, count, used, stream }
 }

@@ -161,12 +161,13 @@ fn lengthen(question: &mut Question) {
         question.log.push(b'a');
     }
     question.log = question.log.iter().copied().cycle().take(LOG).collect();
-    question.flags &= 15;
+    question.flags &= KNOWN;
     question.windows = NO_WINDOWS;
     question.slots = (SPACE, SPACE);
 }
 
-/// A long log, on which the definition would take too long: compared with table, scan and closing alone.
+/// A long log, on which the definition would take too long: compared with table, scan and closing
+/// alone.
 fn ask_long(question: &Question, count: &mut Count) -> Result<(), String> {
     let Question { pattern, flags, windows, log, .. } = question;
     let (mut offsets, mut starts) = (vec![BEFORE; SPACE], vec![BEFORE; SPACE]);
@@ -175,11 +176,8 @@ fn ask_long(question: &Question, count: &mut Count) -> Result<(), String> {
     if answer.number == 0 {
         count.accepted += 1;
         count.reports += answer.reports as u64;
-        return scan_too(
-            question,
-            &offsets[..answer.reports].iter().map(|&end| (end, 0)).collect(),
-            count,
-        );
+        let reports = offsets.into_iter().zip(starts).take(answer.reports).collect();
+        return scan_too(question, &reports, count);
     }
     match Table::new().add(1, Flags(*flags), pattern) {
         Err(error) if (error.number(), error.place()) == (answer.number, answer.place) => Ok(()),
@@ -187,23 +185,23 @@ fn ask_long(question: &Question, count: &mut Count) -> Result<(), String> {
     }
 }
 
-/// The same rule by table, scan and closing, which know neither windows nor starts yet.
+/// The same rule by table, scan and closing, which know no windows.
 fn scan_too(question: &Question, reports: &Reports, count: &mut Count) -> Result<(), String> {
     if question.windows != NO_WINDOWS {
         return Ok(());
     }
     let mut table = Table::new();
-    let flags = Flags(question.flags & !LEFTMOST);
+    let flags = Flags(question.flags);
     table.add(1, flags, &question.pattern).map_err(|error| format!("{question:?}: {error}"))?;
-    let mut offsets = Vec::new();
+    let mut scanned = Reports::new();
     let mut stream = Stream::open(&table);
     stream
-        .scan(NO_LIMIT, &question.log, |report| offsets.push(report.end))
-        .and_then(|_| stream.close(|report| offsets.push(report.end)))
+        .scan(NO_LIMIT, &question.log, |report| scanned.push((report.end, report.start)))
+        .and_then(|_| stream.close(|report| scanned.push((report.end, report.start))))
         .map_err(|error| format!("{question:?}: {error}"))?;
     count.scanned += 1;
-    if offsets != reports.iter().map(|report| report.0).collect::<Vec<_>>() {
-        return Err(format!("{question:?}\n  table: {offsets:?}\n  plain: {reports:?}"));
+    if scanned != *reports {
+        return Err(format!("{question:?}\n  table: {scanned:?}\n  plain: {reports:?}"));
     }
     Ok(())
 }

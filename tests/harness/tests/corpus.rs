@@ -2,7 +2,7 @@
 
 use harness::corpus_run::{run_definition, run_folder, run_program, Tally};
 use harness::model::Model;
-use harness::traced_model::TracedModel;
+use harness::traced::Traced;
 
 fn all_passed(tally: Tally, at_least: usize) {
     assert!(tally.failures.is_empty(), "{}", tally.failures.join("\n"));
@@ -22,7 +22,7 @@ fn the_calls() {
 
 #[test]
 fn the_calls_with_starts() {
-    all_passed(run_folder(&TracedModel, corpus::files::folder()).unwrap(), 1_000);
+    all_passed(run_folder(&Traced(Model), corpus::files::folder()).unwrap(), 1_000);
 }
 
 #[test]

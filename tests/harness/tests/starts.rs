@@ -5,12 +5,16 @@ mod finding;
 
 use corpus::Lists;
 use harness::exhaustive::MEANING;
-use harness::traced_model::{ample, TracedModel};
+use harness::model::Model;
+use harness::traced::{self, ample};
 use harness::watcher::{Answer, Change, Watcher};
 use reference::calls::{Table, Traced};
 use reference::known::Known;
 use reference::meaning::ends;
 use reference::rule::{check, Rule};
+
+/// What the slips are made from.
+const MODEL: traced::Traced<Model> = traced::Traced(Model);
 
 #[derive(Clone, Copy, Debug, PartialEq)]
 enum Slip {
@@ -174,15 +178,15 @@ impl Watcher for Slip {
     type Stream = Bytes;
 
     fn words(&self, count: usize) -> Rules {
-        Rules { table: TracedModel.words(count), rules: Vec::new() }
+        Rules { table: MODEL.words(count), rules: Vec::new() }
     }
 
     fn resized(&self, table: &Rules, count: usize) -> Rules {
-        Rules { table: TracedModel.resized(&table.table, count), rules: table.rules.clone() }
+        Rules { table: MODEL.resized(&table.table, count), rules: table.rules.clone() }
     }
 
     fn empty(&self, table: &mut Rules) -> u32 {
-        let number = TracedModel.empty(&mut table.table);
+        let number = MODEL.empty(&mut table.table);
         if number == 0 {
             table.rules.clear();
         }
@@ -190,7 +194,7 @@ impl Watcher for Slip {
     }
 
     fn add(&self, table: &mut Rules, id: u32, flags: u32, pattern: &[u8]) -> (u32, usize) {
-        let answer = TracedModel.add(&mut table.table, id, flags, pattern);
+        let answer = MODEL.add(&mut table.table, id, flags, pattern);
         match (self, answer.0) {
             (TwentyFourAfterThree, 24) if table.rules.iter().any(|rule| rule.id == id) => {
                 return (3, 0);
@@ -210,7 +214,7 @@ impl Watcher for Slip {
     }
 
     fn open(&self, table: &Rules) -> (u32, Bytes) {
-        let (number, stream) = TracedModel.open(&table.table);
+        let (number, stream) = MODEL.open(&table.table);
         (number, Bytes { stream, bytes: Vec::new() })
     }
 
@@ -224,7 +228,7 @@ impl Watcher for Slip {
         offsets: &mut [u64],
     ) -> Answer<Bytes> {
         let mut bytes = stream.bytes;
-        let of = TracedModel.scan(&table.table, stream.stream, allowance, block, ids, offsets);
+        let of = MODEL.scan(&table.table, stream.stream, allowance, block, ids, offsets);
         bytes.extend(&block[..of.taken]);
         answer(of, bytes)
     }
@@ -236,7 +240,7 @@ impl Watcher for Slip {
         ids: &mut [u32],
         offsets: &mut [u64],
     ) -> Answer<Bytes> {
-        let of = TracedModel.close(&table.table, stream.stream, ids, offsets);
+        let of = MODEL.close(&table.table, stream.stream, ids, offsets);
         answer(of, stream.bytes)
     }
 
@@ -250,9 +254,8 @@ impl Watcher for Slip {
     ) -> Answer<Bytes> {
         let Bytes { stream, mut bytes } = stream;
         let first = bytes.len() as u64;
-        let of = self.called(lists, |lists| {
-            TracedModel.scan_into(&table.table, stream, allowance, block, lists)
-        });
+        let of = self
+            .called(lists, |lists| MODEL.scan_into(&table.table, stream, allowance, block, lists));
         bytes.extend(&block[..of.taken]);
         self.written(&table.rules, &of, (first, &bytes, false), lists);
         answer(of, bytes)
@@ -260,13 +263,13 @@ impl Watcher for Slip {
 
     fn close_into(&self, table: &Rules, stream: Bytes, lists: &mut Lists) -> Answer<Bytes> {
         let Bytes { stream, bytes } = stream;
-        let of = self.called(lists, |lists| TracedModel.close_into(&table.table, stream, lists));
+        let of = self.called(lists, |lists| MODEL.close_into(&table.table, stream, lists));
         self.written(&table.rules, &of, (bytes.len() as u64, &bytes, true), lists);
         answer(of, bytes)
     }
 
     fn busy(&self, stream: &Bytes) -> usize {
-        TracedModel.busy(&stream.stream)
+        MODEL.busy(&stream.stream)
     }
 
     fn changed(&self, stream: &Bytes, change: Change) -> Option<Bytes> {
@@ -277,7 +280,7 @@ impl Watcher for Slip {
         if matches!(change, Change::Total(_)) {
             return None;
         }
-        let changed = TracedModel.changed(&stream.stream, change)?;
+        let changed = MODEL.changed(&stream.stream, change)?;
         Some(Bytes { stream: changed, bytes: stream.bytes.clone() })
     }
 }

@@ -12,7 +12,7 @@ use harness::damaged::run;
 use harness::definition::{windows as read, written};
 use harness::over_words::OverWords;
 use harness::random;
-use harness::traced_words::TracedWords;
+use harness::traced::Traced;
 use slipping::{Slipping, With};
 use words::calls::{Answer, Calls};
 use words::gaps::Side;
@@ -281,7 +281,7 @@ fn the_corpus() {
 
 #[test]
 fn the_corpus_with_starts() {
-    let tally = run_folder(&TracedWords(Interpreter), corpus::files::folder()).unwrap();
+    let tally = run_folder(&Traced(OverWords(Interpreter)), corpus::files::folder()).unwrap();
     assert!(tally.failures.is_empty(), "{}", tally.failures.join("\n"));
     assert_eq!(tally.skipped, with_windows(), "cases with windows, which words have not");
     assert!(tally.passed >= 1_000);
@@ -299,7 +299,7 @@ fn with_windows() -> usize {
 
 #[test]
 fn random_cases_with_starts() {
-    random::run(&TracedWords(Interpreter), 5, 0, 3_000).unwrap();
+    random::run(&Traced(OverWords(Interpreter)), 5, 0, 3_000).unwrap();
 }
 
 #[test]

@@ -23,6 +23,10 @@ pub trait Calls {
     /// 0 for words that are a table, else 1.
     fn test(&self, table: &[u64]) -> u32;
 
+    /// 1 for a table in which a rule reports starts, or a position keeps one; else 0, also for words
+    /// that are no table.
+    fn needs_starts(&self, table: &[u64]) -> u32;
+
     /// The number and the place.
     fn add(&self, table: &mut [u64], id: u32, flags: u32, pattern: &[u8]) -> (u32, usize);
 

@@ -248,6 +248,10 @@ impl Calls for Interpreter {
         u32::from(table(words).is_none())
     }
 
+    fn needs_starts(&self, words: &[u64]) -> u32 {
+        u32::from(table(words).is_some_and(|table| table.needs_starts()))
+    }
+
     fn add(&self, words: &mut [u64], id: u32, flags: u32, pattern: &[u8]) -> (u32, usize) {
         if table(words).is_none() {
             return (1, 0);

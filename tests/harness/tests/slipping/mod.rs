@@ -2,7 +2,8 @@
 
 use std::borrow::Cow;
 
-use words::calls::{Answer, Calls};
+use reference::calls::Columns;
+use words::calls::{Answer, Calls, Traces};
 use words::interpreter::Interpreter;
 
 pub trait Slipping {
@@ -13,6 +14,10 @@ pub trait Slipping {
 
     fn test(&self, table: &[u64]) -> u32 {
         Interpreter.test(table)
+    }
+
+    fn needs_starts(&self, table: &[u64]) -> u32 {
+        Interpreter.needs_starts(table)
     }
 
     fn add(&self, table: &mut [u64], id: u32, flags: u32, pattern: &[u8]) -> (u32, usize) {
@@ -50,6 +55,38 @@ pub trait Slipping {
     fn busy(&self, state: &[u64]) -> u32 {
         Interpreter.busy(state)
     }
+
+    fn trace_open(&self, table: &[u64], state: &mut [u64]) -> u32 {
+        Interpreter.trace_open(table, state)
+    }
+
+    /// A scan of a block with an allowance, or a closing, on a state that keeps starts.
+    fn trace(
+        &self,
+        table: &[u64],
+        state: &mut [u64],
+        scan: Option<(&[u8], u64)>,
+        lists: Columns,
+    ) -> Answer {
+        traced(table, state, scan, lists)
+    }
+
+    fn trace_busy(&self, state: &[u64]) -> u32 {
+        Interpreter.trace_busy(state)
+    }
+}
+
+/// The interpreter's scan or closing on a state that keeps starts.
+pub fn traced(
+    table: &[u64],
+    state: &mut [u64],
+    scan: Option<(&[u8], u64)>,
+    lists: Columns,
+) -> Answer {
+    match scan {
+        Some((block, allowance)) => Interpreter.trace_scan(table, state, allowance, block, lists),
+        None => Interpreter.trace_close(table, state, lists),
+    }
 }
 
 /// The calls with a slip.
@@ -63,6 +100,10 @@ impl<S: Slipping> Calls for With<S> {
 
     fn test(&self, table: &[u64]) -> u32 {
         self.0.test(table)
+    }
+
+    fn needs_starts(&self, table: &[u64]) -> u32 {
+        self.0.needs_starts(table)
     }
 
     fn add(&self, table: &mut [u64], id: u32, flags: u32, pattern: &[u8]) -> (u32, usize) {
@@ -97,5 +138,30 @@ impl<S: Slipping> Calls for With<S> {
 
     fn busy(&self, state: &[u64]) -> u32 {
         self.0.busy(state)
+    }
+}
+
+impl<S: Slipping> Traces for With<S> {
+    fn trace_open(&self, table: &[u64], state: &mut [u64]) -> u32 {
+        self.0.trace_open(table, state)
+    }
+
+    fn trace_scan(
+        &self,
+        table: &[u64],
+        state: &mut [u64],
+        allowance: u64,
+        block: &[u8],
+        lists: Columns,
+    ) -> Answer {
+        self.0.trace(table, state, Some((block, allowance)), lists)
+    }
+
+    fn trace_close(&self, table: &[u64], state: &mut [u64], lists: Columns) -> Answer {
+        self.0.trace(table, state, None, lists)
+    }
+
+    fn trace_busy(&self, state: &[u64]) -> u32 {
+        self.0.trace_busy(state)
     }
 }
