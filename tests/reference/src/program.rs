@@ -1,7 +1,7 @@
 //! A model of the program: rules from a file's bytes, a stream from the input's bytes, the lines it
 //! writes. Lines of rules: a decimal id, a space, decimal flags, a space, the pattern.
 
-use crate::calls::{Table, NO_LIMIT};
+use crate::calls::{Columns, Table, NO_LIMIT};
 use crate::refusal::{least_space, MAX_RULES, TABLE_WORDS};
 
 /// At most this many bytes of rules are read.
@@ -25,15 +25,23 @@ pub fn run(rules: &[u8], input: &[u8]) -> Vec<u8> {
         };
         out.push_str(&format!("rule {} refused {number} at {place}\n", index + 1));
     }
-    let (_, mut stream) = table.open();
+    // A rule may report starts, which no line shows.
+    let (_, mut stream) = table.trace();
     let space = least_space(MAX_RULES);
     let (mut ids, mut offsets) = (vec![0; space], vec![0; space]);
+    let (mut starts, mut relatives) = (vec![0; space], vec![0; space]);
     let mut rest = input;
     loop {
+        let lists = Columns {
+            ids: &mut ids,
+            offsets: &mut offsets,
+            starts: &mut starts,
+            relatives: &mut relatives,
+        };
         let answer = if rest.is_empty() {
-            stream.close(&table, &mut ids, &mut offsets)
+            stream.close(&table, lists)
         } else {
-            stream.scan(&table, NO_LIMIT, rest, &mut ids, &mut offsets)
+            stream.scan(&table, NO_LIMIT, rest, lists)
         };
         for slot in 0..answer.count {
             out.push_str(&format!("{} {}\n", ids[slot], offsets[slot]));

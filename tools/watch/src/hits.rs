@@ -5,7 +5,9 @@
 use std::collections::VecDeque;
 use std::io::{self, Read};
 
-use watcher::{Error, Report, Stream, Table, NO_LIMIT};
+use watcher::{Error, Report, Stream, NO_LIMIT};
+
+use crate::rules::Rules;
 
 /// So many columns are shown before the end of a match, and after it, where the line is long.
 const BEFORE: usize = 120;
@@ -90,14 +92,18 @@ pub enum Failure {
 /// Scans a log to its end and gives each hit, in the order of delivery; after each block `so_far`
 /// hears how far it is.
 pub fn of_log(
-    table: &Table,
+    rules: &Rules,
     log: &mut impl Read,
     wish: Wish,
     mut give: impl FnMut(Hit) -> io::Result<()>,
     mut so_far: impl FnMut(Total),
 ) -> Result<Total, Failure> {
-    let mut stream = Stream::open(table);
+    let mut stream = Stream::open(&rules.table);
     let mut window = Window { wish, ..Window::default() };
+    let known = |Report { id, start, end }: Report| {
+        let start = rules.reports_starts(id).then_some(start);
+        Found { id, start, end }
+    };
     let mut waiting = VecDeque::new();
     let mut total = Total::default();
     let mut block = vec![0; BLOCK];
@@ -108,18 +114,26 @@ pub fn of_log(
         }
         window.push(&block[..size]);
         for part in block[..size].chunks(PART) {
-            let found = |report| waiting.push_back(report);
+            let found = |report| waiting.push_back(known(report));
             stream.scan(NO_LIMIT, part, found).map_err(Failure::Refused)?;
             total.bytes += part.len() as u64;
             window.give(&mut waiting, false, &mut total.hits, &mut give)?;
         }
         so_far(total);
-        window.forget(waiting.front().map(|report: &Report| report.end));
+        window.forget(waiting.front().map(|found: &Found| found.end));
     }
-    stream.close(|report| waiting.push_back(report)).map_err(Failure::Refused)?;
+    stream.close(|report| waiting.push_back(known(report))).map_err(Failure::Refused)?;
     window.give(&mut waiting, true, &mut total.hits, &mut give)?;
     total.lines = window.lines();
     Ok(total)
+}
+
+/// A report as it is known here: its start, if its rule reports one.
+#[derive(Clone, Copy)]
+struct Found {
+    id: u32,
+    start: Option<u64>,
+    end: u64,
 }
 
 /// Reads some bytes, none at the log's end or the stream's limit.
@@ -199,13 +213,13 @@ impl Window {
     /// Gives the hits that wait, as far as what follows them is known.
     fn give(
         &mut self,
-        waiting: &mut VecDeque<Report>,
+        waiting: &mut VecDeque<Found>,
         ended: bool,
         hits: &mut u64,
         give: &mut impl FnMut(Hit) -> io::Result<()>,
     ) -> Result<(), Failure> {
-        while let Some(&report) = waiting.front() {
-            let Some(hit) = self.hit(report, ended) else { break };
+        while let Some(&found) = waiting.front() {
+            let Some(hit) = self.hit(found, ended) else { break };
             waiting.pop_front();
             *hits += 1;
             give(hit).map_err(Failure::Given)?;
@@ -214,7 +228,7 @@ impl Window {
     }
 
     /// A hit with its line; none while too little is known of what follows.
-    fn hit(&mut self, Report { id, end }: Report, ended: bool) -> Option<Hit> {
+    fn hit(&mut self, Found { id, start, end }: Found, ended: bool) -> Option<Hit> {
         let last = (end - 1 - self.from) as usize;
         let (to, cut_after) = self.line_end(last, ended)?;
         let (first, cut_before) = self.line_start(last);
@@ -233,7 +247,7 @@ impl Window {
             below,
         };
         let Counted { newlines, line_start, .. } = self.counted;
-        Some(Hit { id, end, start: None, line: newlines + 1, column: end - line_start, around })
+        Some(Hit { id, end, start, line: newlines + 1, column: end - line_start, around })
     }
 
     /// Where the line of this byte ends, or is cut; none if that is not known yet.
@@ -311,7 +325,6 @@ fn columns(byte: u8) -> usize {
 #[cfg(test)]
 mod tests {
     use super::*;
-    use watcher::Flags;
 
     /// The hits of one rule, read from a log that comes in pieces of a size.
     fn hits(pattern: &str, log: &[u8], piece: usize) -> (Vec<Hit>, Total) {
@@ -319,6 +332,10 @@ mod tests {
     }
 
     fn wished(pattern: &str, log: &[u8], piece: usize, wish: Wish) -> (Vec<Hit>, Total) {
+        of_rules(&format!("1 0 {pattern}"), log, piece, wish)
+    }
+
+    fn of_rules(rules: &str, log: &[u8], piece: usize, wish: Wish) -> (Vec<Hit>, Total) {
         struct Pieces<'l>(&'l [u8], usize);
         impl Read for Pieces<'_> {
             fn read(&mut self, block: &mut [u8]) -> io::Result<usize> {
@@ -328,14 +345,14 @@ mod tests {
                 Ok(size)
             }
         }
-        let mut table = Table::new();
-        table.add(1, Flags::NONE, pattern.as_bytes()).unwrap();
+        let rules = crate::rules::add(rules.as_bytes());
+        assert!(rules.refused.is_empty());
         let mut found = vec![];
         let give = |hit| {
             found.push(hit);
             Ok(())
         };
-        let total = of_log(&table, &mut Pieces(log, piece), wish, give, |_| ()).unwrap();
+        let total = of_log(&rules, &mut Pieces(log, piece), wish, give, |_| ()).unwrap();
         (found, total)
     }
 
@@ -350,6 +367,18 @@ mod tests {
             assert_eq!((found[0].around.from, found[1].around.from), (6, 24));
             assert_eq!(found[1].around.bytes, b"slack");
             assert_eq!(total, Total { bytes: 29, lines: 4, hits: 2 });
+        }
+    }
+
+    #[test]
+    fn a_hit_has_its_start_if_its_rule_reports_it() {
+        for piece in [1, 2, 5, 64] {
+            let rules = "1 256 s.?lack\n2 0 slack\n3 258 rope.*today";
+            let (found, _) = of_rules(rules, b"rope\nslack, slack today", piece, Wish::Line);
+            let places: Vec<_> = found.iter().map(|hit| (hit.id, hit.start, hit.end)).collect();
+            let first = [(1, Some(5), 10), (2, None, 10), (1, Some(12), 17), (2, None, 17)];
+            assert_eq!(places[..4], first);
+            assert_eq!(places[4..], [(3, Some(0), 23)]);
         }
     }
 

@@ -81,7 +81,7 @@ impl<'r> Found<'r> {
             self.hit(&hit)
         };
         let so_far = |total: Total| progress.borrow_mut().tell(&said.name, total.bytes, total.hits);
-        let total = hits::of_log(&rules.table, &mut log.file, wish, give, so_far);
+        let total = hits::of_log(rules, &mut log.file, wish, give, so_far);
         progress.borrow_mut().clear();
         let total = total?;
         if let Some(show) = &mut self.show {

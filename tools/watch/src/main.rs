@@ -1,10 +1,9 @@
 //! The command around the verified watcher. In the plain mode the proved program writes standard
-//! output (`plain`); `--show` and `--report` scan with the library and show each hit with what stands
-//! around it (`look`, `hits`, `show`, `report`). `rules` reads the rules file as the program does, `words`
-//! tells a refusal in words.
+//! output (`plain`); `--show` and `--report` scan with the library and show each hit with what
+//! stands around it (`look`, `hits`, `show`, `report`). `rules` reads the rules file as the program
+//! does, `words` tells a refusal in words.
 
 mod args;
-mod bytes;
 mod closed;
 mod colour;
 mod explain;
@@ -15,7 +14,6 @@ mod notes;
 mod plain;
 mod progress;
 mod report;
-mod rules;
 mod said;
 mod show;
 mod timeline;
@@ -31,6 +29,7 @@ use colour::Colour;
 use hits::Failure;
 use input::Log;
 use said::{error_text, Said};
+use watch::{bytes, rules};
 
 /// An addition may need 2 MiB of stack.
 const STACK: usize = 16 << 20;

@@ -109,7 +109,7 @@ pub fn add(text: &[u8]) -> Rules {
             rules.refused.push(Refused { line: line_number, number: MALFORMED, place: 0 });
             continue;
         };
-        match add_rule(&mut rules.table, id, Flags(flags), pattern) {
+        match rules.table.add(id, Flags(flags), pattern) {
             Ok(()) => rules.accepted.push(Rule { id, flags, pattern: pattern.to_vec() }),
             Err(error) => {
                 let (number, place) = (error.number(), error.place());
@@ -120,17 +120,12 @@ pub fn add(text: &[u8]) -> Rules {
     rules
 }
 
-/// Adds a rule that its flags allow, without flag 256: the streams of the wrapper keep no starts,
-/// and the ends of a rule, and their moments, are the same without them.
-fn add_rule(table: &mut Table, id: u32, flags: Flags, pattern: &[u8]) -> Result<(), Error> {
-    let Flags(start) = Flags::LEFTMOST_START;
-    if flags.0 & start != 0 {
-        table.clone().add(id, flags, pattern)?;
-    }
-    table.add(id, Flags(flags.0 & !start), pattern)
-}
-
 impl Rules {
+    /// Whether the rule of this id reports where its matches start.
+    pub fn reports_starts(&self, id: u32) -> bool {
+        self.accepted.iter().any(|rule| rule.id == id && rule.reports_starts())
+    }
+
     /// How many positions the rules take: all but the longest run of bytes that could still be added.
     /// None if the table has no room for another rule.
     pub fn positions(&self) -> Option<usize> {
@@ -157,6 +152,11 @@ impl Rules {
 }
 
 impl Rule {
+    /// Whether it reports where its matches start.
+    pub fn reports_starts(&self) -> bool {
+        self.flags & Flags::LEFTMOST_START.0 != 0
+    }
+
     /// What a person calls the rule: the comment that begins its pattern, or else the pattern.
     pub fn name(&self) -> String {
         let comment = self.pattern.strip_prefix(b"(?#").and_then(|rest| {
@@ -203,14 +203,16 @@ mod tests {
     }
 
     #[test]
-    fn a_rule_with_starts_is_judged_with_its_flags() {
-        let rules = add(b"1 256 a\n2 264 a\n3 768 a");
+    fn a_rule_with_starts_reports_them() {
+        let rules = add(b"1 256 a\n2 264 a\n3 768 a\n4 0 a");
         assert_eq!((rules.accepted[0].id, rules.accepted[0].flags), (1, 256));
         assert_eq!(rules.refused.iter().map(|no| no.number).collect::<Vec<_>>(), [24, 2]);
-        let mut ends = vec![];
+        assert_eq!([1, 2, 3, 4].map(|id| rules.reports_starts(id)), [true, false, false, false]);
+        let mut found = vec![];
         let mut stream = watcher::Stream::open(&rules.table);
-        stream.scan(watcher::NO_LIMIT, b"ba", |report| ends.push(report.end)).unwrap();
-        assert_eq!(ends, [2]);
+        let give = |report: watcher::Report| found.push((report.id, report.start, report.end));
+        stream.scan(watcher::NO_LIMIT, b"ba", give).unwrap();
+        assert_eq!(found, [(1, 1, 2), (4, 0, 2)]);
     }
 
     #[test]

@@ -1,17 +1,25 @@
-//! The command against the second matcher's model of the program, on random rules files and logs: in
-//! the plain mode the same bytes, with `--check` the same refusals, with `--show` the same hits, each
-//! with the line that it lies in.
+//! The command against the second matcher's model of the program, on random rules files and logs:
+//! in the plain mode the same bytes, with `--check` the same refusals, with `--show` the same hits,
+//! each with the line that it lies in, and marked from its start where the rule reports it.
 
 use std::fs;
 use std::io::Write;
 use std::path::{Path, PathBuf};
 use std::process::{Command, Output, Stdio};
 
+use reference::ordered::{ordered, Pair};
+use reference::rule::{check, Rule};
+
 /// So many rules files and logs.
 const CASES: u64 = 150;
 
 /// Rule lines without their ids, good and faulty.
-const RULES: [&str; 24] = [
+const RULES: [&str; 29] = [
+    "256 ab+",
+    "258 a.*b",
+    "257 b|AB|\\nab",
+    "260 a.?$|b",
+    "264 a",
     "0 a",
     "0 ab+",
     "8 ab+",
@@ -97,33 +105,54 @@ fn lines(out: &str, kept: impl Fn(&str) -> bool) -> Vec<&str> {
     out.lines().filter(|line| kept(line)).collect()
 }
 
-/// The place of a hit as the log alone gives it: id, end, line, column, and the line's bytes.
-fn place(log: &[u8], hit: &str) -> (u32, usize, usize, usize, Vec<u8>) {
-    let (id, end) = hit.split_once(' ').expect("a hit is two numbers");
-    let (id, end) = (id.parse().expect("an id"), end.parse::<usize>().expect("an offset"));
-    let before = &log[..end - 1];
-    let start = before.iter().rposition(|&byte| byte == b'\n').map_or(0, |at| at + 1);
-    let newlines = before.iter().filter(|&&byte| byte == b'\n').count();
-    let length = log[start..].iter().position(|&byte| byte == b'\n').unwrap_or(log.len() - start);
-    (id, end, newlines + 1, end - start, log[start..start + length].to_vec())
+/// The rules of a file that are accepted, by rising id.
+fn accepted(text: &str) -> Vec<Rule> {
+    let mut rules = vec![];
+    for line in text.split('\n') {
+        let mut parts = line.splitn(3, ' ');
+        let mut number = || parts.next().and_then(|word| word.parse().ok());
+        let (Some(id), Some(flags)) = (number(), number()) else { continue };
+        let Some(pattern) = parts.next() else { continue };
+        rules.extend(check(&rules, id, flags, pattern.as_bytes()));
+    }
+    rules.sort_by_key(|rule: &Rule| rule.id);
+    rules
 }
 
-/// What `--show` must say of a hit: its head, and the line with a mark for a newline at its end.
-fn shown(log: &[u8], hit: &str) -> (String, String) {
-    let (id, end, line, column, bytes) = place(log, hit);
-    let head = format!("<stdin>:{line}:{column}  rule {id}  end {end}  ");
+/// Bytes as they are shown.
+fn text(bytes: &[u8]) -> String {
     let escape = |&byte: &u8| match byte {
         0xff => "\\xFF".to_string(),
         _ => char::from(byte).to_string(),
     };
-    let text: String = bytes.iter().map(escape).collect();
-    (head, format!("    {text}{}", if log[end - 1] == b'\n' { "↵" } else { "" }))
+    bytes.iter().map(escape).collect()
+}
+
+/// What `--show` must say of a hit, by the log alone: its head; its line, with a mark for a newline
+/// at its end; and the marks under its last byte, or under what the line has of it if its start is
+/// known.
+fn shown(log: &[u8], &Pair { id, offset, start, .. }: &Pair, leftmost: bool) -> [String; 3] {
+    let end = offset as usize;
+    let before = &log[..end - 1];
+    let first = before.iter().rposition(|&byte| byte == b'\n').map_or(0, |at| at + 1);
+    let newlines = before.iter().filter(|&&byte| byte == b'\n').count();
+    let length = log[first..].iter().position(|&byte| byte == b'\n').unwrap_or(log.len() - first);
+    let from = if leftmost { (start as usize).max(first) } else { end - 1 };
+    let known = if leftmost { format!("start {start}  ") } else { String::new() };
+    let (line, column) = (newlines + 1, end - first);
+    let head = format!("<stdin>:{line}:{column}  rule {id}  {known}end {end}  ");
+    let newline = if log[end - 1] == b'\n' { "↵" } else { "" };
+    let matched = text(&log[from..end - newline.len().min(1)]).len() + newline.len().min(1);
+    let tail = if leftmost { "~".repeat(matched - 1) } else { String::new() };
+    let marks = format!("{}{tail}^", " ".repeat(text(&log[first..from]).len()));
+    [head, format!("    {}{newline}", text(&log[first..first + length])), format!("    {marks}")]
 }
 
 #[test]
 fn the_command_agrees_with_the_model() {
     let folder = std::env::temp_dir().join(format!("watch-second-{}", std::process::id()));
     fs::create_dir_all(&folder).expect("a folder");
+    let mut starts = 0;
     for case in 0..CASES {
         let mut rng = Rng(case);
         let (rules, log) = (rng.rules(), rng.log());
@@ -147,15 +176,22 @@ fn the_command_agrees_with_the_model() {
         let show = run(&["--show"], &folder, &log);
         let written = String::from_utf8(show.stdout).expect("text");
         let mut rest = written.lines();
-        for hit in &hits {
-            let (head, line) = shown(&log, hit);
+        let watched = accepted(&rules);
+        let pairs = ordered(&watched, &log);
+        assert_eq!(pairs.len(), hits.len(), "{told}");
+        for (pair, hit) in pairs.iter().zip(&hits) {
+            assert_eq!(format!("{} {}", pair.id, pair.offset), *hit, "{told}");
+            let rule = watched.iter().find(|rule| rule.id == pair.id).expect("its rule");
+            let [head, line, marks] = shown(&log, pair, rule.leftmost_start());
             assert!(rest.next().unwrap_or_default().starts_with(&head), "{told}: {head}");
             assert_eq!(rest.next(), Some(&line[..]), "{told}");
-            assert_eq!(rest.next().map(str::trim), Some("^"), "{told}");
+            assert_eq!(rest.next(), Some(&marks[..]), "{told}");
+            starts += u64::from(rule.leftmost_start());
         }
         let count = format!("{} hit", hits.len());
         assert!(rest.next().unwrap_or_default().starts_with(&count), "{told}");
         assert_eq!(show.status.code(), plain.status.code(), "{told}");
     }
+    assert!(starts > 500, "only {starts} hits have a start");
     fs::remove_dir_all(&folder).expect("the folder goes");
 }
