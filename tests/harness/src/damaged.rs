@@ -1,8 +1,10 @@
-//! Words of any content: tables and states that are damaged here and there, or made up from nothing,
-//! and calls on them, compared with the interpreter of table words: the answer, and every lent word
-//! afterwards. States start anywhere in a stream, also past 65,535 and 4,294,967,296 bytes and at its
-//! limit, with live and held positions, marks and held pairs, after a byte of any kind. Each scan is
-//! made a second time, with no smaller an allowance. Case i of a run depends on the seed and on i alone.
+//! Words of any content: tables and states that are damaged here and there, or made up from
+//! nothing, and calls on them, compared with the interpreter of table words: the answer, and every
+//! lent word afterwards. States start anywhere in a stream, also past 65,535 and 4,294,967,296
+//! bytes and at its limit, with live and held positions, marks and held pairs, after a byte of any
+//! kind.
+//! Each scan is made a second time, with no smaller an allowance. Case i of a run depends on the
+//! seed and on i alone.
 //! States that keep starts have them at all their positions and pairs, now and then one too many or
 //! too large. On a table in which no rule needs a start each call is made on a state without starts
 //! too, and must be the same.

@@ -5,11 +5,12 @@
 //! `over_words` calls over lent words, be they the interpreter's of `words` or the library's
 //! (`library`); `traced` makes of either the watcher whose streams keep starts.
 //! `scenario` turns additions, a log and a caller's doings into a case whose answers the definition
-//! gives; `play` carries a case out, be it from there or from the corpus. `slices` is what every scan
-//! owes for the work it may do. `exhaustive` and `random` make scenarios, `shrink` makes a failing one
-//! small. `readings` compares the reader alone.
+//! gives; `play` carries a case out, be it from there or from the corpus. `slices` is what every
+//! scan owes for the work it may do. `exhaustive` and `random` make scenarios, `shrink` makes a
+//! failing one small. `readings` compares the reader alone.
 //! `damaged` compares calls over words where the words are of any content. `card` does so for the
-//! blocks of a table on the card, `matched` for the bytes of a match. `process` is the built program.
+//! blocks of a table on the card, `matched` for the bytes of a match. `process` is the built
+//! program.
 
 pub mod card;
 pub mod corpus_run;

@@ -1,6 +1,6 @@
-//! The harness as a command: what is under test, and then the corpus, the exhaustive mode with one of
-//! its alphabets, the random mode, or damaged words. It prints counts, and ends with status 1 when
-//! anything disagrees.
+//! The harness as a command: what is under test, and then the corpus, the exhaustive mode with one
+//! of its alphabets, the random mode, or damaged words. It prints counts, and ends with status 1
+//! when anything disagrees.
 
 use std::path::Path;
 use std::process::ExitCode;

@@ -1,5 +1,5 @@
-//! The mode of damaged words on states that keep starts can be trusted: it finds calls over words with
-//! one mistake each, and the interpreter agrees with itself.
+//! The mode of damaged words on states that keep starts can be trusted: it finds calls over words
+//! with one mistake each, and the interpreter agrees with itself.
 
 mod slipping;
 

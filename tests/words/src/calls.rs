@@ -1,5 +1,5 @@
-//! The calls over lent words, as the library has them: a state is fifteen words that the caller owns, or
-//! 591 where it keeps starts.
+//! The calls over lent words, as the library has them: a state is fifteen words that the caller
+//! owns, or 591 where it keeps starts.
 
 use reference::calls::Columns;
 
@@ -23,8 +23,8 @@ pub trait Calls {
     /// 0 for words that are a table, else 1.
     fn test(&self, table: &[u64]) -> u32;
 
-    /// 1 for a table in which a rule reports starts, or a position keeps one; else 0, also for words
-    /// that are no table.
+    /// 1 for a table in which a rule reports starts, or a position keeps one; else 0, also for
+    /// words that are no table.
     fn needs_starts(&self, table: &[u64]) -> u32;
 
     /// The number and the place.
