@@ -17,6 +17,7 @@ use Rattle.card.proofs.write_block.Met.{met as card-write-met}
 use Rattle.matched.specs.Matched.{inBlock, inTail, matchedBytes, matchedNumber}
 use Rattle.matched.proofs.matched_bytes.Met.{met as matched-bytes-met}
 use Rattle.matched.proofs.matched_number.Met.{met as matched-number-met}
+use Rattle.matched.proofs.matched_part.Met.{met as matched-part-met}
 use Rattle.card.proofs.read_block.Met.{met as card-read-met}
 use Rattle.stream.specs.declared.Stream.{Stream}
 use Rattle.stream.specs.declared.Opened.{Opened}
@@ -31,6 +32,8 @@ use Rattle.stream.proofs.Stream.«open».Met.{met as open-met}
 use Rattle.stream.proofs.Stream.scan.Met.{met as scan-met}
 use Rattle.stream.proofs.Stream.close.Met.{met as close-met}
 use Rattle.stream.proofs.Stream.busy.Met.{met as busy-met}
+use Rattle.stream.proofs.is_sound.Met.{met as sound-met}
+use Rattle.stream.proofs.needs_starts.Met.{met as needs-met}
 use Rattle.traced.proofs.Traced.«open».Met.{met as trace-open-met}
 use Rattle.traced.proofs.Traced.scan.Met.{met as trace-scan-met}
 use Rattle.traced.proofs.Traced.close.Met.{met as trace-close-met}
@@ -56,7 +59,10 @@ answers = record {
   trace-busy = trace-busy-met;
   writing-block = card-write-met;
   reading-block = card-read-met;
+  fitting = sound-met;
+  needing-starts = needs-met;
   showing = matched-bytes-met;
+  showing-part = matched-part-met;
   showing-number = matched-number-met;
 }
 

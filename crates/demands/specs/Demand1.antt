@@ -1,10 +1,10 @@
--- Demand 1, over all the public calls: "Whatever rule bytes, rule table, stream state, block or
--- report space it is handed, every call ends and gives one fixed answer. Bad input is refused by
--- number, and a refusal changes no word of anything lent. Nobody has to check beforehand."
--- `statement` of a function is the type of its theorem: its code, run on whatever it is handed, is
--- safe, ends, and leaves what the `ensures` lines at its head say. It is stated for every resource
--- algebra of the program logic, which M stands for. None of these functions has a `requires` line.
--- The theorem is `demand1` of proofs/Demand1.antt.
+-- Demand 1, over the public calls on tables, streams, cards and matched bytes: "Whatever rule
+-- bytes, rule table, stream state, block or report space it is handed, every call ends and gives
+-- one fixed answer. Bad input is refused by number, and a refusal changes no word of anything lent.
+-- Nobody has to check beforehand." `statement` of a function is the type of its theorem: its code,
+-- run on whatever it is handed, is safe, ends, and leaves what the `ensures` lines at its head say.
+-- It is stated for every resource algebra of the program logic, which M stands for. None of these
+-- functions has a `requires` line. The theorem is `demand1` of proofs/Demand1.antt.
 use mathlib.Core.Path.{_≡_}
 use mathlib.Core.Bool.{true}
 use mathlib.Core.List.{List, []}
@@ -20,6 +20,7 @@ use Rattle.card.proofs.read_block.Statement.{statement as card-read}
 use Rattle.matched.specs.Matched.{matchedBytes, matchedNumber}
 use Rattle.matched.proofs.matched_bytes.Statement.{statement as matched-bytes}
 use Rattle.matched.proofs.matched_number.Statement.{statement as matched-number}
+use Rattle.matched.proofs.matched_part.Statement.{statement as matched-part}
 use Rattle.stream.specs.Calls.{fresh, opened}
 use Rattle.traced.specs.Calls as traced
 use Rattle.demands.specs.Kinds.{Given, Kind, short, traces}
@@ -27,6 +28,8 @@ use Rattle.stream.proofs.Stream.«open».Statement.{statement as stream-open}
 use Rattle.stream.proofs.Stream.scan.Statement.{statement as stream-scan}
 use Rattle.stream.proofs.Stream.close.Statement.{statement as stream-close}
 use Rattle.stream.proofs.Stream.busy.Statement.{statement as stream-busy}
+use Rattle.stream.proofs.is_sound.Statement.{statement as stream-sound}
+use Rattle.stream.proofs.needs_starts.Statement.{statement as stream-needs}
 use Rattle.traced.proofs.Traced.«open».Statement.{statement as traced-open}
 use Rattle.traced.proofs.Traced.scan.Statement.{statement as traced-scan}
 use Rattle.traced.proofs.Traced.close.Statement.{statement as traced-close}
@@ -63,9 +66,14 @@ pub record Answers : Type 2 where
   pub writing-block : {M : Type 1} → card-write M
   -- reading one: number and place are `readAnswer`, the words are `readWords`
   pub reading-block : {M : Type 1} → card-read M
-  -- showing the matched bytes (crates/matched/src/lib.rt): `matchedBytes`; and the number of the
-  -- same question: `matchedNumber`
+  -- whether a state fits words but for starts, and whether a rule of them needs one: `sound`,
+  -- `needsStarts`
+  pub fitting : {M : Type 1} → stream-sound M
+  pub needing-starts : {M : Type 1} → stream-needs M
+  -- showing the matched bytes (crates/matched/src/lib.rt): `matchedBytes`; where they stand:
+  -- `matchedPart`; and the number of the same question: `matchedNumber`
   pub showing : {M : Type 1} → matched-bytes M
+  pub showing-part : {M : Type 1} → matched-part M
   pub showing-number : {M : Type 1} → matched-number M
 
 -- "Other refusals return the number, no bytes taken, no reports, the state unchanged"; what was
