@@ -201,14 +201,13 @@ impl<'t> Stream<'t> {
                     give(answer, &ids, &ends, repeat(0), &mut found)
                 })
             }
-            State::Traced(words) => {
-                let mut slots = Slots::new();
+            State::Traced(words) => with_starts(&mut found, |slots, found| {
                 in_calls(allowance, block, |left, rest| {
                     let lists = slots.lists();
                     let answer = raw::trace_scan(table, &mut words[..], left, rest, lists);
-                    slots.give(answer, &mut found)
+                    slots.give(answer, found)
                 })
-            }
+            }),
         }
     }
 
@@ -274,11 +273,10 @@ impl<'t> Stream<'t> {
                 let answer = raw::close(table, words, &mut ids, &mut ends);
                 give(answer, &ids, &ends, repeat(0), &mut found)
             }
-            State::Traced(words) => {
-                let mut slots = Slots::new();
+            State::Traced(words) => with_starts(&mut found, |slots, found| {
                 let answer = raw::trace_close(table, &mut words[..], slots.lists());
-                slots.give(answer, &mut found)
-            }
+                slots.give(answer, found)
+            }),
         };
         checked(answer).map(|_| ())
     }
@@ -341,8 +339,12 @@ impl<'t> Stream<'t> {
     }
 }
 
+/// The answer, or why it is a refusal. Inlined, since each call of a scan comes by here.
+#[inline]
 fn checked(answer: Answer) -> Result<Answer, Error> {
-    Error::check(answer.number, 0)?;
+    if answer.number != 0 {
+        Error::check(answer.number, 0)?;
+    }
     Ok(answer)
 }
 
@@ -394,6 +396,13 @@ impl Slots {
     fn give(&self, answer: Answer, found: &mut impl FnMut(Report)) -> Answer {
         give(answer, &self.ids, &self.ends, self.starts.iter().copied(), found)
     }
+}
+
+/// Calls with room for reports with starts. Apart, so that a stream without starts does not pay for
+/// the room.
+#[inline(never)]
+fn with_starts<F, T>(found: &mut F, call: impl FnOnce(&mut Slots, &mut F) -> T) -> T {
+    call(&mut Slots::new(), found)
 }
 
 /// Gives the reports that a call wrote.
