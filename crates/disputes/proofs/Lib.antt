@@ -1,0 +1,3 @@
+-- Named (a rule's id is only a name), Plain (the theorem).
+pub mod Named
+pub mod Plain
