@@ -1,10 +1,8 @@
--- The laws of the builder: Words (rows of four words), Trees (a node's tree by its word and its
--- children), Pieces (fragments by their parts), Steps (what the walk over the nodes builds), Padded (the
+-- The laws of the builder: Words (rows of four words), Pieces (fragments by their parts), Steps (what the walk over the nodes builds), Padded (the
 -- rows as they are handed out, and the parts), Unasserted (a tree without assertions has the same parts
 -- in every world), Shifted (sets numbered from further on), Moving (what the loops that copy make),
 -- Standing (a part that is built, and its copies).
 pub mod Words
-pub mod Trees
 pub mod Pieces
 pub mod Steps
 pub mod Padded

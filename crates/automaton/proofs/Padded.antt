@@ -24,7 +24,8 @@ use Rattle.nodes.specs.Nodes.{Syntax}
 use Rattle.automaton.specs.Parts.{fourWords, flat, rowsOf, padded, worldOf, formParts, noParts, partsOf}
 use Rattle.automaton.specs.declared.Parts.{Parts}
 use Rattle.automaton.specs.declared.fragments.Fragment.{Fragment}
-use Rattle.automaton.specs.Invariants.{Written, fragmentOf, hasAt, Built, Fresh}
+use Rattle.nodes.specs.Invariants.{Written}
+use Rattle.automaton.specs.Invariants.{fragmentOf, hasAt, Built, Fresh}
 use Rattle.automaton.proofs.Words.{four-at, four-ext}
 use Rattle.automaton.proofs.Steps.{length-flat}
 

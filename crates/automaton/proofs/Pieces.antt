@@ -21,7 +21,8 @@ use Rattle.regex.proofs.Counted.{counted, repeated-null, repeated-none}
 use Rattle.nodes.specs.Nodes.{Syntax}
 use Rattle.automaton.specs.Parts.{worldOf}
 use Rattle.automaton.specs.declared.fragments.Fragment.{Fragment}
-use Rattle.automaton.specs.Invariants.{Written, bareOf, oneOf, also, inTurn, choiceOf, optionalOf, fragmentOf}
+use Rattle.nodes.specs.Invariants.{Written}
+use Rattle.automaton.specs.Invariants.{bareOf, oneOf, also, inTurn, choiceOf, optionalOf, fragmentOf}
 
 -- ---- what the operations make, set by set
 

@@ -15,7 +15,7 @@ use Rattle.regex.specs.Automaton.{null, first, last, follow}
 use Rattle.regex.proofs.Logic.{false-T}
 use Rattle.regex.proofs.Computed.{first-T, last-T, follow-T}
 use Rattle.regex.proofs.Range.{first-inside, last-inside, follow-inside, follow-inside-to}
-use Rattle.automaton.specs.Invariants.{Written}
+use Rattle.nodes.specs.Invariants.{Written}
 
 -- ---- numbered from d further on
 

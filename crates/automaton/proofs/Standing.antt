@@ -17,7 +17,8 @@ use Rattle.regex.specs.Automaton.{null, first, last, follow, items}
 use Rattle.regex.proofs.Computed.{items-length}
 use Rattle.automaton.specs.Parts.{flat, worldOf}
 use Rattle.automaton.specs.declared.fragments.Fragment.{Fragment}
-use Rattle.automaton.specs.Invariants.{Written, fragmentOf, hasAt, Room, Built, among, movedOn, movedPart, Copied, Again, Fresh, Stands}
+use Rattle.nodes.specs.Invariants.{Written}
+use Rattle.automaton.specs.Invariants.{fragmentOf, hasAt, Room, Built, among, movedOn, movedPart, Copied, Again, Fresh, Stands}
 use Rattle.automaton.proofs.Shifted.{Outside, first-on, last-on, follow-on, no-first-at, no-last-at, no-follow-at, no-follow-to}
 use Rattle.automaton.proofs.Moving.{among-in, among-below, among-above, moved-set}
 use Rattle.automaton.proofs.Steps.{size-of, length-flat}

@@ -19,9 +19,9 @@ use Rattle.regex.proofs.Computed.{items-length}
 use Rattle.nodes.specs.Nodes.{Syntax, opOf, xOf, yOf, zOf, extraOf, assertionOf}
 use Rattle.automaton.specs.Parts.{fourWords, flat, worldOf}
 use Rattle.automaton.specs.declared.fragments.Fragment.{Fragment}
-use Rattle.automaton.specs.Invariants.{Written, formAt, childForm, extra, bareOf, oneOf, inTurn, choiceOf, optionalOf, fragmentOf, hasAt, Joined, Room, Built}
-use Rattle.nodes.proofs.Trees.{child-in, child-out}
-use Rattle.automaton.proofs.Trees.{setAt, is-item, is-assertion, is-then, is-or, is-repeat, is-empty, is-second}
+use Rattle.nodes.specs.Invariants.{Written, formAt, childForm, extra}
+use Rattle.automaton.specs.Invariants.{bareOf, oneOf, inTurn, choiceOf, optionalOf, fragmentOf, hasAt, Joined, Room, Built}
+use Rattle.nodes.proofs.Forms.{nested-positions, repeat-any, repeat-nested, repeat-many, repeat-positions}
 use Rattle.automaton.proofs.Words.{sets-append}
 use Rattle.automaton.proofs.Pieces.{piece-eps, piece-check, piece-take, piece-seq, piece-alt, piece-opt, piece-plus, no-follow, no-items, repeated-bare, piece-repeated, piece-nested}
 
@@ -208,78 +208,33 @@ module _ (endless : Bool) (n : ℕ) where
 pub some-copy : (n j : ℕ) → (eqb n 0 && eqb j 0) ≡ false → n ≡ 0 → j ≡ 0 → ⊥
 some-copy n j h z e = true≢false (sym (ap₂ (λ (u v : Bool). u && v) (eq-eqb n 0 z) (eq-eqb j 0 e)) ∙ h)
 
-module _ (f : Written) where
-  pub nested-none : (j : ℕ) → j ≡ 0 → optionals j f ≡ eps
-  unfolding optionals
-  nested-none j e = rw e
+module _ (f : Written) (n : ℕ) (endless : Bool) (j : ℕ) where
+  pub repeat-zero : (eqb n 0 && eqb j 0) ≡ true → repeated f n (extraOf j) ≡ eps
+  unfolding repeated copies optionals
+  repeat-zero h = go (eqb n 0) (eqb j 0) refl refl h
+    where
+      go : (u v : Bool) → eqb n 0 ≡ u → eqb j 0 ≡ v → (u && v) ≡ true → repeated f n (extraOf j) ≡ eps
+      go true true e i k = rw (eqb-true n 0 e, eqb-true j 0 i)
+      go true false e i k = absurd (true≢false (sym k))
+      go false v e i k = absurd (true≢false (sym k))
 
-  pub nested-step : (j : ℕ) → (j ≡ 0 → ⊥) → optionals j f ≡ opt (seq f (optionals (j - 1) f))
-  unfolding optionals
-  nested-step j n = let e : j ≡ suc (j - 1) = omega arith in ap (λ (m : ℕ). optionals m f) e
-
-  pub nested-positions : (j : ℕ) → (j ≡ 0 → ⊥) → positions (optionals j f) ≡ positions f + positions (optionals (j - 1) f)
+  -- there is room for one copy where there is any
+  pub one-fits : (n ≡ 0 → ⊥) → positions f ≤ positions (repeated f n (extra endless j))
   unfolding positions
-  nested-positions j n = ap positions (nested-step j n)
+  one-fits z = go (endless && eqb n 1) refl
+    where
+      go : (v : Bool) → (endless && eqb n 1) ≡ v → positions f ≤ positions (repeated f n (extra endless j))
+      go true e = omega (arith, ap positions (repeat-many f n endless j e))
+      go false e = omega (arith, repeat-positions f n endless j z e)
 
-  module _ (n : ℕ) (endless : Bool) (j : ℕ) where
-    pub repeat-any : n ≡ 0 → endless ≡ true → repeated f n (extra endless j) ≡ opt (plus f)
-    unfolding repeated
-    repeat-any z e = rw (z, e)
-
-    pub repeat-nested : n ≡ 0 → endless ≡ false → repeated f n (extra endless j) ≡ optionals j f
-    unfolding repeated copies
-    repeat-nested z e = rw (z, e)
-
-    pub repeat-many : (endless && eqb n 1) ≡ true → repeated f n (extra endless j) ≡ plus f
-    unfolding repeated copies
-    repeat-many h = go endless h
-      where
-        go : (v : Bool) → (v && eqb n 1) ≡ true → repeated f n (extra v j) ≡ plus f
-        go true e = ap (λ (m : ℕ). repeated f m unbounded) (eqb-true n 1 e)
-        go false e = absurd (true≢false (sym e))
-
-    pub repeat-step : (n ≡ 0 → ⊥) → (endless && eqb n 1) ≡ false → repeated f n (extra endless j) ≡ seq f (repeated f (n - 1) (extra endless j))
-    unfolding repeated copies
-    repeat-step z h = go endless h
-      where
-        go : (v : Bool) → (v && eqb n 1) ≡ false → repeated f n (extra v j) ≡ seq f (repeated f (n - 1) (extra v j))
-        go true e =
-            let d : n ≡ suc (suc (n - 2)) = omega (arith, eqb-false n 1 e) in
-            let c : suc (n - 2) ≡ n - 1 = omega (arith, eqb-false n 1 e) in
-            ap (λ (m : ℕ). repeated f m unbounded) d ∙ ap (λ (m : ℕ). seq f (repeated f m unbounded)) c
-        go false e = let d : n ≡ suc (n - 1) = omega arith in ap (λ (m : ℕ). repeated f m (atMost j)) d
-
-    pub repeat-positions : (n ≡ 0 → ⊥) → (endless && eqb n 1) ≡ false
-        → positions (repeated f n (extra endless j)) ≡ positions f + positions (repeated f (n - 1) (extra endless j))
-    unfolding positions
-    repeat-positions z h = ap positions (repeat-step z h)
-
-    pub repeat-zero : (eqb n 0 && eqb j 0) ≡ true → repeated f n (extraOf j) ≡ eps
-    unfolding repeated copies optionals
-    repeat-zero h = go (eqb n 0) (eqb j 0) refl refl h
-      where
-        go : (u v : Bool) → eqb n 0 ≡ u → eqb j 0 ≡ v → (u && v) ≡ true → repeated f n (extraOf j) ≡ eps
-        go true true e i k = rw (eqb-true n 0 e, eqb-true j 0 i)
-        go true false e i k = absurd (true≢false (sym k))
-        go false v e i k = absurd (true≢false (sym k))
-
-    -- there is room for one copy where there is any
-    pub one-fits : (n ≡ 0 → ⊥) → positions f ≤ positions (repeated f n (extra endless j))
-    unfolding positions
-    one-fits z = go (endless && eqb n 1) refl
-      where
-        go : (v : Bool) → (endless && eqb n 1) ≡ v → positions f ≤ positions (repeated f n (extra endless j))
-        go true e = omega (arith, ap positions (repeat-many e))
-        go false e = omega (arith, repeat-positions z e)
-
-    pub first-fits : (eqb n 0 && eqb j 0) ≡ false → positions f ≤ positions (repeated f n (extra endless j))
-    unfolding positions
-    first-fits h = go (ℕ-discrete n 0) endless refl
-      where
-        go : Dec (n ≡ 0) → (v : Bool) → endless ≡ v → positions f ≤ positions (repeated f n (extra endless j))
-        go (yes z) true e = omega (arith, ap positions (repeat-any z e))
-        go (yes z) false e = omega (arith, ap positions (repeat-nested z e), nested-positions j (some-copy n j h z))
-        go (no z) v e = one-fits z
+  pub first-fits : (eqb n 0 && eqb j 0) ≡ false → positions f ≤ positions (repeated f n (extra endless j))
+  unfolding positions
+  first-fits h = go (ℕ-discrete n 0) endless refl
+    where
+      go : Dec (n ≡ 0) → (v : Bool) → endless ≡ v → positions f ≤ positions (repeated f n (extra endless j))
+      go (yes z) true e = omega (arith, ap positions (repeat-any f n endless j z e))
+      go (yes z) false e = omega (arith, ap positions (repeat-nested f n endless j z e), nested-positions f j (some-copy n j h z))
+      go (no z) v e = one-fits z
 
 -- a copy without positions stands for all
 module _ (s : Syntax) {world : ℕ} {b : ℕ} {r r' t t' : List ℕ} {x : Fragment} (h : Built world (write s) b r r' t t' x) (z : x .size ≡ 0) where
@@ -305,49 +260,3 @@ module _ (s : Syntax) {world : ℕ} {b : ℕ} {r r' t t' : List ℕ} {x : Fragme
   unfolding repeated copies
   settled-nested j i =
       instead (optionals j (write s)) (repeated-bare s bare 0 (atMost j)) (i ∙ ap optionalOf (h .fragment) ∙ piece-nested s bare world j b)
-
--- ---- nodes
-
-pub child-is : (a : List ℕ) (k x : ℕ) → x < k → childForm a k x ≡ formAt a x
-child-is a k x h = ap write (child-in a k x h)
-
-pub child-none : (a : List ℕ) (k x : ℕ) → k ≤ x → childForm a k x ≡ eps
-unfolding write
-child-none a k x h = ap write (child-out a k x h)
-
-module _ (a : List ℕ) (k w : ℕ) (e : w ≡ getD a k 0) where
-  pub form-take : opOf w ≡ 1 → formAt a k ≡ take (setAt a k)
-  unfolding write
-  form-take h = ap write (is-item a k w e h)
-
-  pub form-check : opOf w ≡ 2 → formAt a k ≡ check (assertionOf (xOf w))
-  unfolding write
-  form-check h = ap write (is-assertion a k w e h)
-
-  pub form-seq : opOf w ≡ 3 → formAt a k ≡ seq (childForm a k (xOf w)) (childForm a k (yOf w))
-  unfolding write
-  form-seq h = ap write (is-then a k w e h)
-
-  pub form-alt : (eqb (opOf w) 3 || eqb (opOf w) 4) ≡ true → (opOf w ≡ 3 → ⊥) → formAt a k ≡ alt (childForm a k (xOf w)) (childForm a k (yOf w))
-  unfolding write
-  form-alt h n = ap write (is-or a k w e (is-second (opOf w) h n))
-
-  pub form-repeated : opOf w ≡ 5 → formAt a k ≡ repeated (childForm a k (xOf w)) (yOf w) (extraOf (zOf w))
-  unfolding write
-  form-repeated h = ap write (is-repeat a k w e h)
-
-  pub form-eps : (opOf w ≡ 1 → ⊥) → (opOf w ≡ 2 → ⊥) → (eqb (opOf w) 3 || eqb (opOf w) 4) ≡ false → (opOf w ≡ 5 → ⊥) → formAt a k ≡ eps
-  unfolding write
-  form-eps h1 h2 h34 h5 = ap write (is-empty a k w e h1 h2 h34 h5)
-
-  pub item-positions : opOf w ≡ 1 → positions (formAt a k) ≡ 1
-  unfolding positions
-  item-positions h = ap positions (form-take h)
-
-  pub pair-positions : (eqb (opOf w) 3 || eqb (opOf w) 4) ≡ true → positions (formAt a k) ≡ positions (childForm a k (xOf w)) + positions (childForm a k (yOf w))
-  unfolding positions
-  pair-positions h = go (ℕ-discrete (opOf w) 3)
-    where
-      go : Dec (opOf w ≡ 3) → positions (formAt a k) ≡ positions (childForm a k (xOf w)) + positions (childForm a k (yOf w))
-      go (yes i) = ap positions (form-seq i)
-      go (no n) = ap positions (form-alt h n)

@@ -12,7 +12,7 @@ use Rattle.regex.specs.Automaton.{null, first, last, follow}
 use Rattle.nodes.specs.Nodes.{Syntax, asserts}
 use Rattle.automaton.specs.Parts.{worldOf, formParts, noParts, partsOf}
 use Rattle.automaton.specs.declared.Parts.{Parts}
-use Rattle.automaton.specs.Invariants.{Written}
+use Rattle.nodes.specs.Invariants.{Written}
 
 -- ---- forms without assertions
 

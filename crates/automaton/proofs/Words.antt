@@ -4,16 +4,17 @@ use mathlib.Core.Path.{_≡_, refl, sym, ap, ap₂, _∙_}
 use mathlib.Core.Bool.{Bool, true, false, true≢false, _&&_, _||_, and-false, or-false}
 use mathlib.Core.Logic.{_⊎_, inl, inr}
 use mathlib.Core.List.{List, [], _∷_, _++_}
-use Prim.Native.Nat.{ℕ, zero, suc, _+_, _*_, _/_, _%_, _≤_, _<_}
+use Prim.Native.Nat.{ℕ, zero, suc, _+_, _-_, _*_, _/_, _%_, _≤_, _<_}
 use native.Mathlib.Nat.{add-zero}
 use native.Mathlib.Decide.{ℕ-discrete, decLt}
 use native.Mathlib.Omega.{arith}
 use borrow.Author.Tests.{eqb-true, eq-eqb, ne-eqb, lt-ltb, le-ltb}
 use lib.Dec.{eqb, ltb}
-use lib.ListN.{length, getD, drop, set, length-set}
-use lib.Seq.{sets, length-sets, getD-set-same, getD-set-other, getD-drop}
+use lib.ListN.{length, getD, take, drop, set, length-set}
+use lib.Seq.{sets, length-sets, getD-set-same, getD-set-other, getD-take, getD-drop}
 use Rattle.sets.specs.Set.{on, has, unionOf, isEmpty}
 use Rattle.sets.proofs.Laws.{getD-fourOf, has-union, empty-none}
+use Rattle.nodes.specs.Invariants.{setAt}
 use Rattle.automaton.specs.Parts.{fourWords}
 use Rattle.automaton.specs.Invariants.{hasAt, addedTo, Joined}
 
@@ -34,6 +35,17 @@ has-four s q h = ap (λ (w : ℕ). on w (q % 64)) (four-at s (q / 64) (omega ari
 pub four-from : (a : List ℕ) (n : ℕ) → fourWords (drop n a) ≡ getD a n 0 ∷ getD a (n + 1) 0 ∷ getD a (n + 2) 0 ∷ getD a (n + 3) 0 ∷ []
 four-from a n =
     cc (getD-drop n a 0 0, getD-drop n a 1 0, getD-drop n a 2 0, getD-drop n a 3 0, ap (λ (k : ℕ). getD a k 0) (add-zero n))
+
+-- the four words before node k, read one by one
+pub set-low : (a : List ℕ) (k : ℕ) → k < 4 → fourWords (setAt a k) ≡ fourWords a
+set-low a k h = let e : k - 4 ≡ 0 = omega arith in rw e (four-ext (take 4 a) a (λ i l. getD-take 4 a i 0 l))
+
+pub set-high : (a : List ℕ) (k : ℕ) → 4 ≤ k → fourWords (setAt a k) ≡ getD a (k - 4) 0 ∷ getD a (k - 3) 0 ∷ getD a (k - 2) 0 ∷ getD a (k - 1) 0 ∷ []
+set-high a k h =
+    let e1 : k - 4 + 1 ≡ k - 3 = omega arith in
+    let e2 : k - 4 + 2 ≡ k - 2 = omega arith in
+    let e3 : k - 4 + 3 ≡ k - 1 = omega arith in
+    four-ext (setAt a k) (drop (k - 4) a) (λ i l. getD-take 4 (drop (k - 4) a) i 0 l) ∙ four-from a (k - 4) ∙ cc
 
 -- four words written one by one, from index n on
 pub four-to : (r : List ℕ) (n a b c d : ℕ) → set (set (set (set r n a) (n + 1) b) (n + 2) c) (n + 3) d ≡ sets r n (a ∷ b ∷ c ∷ d ∷ [])

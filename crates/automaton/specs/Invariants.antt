@@ -11,26 +11,9 @@ use Rattle.regex.specs.Tree.{Extra, atMost, unbounded}
 use Rattle.regex.specs.Form.{Form, write, positions}
 use Rattle.regex.specs.Rule.{Assertion, ByteSet}
 use Rattle.regex.specs.Automaton.{null, first, last, follow, items}
-use Rattle.nodes.specs.Nodes.{treeAt}
-use Rattle.nodes.specs.Invariants.{childAt}
+use Rattle.nodes.specs.Invariants.{Written, formAt, childForm, extra}
 use Rattle.automaton.specs.Parts.{fourWords, flat, worldOf}
 use Rattle.automaton.specs.declared.fragments.Fragment.{Fragment}
-
--- ---- nodes
-
--- the written-out form of node k, and of its child x
-abbrev pub Written : Type 0
-Written = Form ByteSet Assertion
-
-abbrev pub formAt : List ℕ → ℕ → Written
-formAt a k = write (treeAt a k)
-
-abbrev pub childForm : List ℕ → ℕ → ℕ → Written
-childForm a k x = write (childAt a k x)
-
--- how many copies more: any number, or up to j
-abbrev pub extra : Bool → ℕ → Extra
-extra endless j = cond endless unbounded (atMost j)
 
 -- ---- fragments
 

@@ -13,7 +13,8 @@ use nodes::layout::LAST_ASSERTION;
 ghost use mathlib.Core.Path.{_≡_};
 ghost use Rattle.nodes.specs.Nodes.{assertionOf};
 ghost use Rattle.automaton.specs.Parts.{worldOf};
-ghost use Rattle.automaton.specs.Invariants.{formAt, childForm, Room, Fresh, Built};
+ghost use Rattle.nodes.specs.Invariants.{formAt, childForm};
+ghost use Rattle.automaton.specs.Invariants.{Room, Fresh, Built};
 
 // Whether the assertion of this number holds in a world. Every number above the last stands for the
 // last.

@@ -10,7 +10,8 @@ ghost use mathlib.Core.Bool.{false, _&&_};
 ghost use Prim.Native.Nat.{_+_};
 ghost use lib.Dec.{eqb};
 ghost use Rattle.regex.specs.Form.{optionals, repeated};
-ghost use Rattle.automaton.specs.Invariants.{childForm, extra, Room, Built, Stands, Extends};
+ghost use Rattle.nodes.specs.Invariants.{childForm, extra};
+ghost use Rattle.automaton.specs.Invariants.{Room, Built, Stands, Extends};
 
 // Up to j copies more behind f, which stands from c on, each inside the one before.
 fn nested(

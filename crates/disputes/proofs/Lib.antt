@@ -1,3 +1,2 @@
--- Named (a rule's id is only a name), Plain (the theorem).
-pub mod Named
+-- The theorem (Plain).
 pub mod Plain

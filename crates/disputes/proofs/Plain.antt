@@ -16,6 +16,7 @@ use Rattle.regex.specs.Ordered.{Report, Ordered}
 use Rattle.regex.specs.Count.{limit}
 use Rattle.regex.proofs.Counted.{within-limit}
 use Rattle.regex.proofs.OneList.{one-answer}
+use Rattle.regex.proofs.Named.{reportBy, ordered-as}
 use Rattle.nodes.specs.Nodes.{Syntax}
 use Rattle.tokens.specs.declared.Options.{Options}
 use Rattle.pattern.specs.Walk.{Read, tree, refused}
@@ -36,7 +37,6 @@ use Rattle.plain.proofs.matches.Met.{met as matches-met}
 use Rattle.demands.specs.Kinds.{Kind, short, traces}
 use Rattle.demands.specs.Demands.{acceptedIn, taken, joined, Demand3}
 use Rattle.disputes.specs.Plain.{Asked, additionOf, listOf, SameList, SameRefusals, Never, OneAnswer, Plain}
-use Rattle.disputes.proofs.Named.{reportBy, ordered-as}
 use Rattle.demands.proofs.Theorems.{short-streams, traced-streams}
 
 -- ---- the checks

@@ -9,7 +9,7 @@ use lib.Bits.{bitAnd}
 use lib.Dec.{eqb, ltb}
 use lib.ListN.{length, drop}
 use Rattle.regex.specs.Form.{write, positions}
-use Rattle.regex.specs.Rule.{Rule}
+use Rattle.regex.specs.Rule.{Rule, Windows}
 use Rattle.regex.specs.Ordered.{Report}
 use Rattle.regex.proofs.Counted.{within-limit}
 use Rattle.nodes.specs.Nodes.{Syntax}
@@ -18,9 +18,11 @@ use Rattle.pattern.specs.Read.{tooLong, readOf, limitedRead, optionsOf, answerO
 use Rattle.pattern.specs.declared.Reading.{Reading}
 use Rattle.pattern.proofs.Answers.{accepted-tree, Accepted}
 use Rattle.plain.specs.Run.{Hit, closed, kept, Lent, lent}
-use Rattle.plain.specs.Answer.{Question, knownFlags, hasSingle, hasLeftmost, longestLog, leastSpace, verdict, ruleOf, Reports, refusal, Answered, Matches}
-use Rattle.plain.specs.Invariants.{formAt, choiceOf, Slots, Asks, Delivered, firstFault}
+use Rattle.plain.specs.Answer.{Question, windowsOf, knownFlags, hasSingle, hasLeftmost, longestLog, leastSpace, verdict, ruleOf, Reports, refusal, Answered, Matches}
+use Rattle.nodes.specs.Invariants.{formAt}
+use Rattle.plain.specs.Invariants.{choiceOf, Slots, Asks, Delivered, flagFault, sizeFault, firstFault, Checked, wantedBy}
 use Rattle.plain.specs.declared.Matched.{Matched}
+use Rattle.plain.specs.declared.Bounds.{Bounds}
 use Rattle.plain.specs.declared.run.Wanted.{Wanted}
 use Rattle.plain.proofs.Listed.{the-list, is-ordered, its-offsets, its-starts, its-length}
 
@@ -48,10 +50,10 @@ module _ (q : Question) (space : ℕ) where
 
   -- a check that fails decides
   early : (fault : ℕ) → fault ≡ firstFault q space → (fault ≡ 0 → ⊥) → verdict q space ≡ refused fault 0
-  unfolding verdict firstFault
+  unfolding verdict firstFault flagFault sizeFault
   early fault e n = go u1 u2 u3 u4 u5 u6 e
     where
-      go : (a b c d g h : Bool) → fault ≡ cond a 2 (cond b 24 (cond c 5 (cond d 26 (cond g 28 (cond h 20 0)))))
+      go : (a b c d g h : Bool) → fault ≡ cond (eqb (cond a 2 (cond b 24 0)) 0) (cond c 5 (cond d 26 (cond g 28 (cond h 20 0)))) (cond a 2 (cond b 24 0))
           → cond a (refused 2 0) (cond b (refused 24 0) (cond c (refused 5 0) (cond d (refused 26 0) (cond g (refused 28 0) (cond h (refused 20 0) reads))))) ≡ refused fault 0
       go true b c d g h x = ap (λ (y : ℕ). refused y 0) (sym x)
       go false true c d g h x = ap (λ (y : ℕ). refused y 0) (sym x)
@@ -68,11 +70,11 @@ module _ (q : Question) (space : ℕ) where
     pub room : 1024 ≤ space
 
   pub passed : firstFault q space ≡ 0 → Passed
-  unfolding verdict firstFault limitedRead
+  unfolding verdict firstFault flagFault sizeFault limitedRead
   passed e = go u1 u2 u3 u4 u5 u6 refl refl refl refl refl refl e
     where
       go : (a b c d g h : Bool) → u1 ≡ a → u2 ≡ b → u3 ≡ c → u4 ≡ d → u5 ≡ g → u6 ≡ h
-          → _≡_ {A = ℕ} (cond a 2 (cond b 24 (cond c 5 (cond d 26 (cond g 28 (cond h 20 0)))))) 0 → Passed
+          → _≡_ {A = ℕ} (cond (eqb (cond a 2 (cond b 24 0)) 0) (cond c 5 (cond d 26 (cond g 28 (cond h 20 0)))) (cond a 2 (cond b 24 0))) 0 → Passed
       go true b c d g h p1 p2 p3 p4 p5 p6 x = absurd (omega arith)
       go false true c d g h p1 p2 p3 p4 p5 p6 x = absurd (omega arith)
       go false false true d g h p1 p2 p3 p4 p5 p6 x = absurd (omega arith)
@@ -85,10 +87,16 @@ module _ (q : Question) (space : ℕ) where
         room = ltb-false space leastSpace p6;
       }
 
--- what is asked of the run, as a question asks it
+-- what is wanted of the run, as a question asks it
 pub record Asked (q : Question) (w : Wanted) : Type 0 where
   pub single : w .single ≡ hasSingle (q .flags)
   pub choice : choiceOf w ≡ (hasLeftmost (q .flags), q .windows)
+
+pub asked : {q : Question} {w : Wanted} {v : Bounds} → q .windows ≡ windowsOf v → w ≡ wantedBy (q .flags) v → Asked q w
+asked {q} same e = record {
+  single = ap (λ (x : Wanted). x .single) e;
+  choice = ap choiceOf e ∙ ap (λ (x : Windows). (hasLeftmost (q .flags), x)) (sym same);
+}
 
 module _ (q : Question) (old : Lent) where
   abbrev space : ℕ
@@ -98,9 +106,12 @@ module _ (q : Question) (old : Lent) where
   unfolding Answered
   early-answer {fault} es e n d = rw (early q space fault (rw es at e) n) (d, refl)
 
-  module _ {space′ fault : ℕ} (es : space′ ≡ space) (ef : fault ≡ firstFault q space′) (none : fault ≡ 0) (r : Reading) (is : r ≡ answerOf (limitedRead (q .pattern) (optionsOf (q .flags)))) where
+  pub checked : {fault space′ : ℕ} → space′ ≡ space → fault ≡ firstFault q space′ → fault ≡ 0 → Checked q old
+  checked es ef none = rw es at (sym ef ∙ none)
+
+  module _ (fine : Checked q old) (r : Reading) (is : r ≡ answerOf (limitedRead (q .pattern) (optionsOf (q .flags)))) where
     pass : Passed q space
-    pass = let fine : firstFault q space ≡ 0 = rw es at (sym ef ∙ none) in passed q space fine
+    pass = passed q space fine
 
     pub unread-answer : {m : Matched} → (r .number ≡ 0 → ⊥) → m ≡ refusal (r .number) (r .place) → Matches q old old m
     unfolding Answered answerOf
@@ -128,14 +139,14 @@ module _ (q : Question) (old : Lent) where
           → Delivered w old now count (closed (choiceOf w) (q .log) (formAt (r .nodes) (r .root)) (length (q .log)))
           → m ≡ record { number = 0; place = 0; count = count } → Matches q old now m
       unfolding Answered
-      run-answer {w} {now} {count} {m} asked d e =
+      run-answer {w} {now} {count} {m} wants d e =
           let t : Syntax = got .0 in
           let rule : Rule = ruleOf q t in
           let list : List Report = the-list (q .log) rule few (pass .short) in
           let said : List Hit = kept (rule .single) (closed (rule .starts, rule .windows) (q .log) (write t) (length (q .log))) in
           let same : kept (w .single) (closed (choiceOf w) (q .log) (formAt (r .nodes) (r .root)) (length (q .log))) ≡ said =
-          ap₂ (λ (b : Bool) (l : List Hit). kept b l) (asked .single)
-          (ap₂ (λ c (x : Syntax). closed c (q .log) (write x) (length (q .log))) (asked .choice) (got .2 .tree)) in
+          ap₂ (λ (b : Bool) (l : List Hit). kept b l) (wants .single)
+          (ap₂ (λ c (x : Syntax). closed c (q .log) (write x) (length (q .log))) (wants .choice) (got .2 .tree)) in
           let long = its-length (q .log) rule few (pass .short) in
           let counted : count ≡ length said = d .counted ∙ ap length same in
           let drops : (l : List ℕ) → drop (length said) l ≡ drop (length list) l = λ l. ap (λ (n : ℕ). drop n l) (sym long) in

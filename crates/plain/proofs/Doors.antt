@@ -19,7 +19,8 @@ use Rattle.regex.specs.Rule.{Assertion, ByteSet}
 use Rattle.regex.proofs.Range.{Inside}
 use Rattle.plain.specs.Marks.{none, when, ends, past, moved}
 use Rattle.plain.specs.Parts.{worldOf, all, Doors, Part, one, then, or, doorsOf, sizeOf, lastOf, coreP, endsP, enteredP, movedP}
-use Rattle.plain.specs.Invariants.{Written, setAt, hasByte, hitsOf, Passes, Says}
+use Rattle.nodes.specs.Invariants.{Written, setAt}
+use Rattle.plain.specs.Invariants.{hasByte, hitsOf, Passes, Says}
 use Rattle.plain.proofs.Least.{when-low}
 use Rattle.plain.proofs.Moving.{ends-low, ends-same, moved-outside}
 use Rattle.plain.proofs.Skips.{when-none, ends-none, moved-none, min-none, none-min, when-and, past-none}

@@ -23,9 +23,10 @@ use Rattle.nodes.specs.Nodes.{Syntax}
 use Rattle.regex.specs.Automaton.{null}
 use Rattle.regex.specs.Rule.{Assertion}
 use Rattle.plain.specs.Parts.{maskOf, worldOf, all, Doors, Part, one, then, or, sizeOf, lastOf}
-use Rattle.plain.specs.Invariants.{Written, formAt, setAt, extra, Plays, Passes, Says, at, Row, Laid, rowsOf, Room, Kept, Made, Joined, openIf, narrowed, widened, placed, seqPiece, seqRows, altPiece, altRows}
+use Rattle.nodes.specs.Invariants.{Written, formAt, setAt, extra}
+use Rattle.plain.specs.Invariants.{Plays, Passes, Says, at, Row, Laid, rowsOf, Room, Kept, Made, Joined, openIf, narrowed, widened, placed, seqPiece, seqRows, altPiece, altRows}
 use Rattle.plain.specs.declared.write_out.Piece.{Piece}
-use Rattle.plain.proofs.Trees.{nested-none, nested-step, repeat-any, repeat-nested, repeat-many, repeat-step}
+use Rattle.nodes.proofs.Forms.{nested-none, nested-step, repeat-any, repeat-nested, repeat-many, repeat-step}
 use Rattle.plain.proofs.Doors.{on-all, size-pos, rows-size, withDoors, shut-front, shut-back, open-round, with-last, says-take, says-seq, says-alt, says-before, says-behind, says-left, says-right, says-opt, says-plus}
 use Rattle.plain.proofs.Laid.{laid-same, laid-front, laid-back, laid-round, placed-in, placed-out, placed-row, placed-length}
 

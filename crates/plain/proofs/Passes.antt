@@ -16,7 +16,8 @@ use Rattle.sets.specs.Set.{on}
 use Rattle.plain.specs.Marks.{none, when, ends, moved}
 use Rattle.plain.specs.Parts.{Doors, Part, one, then, or, doorsOf, sizeOf, lastOf, coreP, endsP, enteredP, movedP}
 use Rattle.plain.specs.Run.{innerWorld, outerWorld}
-use Rattle.plain.specs.Invariants.{Written, formAt, hasByte, hitsOf, Shows, at, Row, Laid, Plays, coreWord, Looked, topOf, enteredAt, handedDown, Turned, Moved, Took}
+use Rattle.nodes.specs.Invariants.{Written, formAt}
+use Rattle.plain.specs.Invariants.{hasByte, hitsOf, Shows, at, Row, Laid, Plays, coreWord, Looked, topOf, enteredAt, handedDown, Turned, Moved, Took}
 use Rattle.plain.specs.declared.run.Ends.{Ends}
 use Rattle.regex.specs.Rule.{Assertion}
 use Rattle.plain.proofs.Skips.{ends-none, moved-none}

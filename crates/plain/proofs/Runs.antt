@@ -15,7 +15,8 @@ use Rattle.regex.specs.Automaton.{null}
 use Rattle.plain.specs.Marks.{none, when, ends, moved}
 use Rattle.plain.specs.Run.{innerWorld, outerWorld, before, after, taken, marksAt, ownAt, lateAt, lineAt, endAt, Hit, shown, inside, Choice, pick, upTo, closed, Lent}
 use Rattle.plain.specs.Answer.{windowsOf}
-use Rattle.plain.specs.Invariants.{Written, formAt, Took, choiceOf, due, Slots, Alike, Delivered, Both, Runs, Asks, Plays, Stands, Stepped, Closes, Closed, Ran}
+use Rattle.nodes.specs.Invariants.{Written, formAt}
+use Rattle.plain.specs.Invariants.{Took, choiceOf, due, Slots, Alike, Delivered, Both, Runs, Asks, Plays, Stands, Stepped, Closes, Closed, Ran}
 use Rattle.plain.specs.declared.run.Ends.{Ends}
 use Rattle.plain.specs.declared.run.Taken.{Taken}
 use Rattle.plain.specs.declared.run.Wanted.{Wanted}

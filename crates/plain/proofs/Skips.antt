@@ -10,7 +10,7 @@ use Rattle.regex.specs.Form.{Form, eps, take, check, seq, alt, plus, opt, posit
 use Rattle.regex.specs.Automaton.{null}
 use Rattle.regex.specs.Rule.{Assertion, ByteSet}
 use Rattle.plain.specs.Marks.{none, when, ends, past, moved}
-use Rattle.plain.specs.Invariants.{Written}
+use Rattle.nodes.specs.Invariants.{Written}
 use Rattle.plain.proofs.Least.{when-low}
 use Rattle.plain.proofs.Moving.{ends-low, moved-long, moved-outside}
 

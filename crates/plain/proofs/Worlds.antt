@@ -5,7 +5,7 @@ use mathlib.Core.Bool.{Bool, true, false, true≢false, cond, _&&_}
 use mathlib.Core.List.{List, [], _∷_}
 use Prim.Native.Nat.{ℕ, zero, suc, _+_, _*_, _-_, _/_, _^_, _≤_, _<_}
 use native.Mathlib.Omega.{arith}
-use borrow.Author.Tests.{eqb-true, eqb-false, ne-eqb}
+use borrow.Author.Tests.{eqb-true}
 use lib.Bits.{bitAnd, and-mask}
 use lib.Dec.{eqb}
 use lib.ListN.{length, getD, take}
@@ -14,9 +14,9 @@ use Rattle.kinds.specs.Side.{sideOf}
 use Rattle.kinds.specs.declared.Side.{Side}
 use Rattle.kinds.specs.declared.Side.the-variants.{Other, Word, Newline}
 use Rattle.regex.specs.Gap.{Known, byte, edge, unknown, known-before}
-use Rattle.regex.specs.Rule.{Assertion, at-start, at-last-line, at-end, line-start, line-end, word-edge, no-word-edge, world}
-use Rattle.nodes.specs.Nodes.{assertionOf}
-use Rattle.plain.specs.Parts.{sideCode, maskOf, worldOf}
+use Rattle.regex.specs.Rule.{Assertion, world}
+use Rattle.regex.proofs.Finite.{everySide, at-side, agree, agreed}
+use Rattle.plain.specs.Parts.{sideCode, worldOf}
 use Rattle.plain.specs.Run.{beforeGap, afterGap, innerWorld, outerWorld}
 use Rattle.plain.specs.Invariants.{Shows}
 
@@ -56,173 +56,41 @@ byte-code Newline = omega arith
 byte-code Word = omega arith
 byte-code Other = omega arith
 
--- ---- the worlds, one by one
+-- ---- the worlds, each a computed test
 
 byte-world : (p : Known) → Stood p → (s : Side) (a : Assertion) → worldOf (4 * (sideCode (byte s) - 1) + sideCode p) a ≡ world p (byte s) false a
 unfolding on
-byte-world edge at-edge Newline at-start = refl
-byte-world edge at-edge Newline at-end = refl
-byte-world edge at-edge Newline at-last-line = refl
-byte-world edge at-edge Newline line-start = refl
-byte-world edge at-edge Newline line-end = refl
-byte-world edge at-edge Newline word-edge = refl
-byte-world edge at-edge Newline no-word-edge = refl
-byte-world edge at-edge Word at-start = refl
-byte-world edge at-edge Word at-end = refl
-byte-world edge at-edge Word at-last-line = refl
-byte-world edge at-edge Word line-start = refl
-byte-world edge at-edge Word line-end = refl
-byte-world edge at-edge Word word-edge = refl
-byte-world edge at-edge Word no-word-edge = refl
-byte-world edge at-edge Other at-start = refl
-byte-world edge at-edge Other at-end = refl
-byte-world edge at-edge Other at-last-line = refl
-byte-world edge at-edge Other line-start = refl
-byte-world edge at-edge Other line-end = refl
-byte-world edge at-edge Other word-edge = refl
-byte-world edge at-edge Other no-word-edge = refl
-byte-world (byte Newline) (at-byte Newline) Newline at-start = refl
-byte-world (byte Newline) (at-byte Newline) Newline at-end = refl
-byte-world (byte Newline) (at-byte Newline) Newline at-last-line = refl
-byte-world (byte Newline) (at-byte Newline) Newline line-start = refl
-byte-world (byte Newline) (at-byte Newline) Newline line-end = refl
-byte-world (byte Newline) (at-byte Newline) Newline word-edge = refl
-byte-world (byte Newline) (at-byte Newline) Newline no-word-edge = refl
-byte-world (byte Newline) (at-byte Newline) Word at-start = refl
-byte-world (byte Newline) (at-byte Newline) Word at-end = refl
-byte-world (byte Newline) (at-byte Newline) Word at-last-line = refl
-byte-world (byte Newline) (at-byte Newline) Word line-start = refl
-byte-world (byte Newline) (at-byte Newline) Word line-end = refl
-byte-world (byte Newline) (at-byte Newline) Word word-edge = refl
-byte-world (byte Newline) (at-byte Newline) Word no-word-edge = refl
-byte-world (byte Newline) (at-byte Newline) Other at-start = refl
-byte-world (byte Newline) (at-byte Newline) Other at-end = refl
-byte-world (byte Newline) (at-byte Newline) Other at-last-line = refl
-byte-world (byte Newline) (at-byte Newline) Other line-start = refl
-byte-world (byte Newline) (at-byte Newline) Other line-end = refl
-byte-world (byte Newline) (at-byte Newline) Other word-edge = refl
-byte-world (byte Newline) (at-byte Newline) Other no-word-edge = refl
-byte-world (byte Word) (at-byte Word) Newline at-start = refl
-byte-world (byte Word) (at-byte Word) Newline at-end = refl
-byte-world (byte Word) (at-byte Word) Newline at-last-line = refl
-byte-world (byte Word) (at-byte Word) Newline line-start = refl
-byte-world (byte Word) (at-byte Word) Newline line-end = refl
-byte-world (byte Word) (at-byte Word) Newline word-edge = refl
-byte-world (byte Word) (at-byte Word) Newline no-word-edge = refl
-byte-world (byte Word) (at-byte Word) Word at-start = refl
-byte-world (byte Word) (at-byte Word) Word at-end = refl
-byte-world (byte Word) (at-byte Word) Word at-last-line = refl
-byte-world (byte Word) (at-byte Word) Word line-start = refl
-byte-world (byte Word) (at-byte Word) Word line-end = refl
-byte-world (byte Word) (at-byte Word) Word word-edge = refl
-byte-world (byte Word) (at-byte Word) Word no-word-edge = refl
-byte-world (byte Word) (at-byte Word) Other at-start = refl
-byte-world (byte Word) (at-byte Word) Other at-end = refl
-byte-world (byte Word) (at-byte Word) Other at-last-line = refl
-byte-world (byte Word) (at-byte Word) Other line-start = refl
-byte-world (byte Word) (at-byte Word) Other line-end = refl
-byte-world (byte Word) (at-byte Word) Other word-edge = refl
-byte-world (byte Word) (at-byte Word) Other no-word-edge = refl
-byte-world (byte Other) (at-byte Other) Newline at-start = refl
-byte-world (byte Other) (at-byte Other) Newline at-end = refl
-byte-world (byte Other) (at-byte Other) Newline at-last-line = refl
-byte-world (byte Other) (at-byte Other) Newline line-start = refl
-byte-world (byte Other) (at-byte Other) Newline line-end = refl
-byte-world (byte Other) (at-byte Other) Newline word-edge = refl
-byte-world (byte Other) (at-byte Other) Newline no-word-edge = refl
-byte-world (byte Other) (at-byte Other) Word at-start = refl
-byte-world (byte Other) (at-byte Other) Word at-end = refl
-byte-world (byte Other) (at-byte Other) Word at-last-line = refl
-byte-world (byte Other) (at-byte Other) Word line-start = refl
-byte-world (byte Other) (at-byte Other) Word line-end = refl
-byte-world (byte Other) (at-byte Other) Word word-edge = refl
-byte-world (byte Other) (at-byte Other) Word no-word-edge = refl
-byte-world (byte Other) (at-byte Other) Other at-start = refl
-byte-world (byte Other) (at-byte Other) Other at-end = refl
-byte-world (byte Other) (at-byte Other) Other at-last-line = refl
-byte-world (byte Other) (at-byte Other) Other line-start = refl
-byte-world (byte Other) (at-byte Other) Other line-end = refl
-byte-world (byte Other) (at-byte Other) Other word-edge = refl
-byte-world (byte Other) (at-byte Other) Other no-word-edge = refl
+byte-world p h s = agreed (worldOf (4 * (sideCode (byte s) - 1) + sideCode p)) (world p (byte s) false) (go p h)
+  where
+    test : Known → Side → Bool
+    test p s = agree (worldOf (4 * (sideCode (byte s) - 1) + sideCode p)) (world p (byte s) false)
+
+    go : (p : Known) → Stood p → test p s ≡ true
+    go p at-edge = at-side (test edge) refl s
+    go p (at-byte r) = at-side (test (byte r)) (at-side (λ r. everySide (test (byte r))) refl r) s
 
 newline-world : (p : Known) → Stood p → (a : Assertion) → worldOf (12 + sideCode p) a ≡ world p (byte Newline) true a
 unfolding on
-newline-world edge at-edge at-start = refl
-newline-world edge at-edge at-end = refl
-newline-world edge at-edge at-last-line = refl
-newline-world edge at-edge line-start = refl
-newline-world edge at-edge line-end = refl
-newline-world edge at-edge word-edge = refl
-newline-world edge at-edge no-word-edge = refl
-newline-world (byte Newline) (at-byte Newline) at-start = refl
-newline-world (byte Newline) (at-byte Newline) at-end = refl
-newline-world (byte Newline) (at-byte Newline) at-last-line = refl
-newline-world (byte Newline) (at-byte Newline) line-start = refl
-newline-world (byte Newline) (at-byte Newline) line-end = refl
-newline-world (byte Newline) (at-byte Newline) word-edge = refl
-newline-world (byte Newline) (at-byte Newline) no-word-edge = refl
-newline-world (byte Word) (at-byte Word) at-start = refl
-newline-world (byte Word) (at-byte Word) at-end = refl
-newline-world (byte Word) (at-byte Word) at-last-line = refl
-newline-world (byte Word) (at-byte Word) line-start = refl
-newline-world (byte Word) (at-byte Word) line-end = refl
-newline-world (byte Word) (at-byte Word) word-edge = refl
-newline-world (byte Word) (at-byte Word) no-word-edge = refl
-newline-world (byte Other) (at-byte Other) at-start = refl
-newline-world (byte Other) (at-byte Other) at-end = refl
-newline-world (byte Other) (at-byte Other) at-last-line = refl
-newline-world (byte Other) (at-byte Other) line-start = refl
-newline-world (byte Other) (at-byte Other) line-end = refl
-newline-world (byte Other) (at-byte Other) word-edge = refl
-newline-world (byte Other) (at-byte Other) no-word-edge = refl
+newline-world p h = agreed (worldOf (12 + sideCode p)) (world p (byte Newline) true) (go p h)
+  where
+    test : Known → Bool
+    test p = agree (worldOf (12 + sideCode p)) (world p (byte Newline) true)
+
+    go : (p : Known) → Stood p → test p ≡ true
+    go p at-edge = refl
+    go p (at-byte r) = at-side (λ r. test (byte r)) refl r
 
 end-world : (s : Side) (a : Assertion) → worldOf (16 + sideCode (byte s)) a ≡ world (byte s) edge true a
 unfolding on
-end-world Newline at-start = refl
-end-world Newline at-end = refl
-end-world Newline at-last-line = refl
-end-world Newline line-start = refl
-end-world Newline line-end = refl
-end-world Newline word-edge = refl
-end-world Newline no-word-edge = refl
-end-world Word at-start = refl
-end-world Word at-end = refl
-end-world Word at-last-line = refl
-end-world Word line-start = refl
-end-world Word line-end = refl
-end-world Word word-edge = refl
-end-world Word no-word-edge = refl
-end-world Other at-start = refl
-end-world Other at-end = refl
-end-world Other at-last-line = refl
-end-world Other line-start = refl
-end-world Other line-end = refl
-end-world Other word-edge = refl
-end-world Other no-word-edge = refl
+end-world s =
+    agreed (worldOf (16 + sideCode (byte s))) (world (byte s) edge true)
+    (at-side (λ s. agree (worldOf (16 + sideCode (byte s))) (world (byte s) edge true)) refl s)
 
 open-world : (s : Side) (a : Assertion) → worldOf (20 + sideCode (byte s)) a ≡ world (byte s) unknown false a
 unfolding on
-open-world Newline at-start = refl
-open-world Newline at-end = refl
-open-world Newline at-last-line = refl
-open-world Newline line-start = refl
-open-world Newline line-end = refl
-open-world Newline word-edge = refl
-open-world Newline no-word-edge = refl
-open-world Word at-start = refl
-open-world Word at-end = refl
-open-world Word at-last-line = refl
-open-world Word line-start = refl
-open-world Word line-end = refl
-open-world Word word-edge = refl
-open-world Word no-word-edge = refl
-open-world Other at-start = refl
-open-world Other at-end = refl
-open-world Other at-last-line = refl
-open-world Other line-start = refl
-open-world Other line-end = refl
-open-world Other word-edge = refl
-open-world Other no-word-edge = refl
+open-world s =
+    agreed (worldOf (20 + sideCode (byte s))) (world (byte s) unknown false)
+    (at-side (λ s. agree (worldOf (20 + sideCode (byte s))) (world (byte s) unknown false)) refl s)
 
 -- ---- as the code works them out
 
@@ -270,9 +138,3 @@ module _ (bytes : List ℕ) (k : ℕ) where
       same = ap (λ (v : ℕ). worldOf (20 + v)) d ∙ fun-ext (open-world (sideOf x))
           ∙ ap₂ (λ (q : Known) (z : Bool). world q (cond z edge unknown) z) (sym (known-last bytes k inside)) (sym h);
     }
-
--- the last assertion
-pub last-mask : (n : ℕ) → 6 ≤ n → 768843 ≡ maskOf (assertionOf n)
-last-mask n h =
-    let off : (k : ℕ) → k < 6 → eqb n k ≡ false = λ k l. ne-eqb n k (λ e. omega arith) in
-    rw (off 0 (omega arith), off 1 (omega arith), off 2 (omega arith), off 3 (omega arith), off 4 (omega arith), off 5 (omega arith))

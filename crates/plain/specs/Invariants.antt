@@ -9,41 +9,20 @@ use lib.Dec.{eqb, ltb}
 use lib.ListN.{length, getD, set, take, drop}
 use lib.Seq.{sets}
 use Rattle.sets.specs.Set.{on, has, asOne}
-use Rattle.regex.specs.Tree.{Extra, atMost, unbounded}
-use Rattle.regex.specs.Form.{Form, write, positions}
-use Rattle.regex.specs.Rule.{Assertion, ByteSet}
+use Rattle.regex.specs.Form.{positions}
+use Rattle.regex.specs.Rule.{Assertion, ByteSet, Windows}
 use Rattle.regex.specs.Automaton.{null}
-use Rattle.nodes.specs.Nodes.{treeAt}
-use Rattle.nodes.specs.Invariants.{childAt}
-use Rattle.pattern.specs.Read.{tooLong}
+use Rattle.nodes.specs.Invariants.{Written, formAt, setAt}
+use Rattle.pattern.specs.Read.{longest}
 use Rattle.plain.specs.Marks.{none, when, ends, moved}
 use Rattle.plain.specs.Run.{innerWorld, outerWorld, taken, marksAt, ownAt, lateAt, Hit, shown, inside, Choice, pick, upTo, closed, kept, Lent, lent, filled}
 use Rattle.plain.specs.Parts.{worldOf, all, Doors, Part, one, then, or, doorsOf, sizeOf, lastOf, coreP, endsP, movedP}
 use Rattle.plain.specs.Answer.{Question, windowsOf, knownFlags, hasSingle, hasLeftmost, longestLog, leastSpace}
+use Rattle.plain.specs.declared.Bounds.{Bounds}
 use Rattle.plain.specs.declared.run.Ends.{Ends}
 use Rattle.plain.specs.declared.run.Taken.{Taken}
 use Rattle.plain.specs.declared.run.Wanted.{Wanted}
 use Rattle.plain.specs.declared.write_out.Piece.{Piece}
-
--- ---- nodes
-
--- the written-out form of node k, and of its child x
-abbrev pub Written : Type 0
-Written = Form ByteSet Assertion
-
-abbrev pub formAt : List ℕ → ℕ → Written
-formAt a k = write (treeAt a k)
-
-abbrev pub childForm : List ℕ → ℕ → ℕ → Written
-childForm a k x = write (childAt a k x)
-
--- the byte set that stands before node k
-abbrev pub setAt : List ℕ → ℕ → ByteSet
-setAt a k = take 4 (drop (k - 4) a)
-
--- how many copies more: any number, or up to j
-abbrev pub extra : Bool → ℕ → Extra
-extra endless j = cond endless unbounded (atMost j)
 
 -- ---- gaps
 
@@ -318,11 +297,26 @@ pub record Ran (f : Written) (w : Wanted) (bytes : List ℕ) (n : ℕ) (old now 
   pub reports : Delivered w old now (r .count) (upTo (choiceOf w) bytes f n)
 
 -- the checks before the pattern is read: the number of the first that fails, or 0
+unfoldable pub flagFault : (flags : ℕ) → ℕ
+flagFault flags =
+    cond (not (eqb (bitAnd flags knownFlags) flags)) 2 (cond (hasLeftmost flags && hasSingle flags) 24 0)
+
+unfoldable pub sizeFault : (pattern : ℕ) (w : Windows) (log space : ℕ) → ℕ
+sizeFault pattern w log space =
+    cond (ltb longest pattern) 5
+    (cond (ltb (w .largest-end) (w .smallest-end)) 26
+    (cond (ltb longestLog log) 28
+    (cond (ltb space leastSpace) 20 0)))
+
 unfoldable pub firstFault : Question → (space : ℕ) → ℕ
 firstFault q space =
-    cond (not (eqb (bitAnd (q .flags) knownFlags) (q .flags))) 2
-    (cond (hasLeftmost (q .flags) && hasSingle (q .flags)) 24
-    (cond (tooLong (q .pattern)) 5
-    (cond (ltb (q .windows .largest-end) (q .windows .smallest-end)) 26
-    (cond (ltb longestLog (length (q .log))) 28
-    (cond (ltb space leastSpace) 20 0)))))
+    cond (eqb (flagFault (q .flags)) 0)
+    (sizeFault (length (q .pattern)) (q .windows) (length (q .log)) space) (flagFault (q .flags))
+
+-- they are passed, where these lists are lent
+abbrev pub Checked : Question → Lent → Type 0
+Checked q old = firstFault q (min (length (old .offsets)) (length (old .starts))) ≡ 0
+
+-- what is wanted of the run
+abbrev pub wantedBy : (flags : ℕ) → Bounds → Wanted
+wantedBy flags bounds = record { single = hasSingle flags; leftmost = hasLeftmost flags; bounds = bounds }

@@ -11,9 +11,9 @@ mod write_out;
 use run::Wanted;
 ghost use mathlib.Core.Path.{_≡_};
 ghost use Prim.Native.Nat.{min};
-ghost use Rattle.plain.specs.Answer.{question, Matches, refusal};
+ghost use Rattle.plain.specs.Answer.{windowsOf, question, hasSingle, hasLeftmost, Matches, refusal};
 ghost use Rattle.plain.specs.Run.{lent};
-ghost use Rattle.plain.specs.Invariants.{firstFault};
+ghost use Rattle.plain.specs.Invariants.{flagFault, sizeFault, firstFault, Checked, wantedBy};
 
 // The answer: number 0, place 0 and how many reports, or the refusal's number and place and no
 // reports.
@@ -51,23 +51,43 @@ fn refused(number: u32, place: usize) -> Matched
     }
 }
 
-// The checks before the pattern is read, in order: the number of the first that fails, or 0.
-fn first_fault(pattern: &[u8], flags: u32, bounds: Bounds, log: &[u8], space: usize) -> u32
-    ensures { λ r. ⌜ r ≡ firstFault (question (now (pattern .entry)) flags bounds (now (log .entry))) space ⌝ }
+// Flag 8, single match, and flag 256, leftmost start.
+fn is_single(flags: u32) -> bool
+    ensures { λ r. ⌜ r ≡ hasSingle flags ⌝ }
+{
+    flags / 8 % 2 == 1
+}
+
+fn is_leftmost(flags: u32) -> bool
+    ensures { λ r. ⌜ r ≡ hasLeftmost flags ⌝ }
+{
+    flags / 256 % 2 == 1
+}
+
+// The checks of the flags, in order: the number of the first that fails, or 0.
+fn flag_fault(flags: u32) -> u32
+    ensures { λ r. ⌜ r ≡ flagFault flags ⌝ }
 {
     if flags & KNOWN_FLAGS != flags {
         return 2;
     }
-    if (flags / 256 % 2 == 1) & (flags / 8 % 2 == 1) {
+    if is_leftmost(flags) & is_single(flags) {
         return 24;
     }
-    if pattern.len() > LONGEST_PATTERN {
+    0
+}
+
+// The same of the lengths and bounds.
+fn size_fault(pattern: usize, bounds: Bounds, log: usize, space: usize) -> u32
+    ensures { λ r. ⌜ r ≡ sizeFault pattern (windowsOf bounds) log space ⌝ }
+{
+    if pattern > LONGEST_PATTERN {
         return 5;
     }
     if bounds.highest < bounds.lowest {
         return 26;
     }
-    if log.len() > LONGEST_LOG {
+    if log > LONGEST_LOG {
         return 28;
     }
     if space < SPACE {
@@ -76,11 +96,59 @@ fn first_fault(pattern: &[u8], flags: u32, bounds: Bounds, log: &[u8], space: us
     0
 }
 
+// The checks before the pattern is read: the number of the first that fails, or 0.
+fn first_fault(pattern: &[u8], flags: u32, bounds: Bounds, log: &[u8], space: usize) -> u32
+    ensures { λ r. ⌜ r ≡ firstFault (question (now (pattern .entry)) flags bounds (now (log .entry))) space ⌝ }
+{
+    let fault = flag_fault(flags);
+    if fault != 0 {
+        return fault;
+    }
+    size_fault(pattern.len(), bounds, log.len(), space)
+}
+
 // The smaller of two lengths.
 fn shorter(x: usize, y: usize) -> usize
     ensures { λ r. ⌜ r ≡ min x y ⌝ }
 {
     if x < y { x } else { y }
+}
+
+// What is wanted of the run, by the flags.
+fn wanted(flags: u32, bounds: Bounds) -> Wanted
+    ensures { λ r. ⌜ r ≡ wantedBy flags bounds ⌝ }
+{
+    Wanted {
+        single: is_single(flags),
+        leftmost: is_leftmost(flags),
+        bounds,
+    }
+}
+
+// The answer once those checks are passed: the reader's refusal, or the reports.
+fn answer(
+    pattern: &[u8],
+    flags: u32,
+    bounds: Bounds,
+    log: &[u8],
+    offsets: &mut [u64],
+    starts: &mut [u64],
+) -> Matched
+    requires { ⌜ Checked (question (now pattern) flags bounds (now log)) (lent (now offsets) (now starts)) ⌝ }
+    ensures { λ r. ⌜ Matches (question (now (pattern .entry)) flags bounds (now (log .entry))) (lent (now (offsets .entry)) (now (starts .entry))) (lent (now (offsets .exit)) (now (starts .exit))) r ⌝ }
+{
+    let reading = pattern::read(pattern, flags);
+    if reading.number != 0 {
+        return refused(reading.number, reading.place);
+    }
+    let nodes = reading.nodes;
+    let wanted = wanted(flags, bounds);
+    let count = run::whole(&nodes, reading.root, log, wanted, offsets, starts);
+    Matched {
+        number: 0,
+        place: 0,
+        count,
+    }
 }
 
 // What the rule of this pattern, these flags and these bounds reports on a whole log, written from
@@ -100,20 +168,5 @@ pub fn matches(
     if fault != 0 {
         return refused(fault, 0);
     }
-    let reading = pattern::read(pattern, flags);
-    if reading.number != 0 {
-        return refused(reading.number, reading.place);
-    }
-    let nodes = reading.nodes;
-    let wanted = Wanted {
-        single: flags / 8 % 2 == 1,
-        leftmost: flags / 256 % 2 == 1,
-        bounds,
-    };
-    let count = run::whole(&nodes, reading.root, log, wanted, offsets, starts);
-    Matched {
-        number: 0,
-        place: 0,
-        count,
-    }
+    answer(pattern, flags, bounds, log, offsets, starts)
 }

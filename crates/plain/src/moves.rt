@@ -10,7 +10,8 @@ ghost use mathlib.Core.Path.{_≡_};
 ghost use Prim.Native.Nat.{_+_, _*_, _<_, _≤_};
 ghost use lib.ListN.{length, set};
 ghost use Rattle.sets.specs.Set.{on, has};
-ghost use Rattle.plain.specs.Invariants.{setAt, coreWord, enteredAt, handedDown, Looks, Turned, Moving, Moved};
+ghost use Rattle.nodes.specs.Invariants.{setAt};
+ghost use Rattle.plain.specs.Invariants.{coreWord, enteredAt, handedDown, Looks, Turned, Moving, Moved};
 
 // How many rows there are at most.
 pub(super) const ROWS: usize = 512;

@@ -13,7 +13,8 @@ ghost use lib.ListN.{length};
 ghost use Rattle.sets.specs.Set.{asOne};
 ghost use Rattle.plain.specs.Run.{marksAt, closed, inside, shown, lent};
 ghost use Rattle.plain.specs.Answer.{windowsOf};
-ghost use Rattle.plain.specs.Invariants.{formAt, Plays, topOf, Asks, Took, due, choiceOf, Slots, Reported, Both, Delivered, Runs, Stands, Stepped, Closes, Closed, Ran};
+ghost use Rattle.nodes.specs.Invariants.{formAt};
+ghost use Rattle.plain.specs.Invariants.{Plays, topOf, Asks, Took, due, choiceOf, Slots, Reported, Both, Delivered, Runs, Stands, Stepped, Closes, Closed, Ran};
 
 // What a byte brings: the least start of the matches that end before it, now that it is known, and of those that end with it, while nothing is known of the next.
 struct Ends {

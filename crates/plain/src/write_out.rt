@@ -10,7 +10,8 @@ use nodes::layout::word;
 ghost use mathlib.Core.Path.{_≡_};
 ghost use Prim.Native.Nat.{_+_, _*_, _<_, _≤_};
 ghost use Rattle.regex.specs.Form.{seq, alt, repeated};
-ghost use Rattle.plain.specs.Invariants.{formAt, childForm, extra, Room, Made, rowsOf, openIf, Joined, seqPiece, seqRows, altPiece, altRows};
+ghost use Rattle.nodes.specs.Invariants.{formAt, childForm, extra};
+ghost use Rattle.plain.specs.Invariants.{Room, Made, rowsOf, openIf, Joined, seqPiece, seqRows, altPiece, altRows};
 
 // What a form is to those around it.
 pub(super) struct Piece {

@@ -17,6 +17,8 @@ pub mod Least
 pub mod Enumerated
 pub mod OneList
 pub mod Alone
+pub mod Named
+pub mod Finite
 pub mod Moments
 pub mod Starts
 pub mod Reports

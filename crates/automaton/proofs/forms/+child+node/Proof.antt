@@ -7,7 +7,9 @@ use lib.Dec.{eqb}
 use borrow.Fn.Kinds.{In}
 use borrow.Fn.PlainCycle.{Measures, is, falls, and}
 use Rattle.nodes.specs.Nodes.{xOf, yOf, zOf}
-use Rattle.automaton.specs.Invariants.{childForm, Extends}
+use Rattle.nodes.specs.Invariants.{childForm}
+use Rattle.automaton.specs.Invariants.{Extends}
+use Rattle.nodes.proofs.Forms as forms
 use Rattle.automaton.proofs.Steps as steps
 use Rattle.automaton.proofs.Standing as standing
 use Rattle.automaton.proofs.forms.child.Reads as child
@@ -81,7 +83,7 @@ module _ (t : ℕ) where
       let v = c-start .args in (
         omega arith,
         (
-          steps.room-as (v .b) (steps.child-is (v .a .now) (v .k) (v .x) (c-if1 .taken))
+          steps.room-as (v .b) (forms.child-is (v .a .now) (v .k) (v .x) (c-if1 .taken))
               (c-start .pre .1 .0),
           c-start .pre .1 .1,
         ),
@@ -93,7 +95,7 @@ module _ (t : ℕ) where
       let c-if1 = c .before .before .before .if1 in
       let c-node = c .node in
       let v = c-start .args in
-      steps.built-as (steps.child-is (v .a .now) (v .k) (v .x) (c-if1 .taken)) (c-node .ensures)
+      steps.built-as (forms.child-is (v .a .now) (v .k) (v .x) (c-if1 .taken)) (c-node .ensures)
 
   child-bare-requires : child-lts.Need-bare-requires (child-uses t) (child-at t) child.Post
   child-bare-requires c κs = tt
@@ -104,7 +106,7 @@ module _ (t : ℕ) where
       let c-if1 = c .before .if1 in
       let c-bare = c .bare in
       let v = c-start .args in
-      steps.built-eps (steps.child-none (v .a .now) (v .k) (v .x) (c-if1 .left)) (c-bare .ensures)
+      steps.built-eps (forms.child-none (v .a .now) (v .k) (v .x) (c-if1 .left)) (c-bare .ensures)
 
   node-word-requires : node-lts.Need-word-requires (node-uses t) (node-at t) node.Post
   node-word-requires c κs = tt
@@ -120,7 +122,7 @@ module _ (t : ℕ) where
       let v = c-start .args in
       omega (
         arith,
-        steps.item-positions (v .a .now) (v .k) (c-word .result) (c-word .ensures)
+        forms.item-positions (v .a .now) (v .k) (c-word .result) (c-word .ensures)
             (c-if1 .taken),
       )
 
@@ -132,7 +134,7 @@ module _ (t : ℕ) where
       let v = c-start .args in
       omega (
         arith,
-        steps.item-positions (v .a .now) (v .k) (c-word .result) (c-word .ensures)
+        forms.item-positions (v .a .now) (v .k) (c-word .result) (c-word .ensures)
             (c-if1 .taken),
       )
 
@@ -146,7 +148,7 @@ module _ (t : ℕ) where
       let c-put = c .before .put in
       let c-one = c .one in
       let v = c-start .args in
-      steps.built-take (steps.form-take (v .a .now) (v .k) (c-word .result) (c-word .ensures)
+      steps.built-take (forms.form-take (v .a .now) (v .k) (c-word .result) (c-word .ensures)
       (c-if1 .taken)) (c-set-of .ensures) (c-put .ensures) (c-one .ensures)
 
   node-holds-requires : node-lts.Need-holds-requires (node-uses t) (node-at t) node.Post
@@ -163,7 +165,7 @@ module _ (t : ℕ) where
       let c-holds = c .before .holds in
       let c-bare = c .bare in
       let v = c-start .args in
-      steps.built-check (steps.form-check (v .a .now) (v .k) (c-word .result) (c-word .ensures)
+      steps.built-check (forms.form-check (v .a .now) (v .k) (c-word .result) (c-word .ensures)
       (c-if2 .taken)) (c-holds .ensures) (c-bare .ensures)
 
   node-child-requires : node-lts.Need-child-requires (node-uses t) (node-at t) node.Post
@@ -177,7 +179,7 @@ module _ (t : ℕ) where
         (
           omega (
             arith,
-            steps.pair-positions (v .a .now) (v .k) (c-word .result) (c-word .ensures)
+            forms.pair-positions (v .a .now) (v .k) (c-word .result) (c-word .ensures)
                 (c-if3 .taken),
           ),
           c-start .pre .1 .1,
@@ -194,7 +196,7 @@ module _ (t : ℕ) where
       let v = c-start .args in
       omega (
         arith,
-        steps.pair-positions (v .a .now) (v .k) (c-word .result) (c-word .ensures)
+        forms.pair-positions (v .a .now) (v .k) (c-word .result) (c-word .ensures)
             (c-if3 .taken),
         steps.size-of (c-child .ensures),
       )
@@ -208,7 +210,7 @@ module _ (t : ℕ) where
       let c-child = c .before .before .before .child in
       let v = c-start .args in
       let sum =
-      steps.pair-positions (v .a .now) (v .k) (c-word .result) (c-word .ensures) (c-if3 .taken) in (
+      forms.pair-positions (v .a .now) (v .k) (c-word .result) (c-word .ensures) (c-if3 .taken) in (
         omega arith,
         (
           omega (arith, sum, steps.size-of (c-child .ensures)),
@@ -228,7 +230,7 @@ module _ (t : ℕ) where
       let c-child2 = c .before .before .child2 in
       let v = c-start .args in
       let sum =
-      steps.pair-positions (v .a .now) (v .k) (c-word .result) (c-word .ensures) (c-if3 .taken) in
+      forms.pair-positions (v .a .now) (v .k) (c-word .result) (c-word .ensures) (c-if3 .taken) in
       steps.two-fit (c-child .ensures) (c-child2 .ensures) (omega (arith, sum))
 
   node-returns-3 : node-lts.Need-returns-3 (node-uses t) (node-at t) node.Post
@@ -243,7 +245,7 @@ module _ (t : ℕ) where
       let c-then = c .then in
       let v = c-start .args in
       steps.built-seq (c-child .ensures) (c-child2 .ensures)
-      (steps.form-seq (v .a .now) (v .k) (c-word .result) (c-word .ensures) (c-if4 .taken))
+      (forms.form-seq (v .a .now) (v .k) (c-word .result) (c-word .ensures) (c-if4 .taken))
       (c-then .ensures .0) (c-then .ensures .1)
 
   node-choice-requires : node-lts.Need-choice-requires (node-uses t) (node-at t) node.Post
@@ -259,7 +261,7 @@ module _ (t : ℕ) where
       let c-child2 = c .before .child2 in
       let v = c-start .args in
       let sum =
-      steps.pair-positions (v .a .now) (v .k) (c-word .result) (c-word .ensures) (c-if3 .taken) in
+      forms.pair-positions (v .a .now) (v .k) (c-word .result) (c-word .ensures) (c-if3 .taken) in
       steps.two-fit (c-child .ensures) (c-child2 .ensures) (omega (arith, sum))
 
   node-returns-4 : node-lts.Need-returns-4 (node-uses t) (node-at t) node.Post
@@ -275,7 +277,7 @@ module _ (t : ℕ) where
       let c-choice = c .choice in
       let v = c-start .args in
       steps.built-alt (c-child .ensures) (c-child2 .ensures)
-      (steps.form-alt (v .a .now) (v .k) (c-word .result) (c-word .ensures) (c-if3 .taken)
+      (forms.form-alt (v .a .now) (v .k) (c-word .result) (c-word .ensures) (c-if3 .taken)
       (c-if4 .left)) (c-choice .ensures)
 
   node-bare-requires-2 : node-lts.Need-bare-requires-2 (node-uses t) (node-at t) node.Post
@@ -294,7 +296,7 @@ module _ (t : ℕ) where
       let zero =
       steps.repeat-zero (childForm (v .a .now) (v .k) (xOf (c-word .result))) (yOf (c-word .result))
       (eqb z 65536) z (c-if6 .taken) in
-      steps.built-eps (steps.form-repeated (v .a .now) (v .k) (c-word .result) (c-word .ensures)
+      steps.built-eps (forms.form-repeated (v .a .now) (v .k) (c-word .result) (c-word .ensures)
       (c-if5 .taken) ∙ zero) (c-bare2 .ensures)
 
   node-child-requires-3 : node-lts.Need-child-requires-3 (node-uses t) (node-at t) node.Post
@@ -308,7 +310,7 @@ module _ (t : ℕ) where
       let z = zOf (c-word .result) in
       let all =
       steps.room-as (v .b)
-      (steps.form-repeated (v .a .now) (v .k) (c-word .result) (c-word .ensures) (c-if5 .taken))
+      (forms.form-repeated (v .a .now) (v .k) (c-word .result) (c-word .ensures) (c-if5 .taken))
       (c-start .pre .1 .0) in
       let one =
       steps.first-fits (childForm (v .a .now) (v .k) (xOf (c-word .result))) (yOf (c-word .result))
@@ -327,7 +329,7 @@ module _ (t : ℕ) where
       let z = zOf (c-word .result) in
       let all =
       steps.room-as (v .b)
-      (steps.form-repeated (v .a .now) (v .k) (c-word .result) (c-word .ensures) (c-if5 .taken))
+      (forms.form-repeated (v .a .now) (v .k) (c-word .result) (c-word .ensures) (c-if5 .taken))
       (c-start .pre .1 .0) in
       let one =
       steps.first-fits (childForm (v .a .now) (v .k) (xOf (c-word .result))) (yOf (c-word .result))
@@ -351,7 +353,7 @@ module _ (t : ℕ) where
       let c-repeat = c .repeat in
       let c-child3 = c .before .before .before .child3 in
       let v = c-start .args in
-      steps.built-as (steps.form-repeated (v .a .now) (v .k) (c-word .result) (c-word .ensures)
+      steps.built-as (forms.form-repeated (v .a .now) (v .k) (c-word .result) (c-word .ensures)
       (c-if5 .taken)) (c-repeat .ensures _ _ (c-child3 .ensures))
 
   node-bare-requires-3 : node-lts.Need-bare-requires-3 (node-uses t) (node-at t) node.Post
@@ -368,7 +370,7 @@ module _ (t : ℕ) where
       let c-if5 = c .before .if5 in
       let c-bare3 = c .bare3 in
       let v = c-start .args in
-      steps.built-eps (steps.form-eps (v .a .now) (v .k) (c-word .result) (c-word .ensures)
+      steps.built-eps (forms.form-eps (v .a .now) (v .k) (c-word .result) (c-word .ensures)
       (c-if1 .left) (c-if2 .left) (c-if3 .left) (c-if5 .left)) (c-bare3 .ensures)
 
 pub +child+node-spec : {M : Type 1} → statement M

@@ -8,7 +8,7 @@ use lib.Dec.{eqb}
 use Rattle.sets.specs.Set.{on}
 use Rattle.nodes.specs.Nodes.{assertionOf, codeOf}
 use Rattle.automaton.specs.Parts.{worldOf}
-use Rattle.automaton.proofs.Trees.{code-below, code-above}
+use Rattle.nodes.proofs.Forms.{code-below, code-above}
 use Rattle.automaton.proofs.forms.holds.Statement.{statement}
 use Rattle.automaton.proofs.forms.holds.Tie as tie
 

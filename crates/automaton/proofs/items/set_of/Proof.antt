@@ -1,6 +1,6 @@
 -- `items::set_of` meets its contract: the words before the node, one by one.
 use native.Mathlib.Omega.{arith}
-use Rattle.automaton.proofs.Trees.{set-low, set-high}
+use Rattle.automaton.proofs.Words.{set-low, set-high}
 use Rattle.automaton.proofs.items.set_of.Statement.{statement}
 use Rattle.automaton.proofs.items.set_of.Tie as tie
 

@@ -6,7 +6,8 @@ use Prim.Native.Nat.{ℕ, _+_, _<_}
 use native.Mathlib.Omega.{arith}
 use borrow.Fn.Kinds.{In}
 use borrow.Fn.PlainCycle.{Measures, is, falls, and}
-use Rattle.automaton.specs.Invariants.{childForm}
+use Rattle.nodes.specs.Invariants.{childForm}
+use Rattle.nodes.proofs.Forms as forms
 use Rattle.automaton.proofs.Steps as steps
 use Rattle.automaton.proofs.Standing as standing
 use Rattle.automaton.proofs.repeats.more.Reads as more
@@ -50,7 +51,7 @@ module _ (t : ℕ) where
       let v = c-start .args in
       let p = c-start .pre .1 in
       let all =
-      steps.repeat-nested (childForm (v .a .now) (v .k) (v .x)) (v .n) (v .endless) (v .j)
+      forms.repeat-nested (childForm (v .a .now) (v .k) (v .x)) (v .n) (v .endless) (v .j)
       (c-if1 .taken) (steps.no-more (v .endless) (v .n) (p .0) (c-if1 .taken)) in
       (steps.room-as (v .c + v .f .size) all (p .1), p .2)
 
@@ -62,7 +63,7 @@ module _ (t : ℕ) where
       let v = c-start .args in
       let p = c-start .pre .1 in
       let all =
-      steps.repeat-nested (childForm (v .a .now) (v .k) (v .x)) (v .n) (v .endless) (v .j)
+      forms.repeat-nested (childForm (v .a .now) (v .k) (v .x)) (v .n) (v .endless) (v .j)
       (c-if1 .taken) (steps.no-more (v .endless) (v .n) (p .0) (c-if1 .taken)) in
       steps.built-as all (c-nested .ensures)
 
@@ -93,7 +94,7 @@ module _ (t : ℕ) where
       let copy = childForm (v .a .now) (v .k) (v .x) in
       let one = steps.one-fits copy (v .n) (v .endless) (v .j) (c-if1 .left) in
       let built = standing.built-again (p .2) (c-again .ensures) (omega (arith, one)) in
-      steps.built-as (steps.repeat-many copy (v .n) (v .endless) (v .j) (c-if2 .taken))
+      steps.built-as (forms.repeat-many copy (v .n) (v .endless) (v .j) (c-if2 .taken))
       (steps.built-plus built (c-many .ensures))
 
   more-sub-more : more-lts.Need-sub-more (more-uses t) (more-at t) more.Post
@@ -112,7 +113,7 @@ module _ (t : ℕ) where
       let v = c-start .args in
       let p = c-start .pre .1 in
       let sum =
-      steps.repeat-positions (childForm (v .a .now) (v .k) (v .x)) (v .n) (v .endless) (v .j)
+      forms.repeat-positions (childForm (v .a .now) (v .k) (v .x)) (v .n) (v .endless) (v .j)
       (c-if1 .left) (c-if2 .left) in
       let next = standing.stands-again (p .2) (c-again .ensures) (omega (arith, sum)) in (
         omega arith,
@@ -135,7 +136,7 @@ module _ (t : ℕ) where
       let v = c-start .args in
       let p = c-start .pre .1 in
       let sum =
-      steps.repeat-positions (childForm (v .a .now) (v .k) (v .x)) (v .n) (v .endless) (v .j)
+      forms.repeat-positions (childForm (v .a .now) (v .k) (v .x)) (v .n) (v .endless) (v .j)
       (c-if1 .left) (c-if2 .left) in
       steps.two-fit (standing.built-again (p .2) (c-again .ensures) (omega (arith, sum)))
       (c-more .ensures) (omega (arith, sum))
@@ -153,10 +154,10 @@ module _ (t : ℕ) where
       let p = c-start .pre .1 in
       let copy = childForm (v .a .now) (v .k) (v .x) in
       let sum =
-      steps.repeat-positions copy (v .n) (v .endless) (v .j) (c-if1 .left) (c-if2 .left) in
+      forms.repeat-positions copy (v .n) (v .endless) (v .j) (c-if1 .left) (c-if2 .left) in
       let built = standing.built-again (p .2) (c-again .ensures) (omega (arith, sum)) in
       steps.built-seq built (c-more .ensures)
-      (steps.repeat-step copy (v .n) (v .endless) (v .j) (c-if1 .left) (c-if2 .left))
+      (forms.repeat-step copy (v .n) (v .endless) (v .j) (c-if1 .left) (c-if2 .left))
       (c-then .ensures .0) (c-then .ensures .1)
 
 pub +more-spec : {M : Type 1} → statement M

@@ -6,7 +6,8 @@ use Prim.Native.Nat.{ℕ, _<_}
 use native.Mathlib.Omega.{arith}
 use borrow.Fn.Kinds.{In}
 use borrow.Fn.PlainCycle.{Measures, is, falls, and}
-use Rattle.automaton.specs.Invariants.{childForm}
+use Rattle.nodes.specs.Invariants.{childForm}
+use Rattle.nodes.proofs.Forms as forms
 use Rattle.automaton.proofs.Steps as steps
 use Rattle.automaton.proofs.Standing as standing
 use Rattle.automaton.proofs.repeats.nested.Reads as nested
@@ -52,7 +53,7 @@ module _ (t : ℕ) where
       let c-if1 = c .before .if1 in
       let c-bare = c .bare in
       let v = c-start .args in
-      steps.built-eps (steps.nested-none (childForm (v .a .now) (v .k) (v .x)) (v .j)
+      steps.built-eps (forms.nested-none (childForm (v .a .now) (v .k) (v .x)) (v .j)
       (c-if1 .taken)) (c-bare .ensures)
 
   nested-again-requires : nested-lts.Need-again-requires (nested-uses t) (nested-at t) nested.Post
@@ -61,7 +62,7 @@ module _ (t : ℕ) where
       let c-if1 = c .before .before .if1 in
       let v = c-start .args in
       let s = c-start .pre .1 .1 in
-      let sum = steps.nested-positions (childForm (v .a .now) (v .k) (v .x)) (v .j) (c-if1 .left) in
+      let sum = forms.nested-positions (childForm (v .a .now) (v .k) (v .x)) (v .j) (c-if1 .left) in
       (omega (arith, sum, standing.stands-size s), s .wide)
 
   nested-sub-nested : nested-lts.Need-sub-nested (nested-uses t) (nested-at t) nested.Post
@@ -78,7 +79,7 @@ module _ (t : ℕ) where
       let c-again = c .before .before .before .again in
       let v = c-start .args in
       let s = c-start .pre .1 .1 in
-      let sum = steps.nested-positions (childForm (v .a .now) (v .k) (v .x)) (v .j) (c-if1 .left) in
+      let sum = forms.nested-positions (childForm (v .a .now) (v .k) (v .x)) (v .j) (c-if1 .left) in
       let next = standing.stands-again s (c-again .ensures) (omega (arith, sum)) in
       (omega arith, (omega (arith, sum, standing.stands-size next), next))
 
@@ -91,7 +92,7 @@ module _ (t : ℕ) where
       let c-nested = c .before .nested in
       let v = c-start .args in
       let s = c-start .pre .1 .1 in
-      let sum = steps.nested-positions (childForm (v .a .now) (v .k) (v .x)) (v .j) (c-if1 .left) in
+      let sum = forms.nested-positions (childForm (v .a .now) (v .k) (v .x)) (v .j) (c-if1 .left) in
       steps.two-fit (standing.built-again s (c-again .ensures) (omega (arith, sum)))
       (c-nested .ensures) (omega (arith, sum))
 
@@ -111,9 +112,9 @@ module _ (t : ℕ) where
       let v = c-start .args in
       let s = c-start .pre .1 .1 in
       let copy = childForm (v .a .now) (v .k) (v .x) in
-      let sum = steps.nested-positions copy (v .j) (c-if1 .left) in
+      let sum = forms.nested-positions copy (v .j) (c-if1 .left) in
       let one = standing.built-again s (c-again .ensures) (omega (arith, sum)) in
-      steps.built-opt (steps.nested-step copy (v .j) (c-if1 .left))
+      steps.built-opt (forms.nested-step copy (v .j) (c-if1 .left))
       (steps.built-seq one (c-nested .ensures) refl (c-then .ensures .0) (c-then .ensures .1))
       (c-optional .ensures)
 

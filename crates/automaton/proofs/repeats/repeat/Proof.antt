@@ -5,7 +5,9 @@ use mathlib.Core.Path.{refl, _∙_}
 use Prim.Native.Nat.{_+_}
 use native.Mathlib.Omega.{arith}
 use Rattle.nodes.specs.Invariants.{childAt}
-use Rattle.automaton.specs.Invariants.{childForm, extra, Extends}
+use Rattle.nodes.specs.Invariants.{childForm, extra}
+use Rattle.automaton.specs.Invariants.{Extends}
+use Rattle.nodes.proofs.Forms as forms
 use Rattle.automaton.proofs.Steps as steps
 use Rattle.automaton.proofs.Standing.{stands-size}
 use Rattle.automaton.proofs.repeats.repeat.Statement.{statement}
@@ -27,7 +29,7 @@ returns c =
     let c-optional = c .optional in
     let v = c-start .args in
     let any =
-    steps.repeat-any (childForm (v .a .now) (v .k) (v .x)) (v .n) (v .endless) (v .j) (c-if2 .taken)
+    forms.repeat-any (childForm (v .a .now) (v .k) (v .x)) (v .n) (v .endless) (v .j) (c-if2 .taken)
     (steps.looped (v .endless) (v .n) (c-if1 .taken) .0) in
     λ o u h. steps.built-opt any (steps.built-plus h (c-many .ensures)) (c-optional .ensures)
 
@@ -40,7 +42,7 @@ returns-2 c =
     let c-many = c .before .many in
     let v = c-start .args in
     let one =
-    steps.repeat-many (childForm (v .a .now) (v .k) (v .x)) (v .n) (v .endless) (v .j)
+    forms.repeat-many (childForm (v .a .now) (v .k) (v .x)) (v .n) (v .endless) (v .j)
     (steps.looped-once (v .endless) (v .n) (c-if1 .taken) (c-if2 .left)) in
     λ o u h. steps.built-as one (steps.built-plus h (c-many .ensures))
 
@@ -57,7 +59,7 @@ returns-3 c =
     let c-optional2 = c .before .before .optional2 in
     let v = c-start .args in
     let all =
-    steps.repeat-nested (childForm (v .a .now) (v .k) (v .x)) (v .n) (v .endless) (v .j)
+    forms.repeat-nested (childForm (v .a .now) (v .k) (v .x)) (v .n) (v .endless) (v .j)
     (c-if3 .taken) (steps.unlooped-none (v .endless) (v .n) (c-if1 .left) (c-if3 .taken)) in
     λ o u h. steps.built-as all
     (steps.settled-nested (childAt (v .a .now) (v .k) (v .x)) h (c-if4 .taken) (v .j)
@@ -81,10 +83,10 @@ nested-requires c κs =
     let p = c-start .pre in
     let copy = childForm (v .a .now) (v .k) (v .x) in
     let all =
-    steps.repeat-nested copy (v .n) (v .endless) (v .j) (c-if3 .taken)
+    forms.repeat-nested copy (v .n) (v .endless) (v .j) (c-if3 .taken)
     (steps.unlooped-none (v .endless) (v .n) (c-if1 .left) (c-if3 .taken)) in
     let sum =
-    steps.nested-positions copy (v .j) (steps.some-copy (v .n) (v .j) (p .0) (c-if3 .taken)) in
+    forms.nested-positions copy (v .j) (steps.some-copy (v .n) (v .j) (p .0) (c-if3 .taken)) in
     (omega (arith, steps.room-as (v .b) all (p .1), sum, stands-size (p .2)), p .2)
 
 then-requires : tie.Need-then-requires
@@ -98,10 +100,10 @@ then-requires c κs =
     let p = c-start .pre in
     let copy = childForm (v .a .now) (v .k) (v .x) in
     let all =
-    steps.repeat-nested copy (v .n) (v .endless) (v .j) (c-if3 .taken)
+    forms.repeat-nested copy (v .n) (v .endless) (v .j) (c-if3 .taken)
     (steps.unlooped-none (v .endless) (v .n) (c-if1 .left) (c-if3 .taken)) in
     let sum =
-    steps.nested-positions copy (v .j) (steps.some-copy (v .n) (v .j) (p .0) (c-if3 .taken)) in
+    forms.nested-positions copy (v .j) (steps.some-copy (v .n) (v .j) (p .0) (c-if3 .taken)) in
     omega (
       arith,
       steps.room-as (v .b) all (p .1),
@@ -127,10 +129,10 @@ returns-4 c =
     let v = c-start .args in
     let copy = childForm (v .a .now) (v .k) (v .x) in
     let all =
-    steps.repeat-nested copy (v .n) (v .endless) (v .j) (c-if3 .taken)
+    forms.repeat-nested copy (v .n) (v .endless) (v .j) (c-if3 .taken)
     (steps.unlooped-none (v .endless) (v .n) (c-if1 .left) (c-if3 .taken)) in
     let first =
-    steps.nested-step copy (v .j)
+    forms.nested-step copy (v .j)
     (steps.some-copy (v .n) (v .j) (c-start .pre .0) (c-if3 .taken)) in
     λ o u h. steps.built-opt (all ∙ first)
     (steps.built-seq h (c-nested .ensures) refl (c-then .ensures .0) (c-then .ensures .1))
@@ -159,7 +161,7 @@ more-requires c κs =
     let p = c-start .pre in
     let test = steps.unlooped (v .endless) (v .n) (c-if1 .left) in
     let sum =
-    steps.repeat-positions (childForm (v .a .now) (v .k) (v .x)) (v .n) (v .endless) (v .j)
+    forms.repeat-positions (childForm (v .a .now) (v .k) (v .x)) (v .n) (v .endless) (v .j)
     (c-if3 .left) test in (
       steps.more-behind (v .endless) (v .n) test (c-if3 .left),
       omega
@@ -177,7 +179,7 @@ then-requires-2 c κs =
     let v = c-start .args in
     let p = c-start .pre in
     let sum =
-    steps.repeat-positions (childForm (v .a .now) (v .k) (v .x)) (v .n) (v .endless) (v .j)
+    forms.repeat-positions (childForm (v .a .now) (v .k) (v .x)) (v .n) (v .endless) (v .j)
     (c-if3 .left) (steps.unlooped (v .endless) (v .n) (c-if1 .left)) in
     omega (arith, sum, stands-size (p .2), steps.size-of (c-more .ensures))
 
@@ -192,7 +194,7 @@ returns-6 c =
     let c-then2 = c .then2 in
     let v = c-start .args in
     let first =
-    steps.repeat-step (childForm (v .a .now) (v .k) (v .x)) (v .n) (v .endless) (v .j) (c-if3 .left)
+    forms.repeat-step (childForm (v .a .now) (v .k) (v .x)) (v .n) (v .endless) (v .j) (c-if3 .left)
     (steps.unlooped (v .endless) (v .n) (c-if1 .left)) in
     λ o u h. steps.built-seq h (c-more .ensures) first (c-then2 .ensures .0) (c-then2 .ensures .1)
 

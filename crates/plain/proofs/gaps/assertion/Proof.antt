@@ -4,7 +4,7 @@ use Prim.Native.Nat.{ℕ}
 use native.Mathlib.Omega.{arith}
 use Rattle.nodes.specs.Nodes.{assertionOf}
 use Rattle.plain.specs.Parts.{maskOf}
-use Rattle.plain.proofs.Worlds.{last-mask}
+use Rattle.nodes.proofs.Forms.{last-assertion}
 use Rattle.plain.proofs.gaps.assertion.Statement.{statement}
 use Rattle.plain.proofs.gaps.assertion.Tie as tie
 use Rattle.plain.proofs.gaps.assertion.Reads as reads
@@ -51,7 +51,7 @@ returns-7 : tie.Need-returns-7
 returns-7 c =
     let c-start = c .before in
     let c-match = c .match in
-    last-mask (c-start .args .x) (omega (arith, c-match .rest))
+    sym (ap maskOf (last-assertion (c-start .args .x) (omega (arith, c-match .rest))))
 
 pub assertion-spec : {M : Type 1} → statement M
 assertion-spec =

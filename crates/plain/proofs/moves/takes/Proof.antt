@@ -1,13 +1,29 @@
 -- `takes` meets its contract: it reads one digit of the set.
+use mathlib.Core.Path.{_≡_, sym, ap, _∙_}
 use mathlib.Core.Logic.{⊎-elim}
+use mathlib.Core.List.{List}
+use Prim.Native.Nat.{ℕ, _+_, _-_, _/_, _%_, _^_, _<_}
 use native.Mathlib.Omega.{arith}
-use Rattle.plain.proofs.Trees.{takes-is}
 use borrow.Author.Needs.{needs}
+use lib.Bits.{bitAnd, and-mask}
+use lib.Dec.{eqb}
+use lib.ListN.{getD, drop}
+use lib.Seq.{getD-take, getD-drop}
+use Rattle.sets.specs.Set.{on, has}
+use Rattle.nodes.specs.Invariants.{setAt}
 use Rattle.plain.proofs.moves.takes.Statement.{statement}
 use Rattle.plain.proofs.moves.takes.Tie as tie
 use Rattle.plain.proofs.moves.takes.Reads as reads
 use Rattle.plain.proofs.moves.takes.Lts as lts
 use Rattle.nodes.proofs.layout.word.Reads as word-reads
+
+-- a byte in the set that stands before node k
+takes-is : (a : List ℕ) (k from x w : ℕ) → x < 256 → from ≡ k - 4 → w ≡ getD a (from + x / 64) 0 → eqb (bitAnd (w / 2 ^ (x % 64)) 1) 1 ≡ has (setAt a k) x
+unfolding has on
+takes-is a k from x w lt e f =
+    let inside : x / 64 < 4 = omega arith in
+    let read : getD (setAt a k) (x / 64) 0 ≡ w = getD-take 4 (drop (k - 4) a) (x / 64) 0 inside ∙ rw getD-drop (rw (← e) (sym f)) in
+    ap (λ (v : ℕ). eqb v 1) (and-mask (w / 2 ^ (x % 64)) 1) ∙ ap (λ (v : ℕ). eqb (v / 2 ^ (x % 64) % 2) 1) (sym read)
 
 -- src/moves.rt:40:13
 add-word : tie.Need-add-word

@@ -3,7 +3,8 @@ use mathlib.Core.Path.{_≡_, refl, sym, ap, _∙_}
 use Prim.Native.Nat.{suc, _+_, _-_, _≤_}
 use native.Mathlib.Omega.{arith}
 use Rattle.plain.specs.Run.{marksAt, ownAt, upTo, lent}
-use Rattle.plain.specs.Invariants.{formAt, choiceOf, Alike, Delivered}
+use Rattle.nodes.specs.Invariants.{formAt}
+use Rattle.plain.specs.Invariants.{choiceOf, Alike, Delivered}
 use Rattle.plain.proofs.Reports.{delivered-none, delivered-few, delivered-as, alike-back}
 use Rattle.plain.proofs.Runs.{runs-on, up-alike}
 use Rattle.plain.proofs.run.run.Statement.{statement}

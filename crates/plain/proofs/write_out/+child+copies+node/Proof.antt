@@ -8,8 +8,8 @@ use native.Mathlib.Omega.{arith}
 use Rattle.regex.specs.Form.{write, positions, repeated}
 use Rattle.nodes.specs.Nodes.{yOf}
 use Rattle.nodes.specs.Invariants.{childAt}
-use Rattle.plain.specs.Invariants.{childForm, extra}
-use Rattle.plain.proofs.Trees.{child-is, child-none, form-take, form-check, form-seq, form-alt, form-repeated, form-eps, item-positions, pair-positions}
+use Rattle.nodes.specs.Invariants.{childForm, extra}
+use Rattle.nodes.proofs.Forms.{child-is, child-none, form-take, form-check, form-seq, form-alt, form-repeated, form-eps, item-positions, pair-positions}
 use Rattle.plain.proofs.Made.{rows-some, rows-most, made-as, made-eps, made-check, made-take, room-part, room-second, room-joined, both-seq, both-alt, copies-none, copies-bare, copies-round, copies-low, copies-opt, copies-then, fewer, sum-0, sum-n}
 use borrow.Fn.Kinds.{In}
 use borrow.Fn.PlainCycle.{Measures, is, falls, and}

@@ -1,24 +1,20 @@
--- A node's tree by its word: what kind of node the word names, and its children's trees; the numbers of the assertions; and the written-out form of a repeat by its
--- first copy. (The builder's crate has the same laws: they are to move to `nodes` and `regex`, for both.)
+-- A node by its word: what kind of node the word names, its tree and its written-out form by its children; the numbers of the assertions; and the form of a
+-- repeat by its first copy. For the crates that walk the nodes. Assumes nothing.
 use mathlib.Core.Path.{_≡_, refl, sym, ap, _∙_}
 use mathlib.Core.Bool.{Bool, true, false, true≢false, _&&_, _||_}
-use mathlib.Core.List.{List, [], _∷_}
-use Prim.Native.Nat.{ℕ, zero, suc, _+_, _-_, _/_, _%_, _^_, _≤_, _<_}
+use mathlib.Core.List.{List}
+use Prim.Native.Nat.{ℕ, zero, suc, _+_, _-_, _≤_, _<_}
 use native.Mathlib.Omega.{arith}
 use native.Mathlib.Decide.{ℕ-discrete}
 use borrow.Author.Tests.{eqb-true, eqb-false, ne-eqb}
 use lib.Dec.{eqb}
-use lib.Bits.{bitAnd, and-mask}
-use lib.ListN.{getD, drop}
-use lib.Seq.{getD-take, getD-drop}
-use Rattle.sets.specs.Set.{on, has}
+use lib.ListN.{getD}
 use Rattle.regex.specs.Tree.{empty, item, assertion, then, or, repeat, atMost, unbounded}
 use Rattle.regex.specs.Form.{eps, take, check, seq, alt, plus, opt, write, positions, copies, optionals, repeated}
-use Rattle.regex.specs.Rule.{ByteSet}
+use Rattle.regex.specs.Rule.{no-word-edge}
 use Rattle.nodes.specs.Nodes.{opOf, xOf, yOf, zOf, extraOf, assertionOf, codeOf, nodeOf, treeAt}
-use Rattle.nodes.specs.Invariants.{childAt}
+use Rattle.nodes.specs.Invariants.{childAt, Written, formAt, childForm, setAt, extra}
 use Rattle.nodes.proofs.Trees.{tree-node, child-in, child-out}
-use Rattle.plain.specs.Invariants.{Written, formAt, childForm, setAt, extra}
 
 -- An assertion's number is the one that names it; those above the last stand for the last.
 pub code-below : (x : ℕ) → x < 6 → x ≡ codeOf (assertionOf x)
@@ -30,13 +26,16 @@ code-below (suc (suc (suc (suc zero)))) h = refl
 code-below (suc (suc (suc (suc (suc zero))))) h = refl
 code-below (suc (suc (suc (suc (suc (suc x)))))) h = absurd (omega arith)
 
-pub code-above : (x : ℕ) → 6 ≤ x → 6 ≡ codeOf (assertionOf x)
-code-above x h =
+pub last-assertion : (x : ℕ) → 6 ≤ x → assertionOf x ≡ no-word-edge
+last-assertion x h =
     let off : (k : ℕ) → k < 6 → eqb x k ≡ false = λ k l. ne-eqb x k (λ e. omega arith) in
     rw (off 0 (omega arith), off 1 (omega arith), off 2 (omega arith), off 3 (omega arith), off 4 (omega arith), off 5 (omega arith))
 
+pub code-above : (x : ℕ) → 6 ≤ x → 6 ≡ codeOf (assertionOf x)
+code-above x h = sym (ap codeOf (last-assertion x h))
+
 -- a node that is one of two, and not the first
-pub is-second : (op : ℕ) → (eqb op 3 || eqb op 4) ≡ true → (op ≡ 3 → ⊥) → op ≡ 4
+is-second : (op : ℕ) → (eqb op 3 || eqb op 4) ≡ true → (op ≡ 3 → ⊥) → op ≡ 4
 is-second op e n = eqb-true op 4 (ap (λ (b : Bool). b || eqb op 4) (sym (ne-eqb op 3 n)) ∙ e)
 
 neither : (op : ℕ) → (eqb op 3 || eqb op 4) ≡ false → (eqb op 3 ≡ false) × (eqb op 4 ≡ false)
@@ -48,27 +47,27 @@ neither op e = go (eqb op 3) (eqb op 4) e
 
 -- what the node's word w says
 module _ (a : List ℕ) (k w : ℕ) (e : w ≡ getD a k 0) where
-  pub is-item : opOf w ≡ 1 → treeAt a k ≡ item (setAt a k)
+  is-item : opOf w ≡ 1 → treeAt a k ≡ item (setAt a k)
   unfolding nodeOf
   is-item h = rw (tree-node a k, ← e, h)
 
-  pub is-assertion : opOf w ≡ 2 → treeAt a k ≡ assertion (assertionOf (xOf w))
+  is-assertion : opOf w ≡ 2 → treeAt a k ≡ assertion (assertionOf (xOf w))
   unfolding nodeOf
   is-assertion h = rw (tree-node a k, ← e, h)
 
-  pub is-then : opOf w ≡ 3 → treeAt a k ≡ then (childAt a k (xOf w)) (childAt a k (yOf w))
+  is-then : opOf w ≡ 3 → treeAt a k ≡ then (childAt a k (xOf w)) (childAt a k (yOf w))
   unfolding nodeOf
   is-then h = rw (tree-node a k, ← e, h)
 
-  pub is-or : opOf w ≡ 4 → treeAt a k ≡ or (childAt a k (xOf w)) (childAt a k (yOf w))
+  is-or : opOf w ≡ 4 → treeAt a k ≡ or (childAt a k (xOf w)) (childAt a k (yOf w))
   unfolding nodeOf
   is-or h = rw (tree-node a k, ← e, h)
 
-  pub is-repeat : opOf w ≡ 5 → treeAt a k ≡ repeat (childAt a k (xOf w)) (yOf w) (extraOf (zOf w))
+  is-repeat : opOf w ≡ 5 → treeAt a k ≡ repeat (childAt a k (xOf w)) (yOf w) (extraOf (zOf w))
   unfolding nodeOf
   is-repeat h = rw (tree-node a k, ← e, h)
 
-  pub is-empty : (opOf w ≡ 1 → ⊥) → (opOf w ≡ 2 → ⊥) → (eqb (opOf w) 3 || eqb (opOf w) 4) ≡ false → (opOf w ≡ 5 → ⊥) → treeAt a k ≡ empty
+  is-empty : (opOf w ≡ 1 → ⊥) → (opOf w ≡ 2 → ⊥) → (eqb (opOf w) 3 || eqb (opOf w) 4) ≡ false → (opOf w ≡ 5 → ⊥) → treeAt a k ≡ empty
   unfolding nodeOf
   is-empty h1 h2 h34 h5 =
       let n = neither (opOf w) h34 in
@@ -144,10 +143,6 @@ module _ (a : List ℕ) (k w : ℕ) (e : w ≡ getD a k 0) where
   unfolding write
   form-seq h = ap write (is-then a k w e h)
 
-  pub form-or : opOf w ≡ 4 → formAt a k ≡ alt (childForm a k (xOf w)) (childForm a k (yOf w))
-  unfolding write
-  form-or h = ap write (is-or a k w e h)
-
   pub form-alt : (eqb (opOf w) 3 || eqb (opOf w) 4) ≡ true → (opOf w ≡ 3 → ⊥) → formAt a k ≡ alt (childForm a k (xOf w)) (childForm a k (yOf w))
   unfolding write
   form-alt h n = ap write (is-or a k w e (is-second (opOf w) h n))
@@ -171,11 +166,3 @@ module _ (a : List ℕ) (k w : ℕ) (e : w ≡ getD a k 0) where
       go : Dec (opOf w ≡ 3) → positions (formAt a k) ≡ positions (childForm a k (xOf w)) + positions (childForm a k (yOf w))
       go (yes i) = ap positions (form-seq i)
       go (no n) = ap positions (form-alt h n)
-
--- a byte in the set that stands before node k
-pub takes-is : (a : List ℕ) (k from x w : ℕ) → x < 256 → from ≡ k - 4 → w ≡ getD a (from + x / 64) 0 → eqb (bitAnd (w / 2 ^ (x % 64)) 1) 1 ≡ has (setAt a k) x
-unfolding has on
-takes-is a k from x w lt e f =
-    let inside : x / 64 < 4 = omega arith in
-    let read : getD (setAt a k) (x / 64) 0 ≡ w = getD-take 4 (drop (k - 4) a) (x / 64) 0 inside ∙ rw getD-drop (rw (← e) (sym f)) in
-    ap (λ (v : ℕ). eqb v 1) (and-mask (w / 2 ^ (x % 64)) 1) ∙ ap (λ (v : ℕ). eqb (v / 2 ^ (x % 64) % 2) 1) (sym read)
