@@ -26,11 +26,12 @@ use Rattle.regex.proofs.Range.{Inside}
 use Rattle.regex.proofs.Written.{written, unwritten}
 use Rattle.regex.proofs.Base.{more-bytes, next-known}
 use Rattle.regex.proofs.Moments.{before-closing}
-use Rattle.plain.specs.Marks.{none, ends, moved}
-use Rattle.plain.specs.Run.{before, after, taken, marksAt, ownAt, lateAt, lineAt, endAt, shown, inside}
-use Rattle.plain.proofs.Least.{Least, least-iff, least-as, least-none}
-use Rattle.plain.proofs.Moving.{moved-long}
-use Rattle.plain.proofs.Meaning.{Held, Ends, ends-least, moved-held}
+use Rattle.marks.specs.Marks.{none, ends, moved}
+use Rattle.marks.specs.Gaps.{taken}
+use Rattle.plain.specs.Run.{before, after, marksAt, ownAt, lateAt, lineAt, endAt, shown, inside}
+use Rattle.marks.proofs.Least.{Least, least-iff, least-as, least-none}
+use Rattle.marks.proofs.Moving.{moved-long}
+use Rattle.marks.proofs.Meaning.{Held, Ends, ends-least, moved-held}
 
 -- a way comes to the rule at its own start
 abbrev Starts : ℕ → ℕ → Type 0
@@ -49,14 +50,14 @@ module _ (bytes : List ℕ) (r : Rule) (room : positions (write (r .tree)) ≤ 2
   marks-long : (k : ℕ) → length (marksAt bytes f k) ≡ 256
   unfolding marksAt
   marks-long zero = length-replicate 256 none
-  marks-long (suc k) = moved-long (inner k false) (taken bytes f k) f 0 k (marksAt bytes f k) ∙ marks-long k
+  marks-long (suc k) = moved-long (inner k false) (taken bytes k) f 0 k (marksAt bytes f k) ∙ marks-long k
 
   at-once : (k : ℕ) → Least (λ s. Starts s k) k
   at-once k = record { found = λ h. refl; least = λ s e. omega arith }
 
   -- a text that knows the gaps and bytes before k as the log does
   abbrev Agrees : Text ByteSet Assertion → ℕ → Type 0
-  Agrees t k = (j : ℕ) → j < k → (_≡_ {A = Assertion → Bool} (λ a. t .known a j) (inner j false)) × (_≡_ {A = ByteSet → Bool} (λ c. t .hit c j) (taken bytes f j))
+  Agrees t k = (j : ℕ) → j < k → (_≡_ {A = Assertion → Bool} (λ a. t .known a j) (inner j false)) × (_≡_ {A = ByteSet → Bool} (λ c. t .hit c j) (taken bytes j))
 
   held : (t : Text ByteSet Assertion) (k : ℕ) → Agrees t k → Held t Starts f 0 k (marksAt bytes f k)
   unfolding marksAt
@@ -124,7 +125,7 @@ module _ (bytes : List ℕ) (r : Rule) (room : positions (write (r .tree)) ≤ 2
       ap (λ (z : Bool). world (known-before (take j (take m bytes))) (known-after (drop j (take m bytes)) z) (z && last-line (drop j (take m bytes))) a) end
       ∙ ap₂ (λ (l : List ℕ) (k : Known). world (known-before l) k false a) prefix next)
 
-  hit-open : (m j : ℕ) → m ≤ n → j < m → _≡_ {A = ByteSet → Bool} (λ c. seen bytes m .hit c j) (taken bytes f j)
+  hit-open : (m j : ℕ) → m ≤ n → j < m → _≡_ {A = ByteSet → Bool} (λ c. seen bytes m .hit c j) (taken bytes j)
   hit-open m j le lt =
       fun-ext (λ c.
       ap (λ (z : Bool). z && has c (getD (take m bytes) j 0)) (lt-ltb j (length (take m bytes)) (omega (arith, length-take-le m bytes le)))
@@ -190,7 +191,7 @@ module _ (bytes : List ℕ) (r : Rule) (room : positions (write (r .tree)) ≤ 2
   known-closing j z lt e =
       fun-ext (λ a. ap₂ (λ (k : Known) (y : Bool). world (known-before (take j bytes)) k y a) (next-known bytes j true lt) e)
 
-  hit-closing : (j : ℕ) → j < n → _≡_ {A = ByteSet → Bool} (λ c. stream bytes true .hit c j) (taken bytes f j)
+  hit-closing : (j : ℕ) → j < n → _≡_ {A = ByteSet → Bool} (λ c. stream bytes true .hit c j) (taken bytes j)
   hit-closing j lt = fun-ext (λ c. ap (λ (z : Bool). z && has c (getD bytes j 0)) (lt-ltb j n lt))
 
   agrees-closing : (k : ℕ) → suc k ≤ n → Agrees (stream bytes true) k
@@ -226,9 +227,9 @@ module _ (bytes : List ℕ) (r : Rule) (room : positions (write (r .tree)) ≤ 2
     line-is = started (suc n) k (lineAt bytes f k) (omega arith) line-start
 
     abbrev final : List ℕ
-    final = moved (inner k z) (taken bytes f k) f 0 k (marksAt bytes f k)
+    final = moved (inner k z) (taken bytes k) f 0 k (marksAt bytes f k)
 
-    final-held : Held (stream bytes true) Starts f 0 (suc k) (moved (inner k z) (taken bytes f k) f 0 k (marksAt bytes f k))
+    final-held : Held (stream bytes true) Starts f 0 (suc k) (moved (inner k z) (taken bytes k) f 0 k (marksAt bytes f k))
     final-held =
         subst₂ (λ (w : Assertion → Bool) (h : ByteSet → Bool). Held (stream bytes true) Starts f 0 (suc k) (moved w h f 0 k (marksAt bytes f k)))
         (known-closing k z (omega arith) one-left) (hit-closing k (omega arith))
@@ -244,8 +245,8 @@ module _ (bytes : List ℕ) (r : Rule) (room : positions (write (r .tree)) ≤ 2
     end-start =
         start-least (suc n) (suc k) (ends (world (before bytes f (suc k)) edge true) f 0 final)
         (by-whole (suc k) (ends (world (before bytes f (suc k)) edge true) f 0 final)
-        (subst (λ (w : Assertion → Bool). Least (Ends (stream bytes true) (suc k) Starts f) (ends w f 0 (moved (inner k z) (taken bytes f k) f 0 k (marksAt bytes f k)))) known-end
-        (ends-least (stream bytes true) (suc k) f 0 Starts (moved (inner k z) (taken bytes f k) f 0 k (marksAt bytes f k)) final-held)))
+        (subst (λ (w : Assertion → Bool). Least (Ends (stream bytes true) (suc k) Starts f) (ends w f 0 (moved (inner k z) (taken bytes k) f 0 k (marksAt bytes f k)))) known-end
+        (ends-least (stream bytes true) (suc k) f 0 Starts (moved (inner k z) (taken bytes k) f 0 k (marksAt bytes f k)) final-held)))
 
     pub end-iff : T (inside (r .windows) (suc k) (endAt bytes f k)) ↔ Settled bytes r (closing-moment bytes) (suc k)
     end-iff = settled-iff (suc n) (suc k) (endAt bytes f k) (omega arith) end-start

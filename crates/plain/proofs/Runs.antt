@@ -12,16 +12,18 @@ use Rattle.regex.specs.Form.{Form, eps, take, check, seq, alt, plus, opt, posit
 use Rattle.regex.specs.Gap.{byte, edge, unknown, known-before}
 use Rattle.regex.specs.Rule.{Assertion, world, ByteSet}
 use Rattle.regex.specs.Automaton.{null}
-use Rattle.plain.specs.Marks.{none, when, ends, moved}
-use Rattle.plain.specs.Run.{innerWorld, outerWorld, before, after, taken, marksAt, ownAt, lateAt, lineAt, endAt, Hit, shown, inside, Choice, pick, upTo, closed, Lent}
+use Rattle.marks.specs.Marks.{none, when, ends, moved}
+use Rattle.marks.specs.Gaps.{innerWorld, outerWorld, taken}
+use Rattle.plain.specs.Run.{before, after, marksAt, ownAt, lateAt, lineAt, endAt, Hit, shown, inside, Choice, pick, upTo, closed, Lent}
 use Rattle.plain.specs.Answer.{windowsOf}
 use Rattle.nodes.specs.Invariants.{Written, formAt}
-use Rattle.plain.specs.Invariants.{Took, choiceOf, due, Slots, Alike, Delivered, Both, Runs, Asks, Plays, Stands, Stepped, Closes, Closed, Ran}
-use Rattle.plain.specs.declared.run.Ends.{Ends}
+use Rattle.marks.specs.Invariants.{Took, Plays}
+use Rattle.plain.specs.Invariants.{choiceOf, due, Slots, Alike, Delivered, Both, Runs, Asks, Stands, Stepped, Closes, Closed, Ran}
+use Rattle.marks.specs.declared.byte.Ends.{Ends}
 use Rattle.plain.specs.declared.run.Taken.{Taken}
 use Rattle.plain.specs.declared.run.Wanted.{Wanted}
 use Rattle.plain.proofs.Reports.{delivered-few, delivered-alike, alike-back, alike-slots, fewer-slots, delivered-as}
-use Rattle.plain.proofs.Skips.{when-none}
+use Rattle.marks.proofs.Skips.{when-none}
 use Rattle.plain.proofs.Windows.{and-false, outside}
 
 -- ---- no marks, no ends
@@ -143,7 +145,7 @@ module _ {bytes : List ℕ} {f : Written} {k : ℕ} {ms ns : List ℕ} {r : Ends
 
     pub took-marks : ns ≡ marksAt bytes f (suc k)
     unfolding marksAt
-    took-marks = x .marks ∙ ap (moved (innerWorld bytes false k) (taken bytes f k) f 0 k) em
+    took-marks = x .marks ∙ ap (moved (innerWorld bytes false k) (taken bytes k) f 0 k) em
 
     pub took-own : r .own ≡ ownAt bytes f (suc k)
     unfolding ownAt
@@ -156,7 +158,7 @@ module _ {bytes : List ℕ} {f : Written} {k : ℕ} {ms ns : List ℕ} {r : Ends
 
     pub took-end : r .own ≡ endAt bytes f k
     unfolding endAt
-    took-end = x .own ∙ ap (ends (outerWorld bytes true k) f 0) (x .marks ∙ ap (moved (innerWorld bytes true k) (taken bytes f k) f 0 k) em)
+    took-end = x .own ∙ ap (ends (outerWorld bytes true k) f 0) (x .marks ∙ ap (moved (innerWorld bytes true k) (taken bytes k) f 0 k) em)
 
 -- ---- one byte more, and the closing
 

@@ -6,29 +6,11 @@ use mathlib.Core.List.{List, [], _∷_, _++_, map}
 use Prim.Native.Nat.{ℕ, zero, suc, _+_, _*_, _-_}
 use lib.Dec.{eqb, ltb, leb}
 use lib.ListN.{length, getD, take, drop, replicate}
-use Rattle.sets.specs.Set.{has}
-use Rattle.kinds.specs.Side.{sideOf}
 use Rattle.regex.specs.Form.{Form}
-use Rattle.regex.specs.Gap.{Known, byte, edge, unknown, known-before}
+use Rattle.regex.specs.Gap.{Known, edge, unknown}
 use Rattle.regex.specs.Rule.{Assertion, world, ByteSet, Windows}
-use Rattle.plain.specs.Marks.{none, ends, moved}
-
--- ---- the gaps before and behind the byte at offset k; `last` says that the log is known to end
--- with it
-
-abbrev pub beforeGap : List ℕ → ℕ → Known
-beforeGap bytes k = known-before (take k bytes)
-
-abbrev pub afterGap : List ℕ → ℕ → Known
-afterGap bytes k = byte (sideOf (getD bytes k 0))
-
-abbrev pub innerWorld : List ℕ → (last : Bool) → ℕ → Assertion → Bool
-innerWorld bytes last k =
-    world (beforeGap bytes k) (afterGap bytes k) (last && eqb (getD bytes k 0) 10)
-
-abbrev pub outerWorld : List ℕ → (last : Bool) → ℕ → Assertion → Bool
-outerWorld bytes last k =
-    world (beforeGap bytes (suc k)) (cond last edge unknown) last
+use Rattle.marks.specs.Marks.{none, ends, moved}
+use Rattle.marks.specs.Gaps.{beforeGap, afterGap, taken}
 
 -- ---- marks and ends
 
@@ -39,14 +21,10 @@ module _ (bytes : List ℕ) (f : Form ByteSet Assertion) where
   abbrev pub after : ℕ → Known
   after = afterGap bytes
 
-  -- the sets that have the byte at offset k
-  abbrev pub taken : ℕ → ByteSet → Bool
-  taken k c = has c (getD bytes k 0)
-
   -- the marks when k bytes are taken
   unfoldable pub marksAt : ℕ → List ℕ
   marksAt zero = replicate 256 none
-  marksAt (suc k) = moved (world (before k) (after k) false) (taken k) f 0 k (marksAt k)
+  marksAt (suc k) = moved (world (before k) (after k) false) (taken bytes k) f 0 k (marksAt k)
 
   -- the least start of a match that ends at offset k, settled with its last byte; and with the next byte
   unfoldable pub ownAt : ℕ → ℕ
@@ -61,7 +39,7 @@ module _ (bytes : List ℕ) (f : Form ByteSet Assertion) where
   lineAt k = ends (world (before k) (after k) (eqb (getD bytes k 0) 10)) f 0 (marksAt k)
 
   unfoldable pub endAt : ℕ → ℕ
-  endAt k = ends (world (before (suc k)) edge true) f 0 (moved (world (before k) (after k) (eqb (getD bytes k 0) 10)) (taken k) f 0 k (marksAt k))
+  endAt k = ends (world (before (suc k)) edge true) f 0 (moved (world (before k) (after k) (eqb (getD bytes k 0) 10)) (taken bytes k) f 0 k (marksAt k))
 
 -- ---- reports
 

@@ -1,12 +1,7 @@
 // The plain second matcher: pattern bytes, flags, bounds and a whole log in; a refusal, or the end
 // offsets and starts of the rule's reports in their order. It uses no table and no automaton: marks
 // are moved through the pattern's tree, byte by byte.
-mod gaps;
-mod marks;
-mod moves;
-mod parts;
 mod run;
-mod write_out;
 
 use run::Wanted;
 ghost use mathlib.Core.Path.{_≡_};

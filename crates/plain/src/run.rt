@@ -1,12 +1,9 @@
 // A log, byte by byte.
 use crate::Bounds;
-use crate::gaps;
-use crate::marks::NONE;
-use crate::moves;
-use crate::moves::ROWS;
-use crate::parts::WORDS;
-use crate::write_out;
-use nodes::layout::word;
+use marks::byte::take_byte;
+use marks::parts::WORDS;
+use marks::starts::NONE;
+use marks::write_out;
 ghost use mathlib.Core.Path.{_≡_};
 ghost use Prim.Native.Nat.{suc, _+_, _≤_, _<_};
 ghost use lib.ListN.{length};
@@ -14,59 +11,7 @@ ghost use Rattle.sets.specs.Set.{asOne};
 ghost use Rattle.plain.specs.Run.{marksAt, closed, inside, shown, lent};
 ghost use Rattle.plain.specs.Answer.{windowsOf};
 ghost use Rattle.nodes.specs.Invariants.{formAt};
-ghost use Rattle.plain.specs.Invariants.{Plays, topOf, Asks, Took, due, choiceOf, Slots, Reported, Both, Delivered, Runs, Stands, Stepped, Closes, Closed, Ran};
-
-// What a byte brings: the least start of the matches that end before it, now that it is known, and of those that end with it, while nothing is known of the next.
-struct Ends {
-    late: u64,
-    own: u64,
-}
-
-// What can end in the last of the rows, which is the whole.
-fn top(ends: &[u64], rows: usize) -> u64
-    ensures { λ r. ⌜ r ≡ topOf rows (now (ends .entry)) ⌝ }
-{
-    if rows == 0 {
-        return NONE;
-    }
-    word(ends, rows - 1)
-}
-
-// Takes the byte at offset k; `last` says that the log is known to end with it.
-fn take_byte(
-    a: &[u64],
-    root: usize,
-    parts: &[u64],
-    rows: usize,
-    marks: &mut [u64; 256],
-    log: &[u8],
-    k: usize,
-    last: bool,
-) -> Ends
-    requires { ⌜ Plays (now a) root (now parts) rows × (k < length (now log)) × (length (now log) ≤ 1024) ⌝ }
-    ensures { λ r. ⌜ Took (formAt (now (a .entry)) root) (now (log .entry)) k last (now (marks .entry)) (now (marks .exit)) r ⌝ }
-{
-    let mut cores = [NONE; ROWS];
-    let mut ends = [NONE; ROWS];
-    let inner = gaps::inner(log, k, last);
-    moves::look(parts, rows, inner, marks, &mut cores, &mut ends);
-    let late = top(&ends, rows);
-    moves::step(
-        a,
-        parts,
-        rows,
-        inner,
-        log[k],
-        marks,
-        &cores,
-        &ends,
-        k as u64,
-    );
-    let outer = gaps::outer(log, k, last);
-    moves::look(parts, rows, outer, marks, &mut cores, &mut ends);
-    let own = top(&ends, rows);
-    Ends { late, own }
-}
+ghost use Rattle.plain.specs.Invariants.{Asks, due, choiceOf, Slots, Reported, Both, Delivered, Runs, Stands, Stepped, Closes, Closed, Ran};
 
 // What is reported of a rule's matches: the first alone, or all; with their starts, or with zeros;
 // and only those inside the bounds.
@@ -322,7 +267,6 @@ pub(super) fn whole(
     ensures { λ r. ⌜ Delivered wanted (lent (now (offsets .entry)) (now (starts .entry))) (lent (now (offsets .exit)) (now (starts .exit))) r (closed (choiceOf wanted) (now (log .entry)) (formAt (now (a .entry)) root) (length (now (log .entry)))) ⌝ }
 {
     let mut parts = [0u64; WORDS];
-    let piece = write_out::node(a, root, 0, 0, &mut parts);
-    let rows = write_out::rows(piece.size);
+    let rows = write_out::write_rule(a, root, &mut parts);
     all(a, root, &parts, rows, log, wanted, offsets, starts)
 }

@@ -8,7 +8,7 @@ use Rattle.plain.proofs.run.step.Reads as reads
 use Rattle.plain.proofs.run.step.Lts as lts
 use Rattle.plain.proofs.run.both.Reads as both-reads
 use Rattle.plain.proofs.run.inside.Reads as inside-reads
-use Rattle.plain.proofs.run.take_byte.Reads as take-byte-reads
+use Rattle.marks.proofs.byte.take_byte.Reads as take-byte-reads
 
 -- src/run.rt:156:9
 take-byte-requires : tie.Need-take-byte-requires
