@@ -1,7 +1,7 @@
--- The plain matcher beside the table. It "works straight on the pattern, and gives the same list for
--- that rule as table, scan and closing do"; "Otherwise it refuses with the same numbers and places,
--- but never 1, 3, 4 or 17." What it answers is `Matches` of crates/plain/specs/Answer.antt; the
--- theorem is `plain` of proofs/Plain.antt. Assumes nothing: these are definitions.
+-- The plain matcher beside the table. It "works straight on the pattern, and gives the same list
+-- for that rule as table, scan and closing do"; "Otherwise it refuses with the same numbers and
+-- places, but never 1, 3, 4 or 17." What it answers is `Matches` of crates/plain/specs/Answer.antt;
+-- the theorem is `plain` of proofs/Plain.antt. Assumes nothing: these are definitions.
 use mathlib.Core.Path.{_≡_}
 use mathlib.Core.List.{List, [], _∷_, map, zip, List·Memᴰ}
 use Prim.Native.Nat.{ℕ, min, _≤_}
@@ -48,8 +48,9 @@ abbrev pub HasOnly : Setting → (id : ℕ) → Asked → Type 0
 HasOnly c id q = acceptedIn c ≡ acceptedAfter [] (additionOf id q ∷ [])
 
 -- "the same list for that rule as table, scan and closing do": a question that is not refused, any
--- id, any table with that rule alone, and any list of calls on it, as demand 3 takes them, that takes
--- the log and has an accepted closing. The reports of all its calls, joined, are the matcher's list.
+-- id, any table with that rule alone, and any list of calls on it, as demand 3 takes them, that
+-- takes the log and has an accepted closing. The reports of all its calls, joined, are the
+-- matcher's list.
 abbrev pub SameList : {S L C : Type 0} → Kind S L C → Type 0
 SameList {S} {L} {C} k =
     (q : Asked) → Unwindowed q → q .answer .number ≡ 0
@@ -57,8 +58,8 @@ SameList {S} {L} {C} k =
     → (items : List (Item L C)) → Calls k c items → closes k c items
     → taken k c items ≡ q .question .log → joined k c items ≡ listOf id q
 
--- "it refuses with the same numbers and places": for "a whole log of at most 1,024 bytes" and report
--- space not "under 1,024" its number and place are those of the addition to an emptied table
+-- "it refuses with the same numbers and places": for "a whole log of at most 1,024 bytes" and
+-- report space not "under 1,024" its number and place are those of the addition to an emptied table
 abbrev pub SameRefusals : Type 0
 SameRefusals =
     (q : Asked) → Unwindowed q → length (q .question .log) ≤ longestLog
@@ -70,8 +71,8 @@ SameRefusals =
 abbrev pub Never : Type 0
 Never = (q : Asked) → ¬ List·Memᴰ (q .answer .number) (1 ∷ 3 ∷ 4 ∷ 17 ∷ [])
 
--- "gives one fixed answer": the same question and the same lists have one answer, and leave the same
--- lists
+-- "gives one fixed answer": the same question and the same lists have one answer, and leave the
+-- same lists
 abbrev pub OneAnswer : Type 0
 OneAnswer =
     (p q : Asked) → p .question ≡ q .question → p .old ≡ q .old

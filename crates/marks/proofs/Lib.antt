@@ -1,6 +1,6 @@
--- Least (least numbers of a kind), Moving (which marks a move leaves alone), Meaning (what the marks are),
--- Skips (forms without positions), Doors (a form by its part), Laid (parts in rows), Made (forms written
--- out), Passes (a gap over the rows), Worlds (the gaps of a log).
+-- Least (least numbers of a kind), Moving (which marks a move leaves alone), Meaning (what the
+-- marks are), Skips (forms without positions), Doors (a form by its part), Laid (parts in rows),
+-- Made (forms written out), Passes (a gap over the rows), Worlds (the gaps of a log).
 pub mod Least
 pub mod Moving
 pub mod Meaning

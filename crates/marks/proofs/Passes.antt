@@ -23,6 +23,10 @@ use Rattle.regex.specs.Rule.{Assertion}
 use Rattle.marks.proofs.Skips.{ends-none, moved-none}
 use Rattle.marks.proofs.Laid.{front-at, back-at, round-at}
 
+-- what a door of row j lets through, as the code reads it
+pub through : (ps : List ℕ) (j door g : ℕ) {w i x r : ℕ} {b : Bool} → w ≡ at ps j door → b ≡ on w g → i ≡ x → r ≡ when b i → r ≡ when (on (at ps j door) g) x
+through ps j door g ew eb ei er = er ∙ ap₂ (λ (b : Bool) (i : ℕ). when b i) (eb ∙ ap (λ (w : ℕ). on w g) ew) ei
+
 -- ---- going up
 
 module _ (ps : List ℕ) (g : ℕ) (ms : List ℕ) where

@@ -1,5 +1,5 @@
--- What the functions promise one another, and what they ask. No public contract of the matcher cites
--- it.
+-- What the functions promise one another, and what they ask. No public contract of the matcher
+-- cites it.
 use mathlib.Core.Path.{_≡_}
 use mathlib.Core.Logic.{_⊎_}
 use mathlib.Core.Bool.{Bool, cond, not, _&&_}

@@ -1,6 +1,7 @@
--- Marks on a form: each position has the least start of a way that has just taken a byte there. At a gap the marks say with which least start a part can end,
--- and the next byte moves them. This is the matcher of Fischer, Huch and Wilke ("A play on regular expressions"), with starts for its bits and with assertions.
--- Assumes nothing: these are definitions.
+-- Marks on a form: each position has the least start of a way that has just taken a byte there. At
+-- a gap the marks say with which least start a part can end, and the next byte moves them. This is
+-- the matcher of Fischer, Huch and Wilke ("A play on regular expressions"), with starts for its
+-- bits and with assertions. Assumes nothing: these are definitions.
 use mathlib.Core.Bool.{Bool, cond}
 use mathlib.Core.List.{List}
 use Prim.Native.Nat.{ℕ, _+_, min}
@@ -18,7 +19,8 @@ when b x = cond b x none
 
 -- the world of the gap
 module _ {C A : Type 0} (w : A → Bool) where
-  -- the least start of a way that stands in the form, numbered from b on, and can end it at this gap
+  -- the least start of a way that stands in the form, numbered from b on, and can end it at this
+  -- gap
   unfoldable pub ends : Form C A → (b : ℕ) → List ℕ → ℕ
   ends eps b ms = none
   ends (take c) b ms = min (getD ms b 0) none

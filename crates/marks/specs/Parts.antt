@@ -1,6 +1,7 @@
--- How the matcher works: gaps by number, masks over the gaps, and the parts of a written-out form that
--- take bytes, with their doors. What each part does to the marks is what its form does (Marks): that is
--- proved, so nothing here must be believed. Assumes nothing: these are definitions.
+-- How the matcher works: gaps by number, masks over the gaps, and the parts of a written-out form
+-- that take bytes, with their doors. What each part does to the marks is what its form does
+-- (Marks): that is proved, so nothing here must be believed. Assumes nothing: these are
+-- definitions.
 use mathlib.Core.Bool.{Bool, true, false, cond}
 use mathlib.Core.List.{List}
 use Prim.Native.Nat.{ℕ, suc, _+_, min}
@@ -46,8 +47,8 @@ pub record Doors : Type 0 where
   pub back : ℕ
   pub round : ℕ
 
--- An item with the number of its node; or two parts, one after the other or one of two, with the gaps
--- at which each of them can be passed without a byte.
+-- An item with the number of its node; or two parts, one after the other or one of two, with the
+-- gaps at which each of them can be passed without a byte.
 pub data Part : Type 0 where
   one : Doors → (node : ℕ) → Part
   then : Doors → (left right : ℕ) → Part → Part → Part
@@ -87,8 +88,8 @@ module _ (g : ℕ) where
   abbrev pub enteredP : Part → (b i : ℕ) → List ℕ → ℕ
   enteredP p b i ms = min (when (on (doorsOf p .front) g) i) (when (on (doorsOf p .round) g) (coreP p b ms))
 
-  -- the marks ms once the items have taken a byte, where rs are those before; the right part is done
-  -- first
+  -- the marks ms once the items have taken a byte, where rs are those before; the right part is
+  -- done first
   module _ (hits : ℕ → Bool) where
     unfoldable pub movedP : Part → (b i : ℕ) → (rs ms : List ℕ) → List ℕ
     movedP (one d k) b i rs ms = set ms b (when (hits k) (enteredP (one d k) b i rs))

@@ -11,8 +11,8 @@ ghost use lib.ListN.{length};
 ghost use Rattle.nodes.specs.Invariants.{formAt};
 ghost use Rattle.marks.specs.Invariants.{Plays, topOf, Took};
 
-// What a byte brings: the least start of the matches that end before it, now that it is known, and of
-// those that end with it, while nothing is known of the next.
+// What a byte brings: the least start of the matches that end before it, now that it is known, and
+// of those that end with it, while nothing is known of the next.
 pub struct Ends {
     pub late: u64,
     pub own: u64,

@@ -1,7 +1,7 @@
 // The pattern written out: a row for each part that takes bytes, children first. A part is an item,
 // or two parts, one after the other or one of the two. What takes no byte has no row: it is folded
-// into masks over the gaps. Each part has three doors, masks of the gaps at which it can be entered,
-// left, and entered again from its own end. A rule of n positions has 2n - 1 rows.
+// into masks over the gaps. Each part has three doors, masks of the gaps at which it can be
+// entered, left, and entered again from its own end. A rule of n positions has 2n - 1 rows.
 use crate::gaps::ALL;
 ghost use mathlib.Core.Path.{_≡_};
 ghost use mathlib.Core.List.{[], _∷_};

@@ -1,4 +1,5 @@
-// Marks are least starts: the mark of a place is the smallest start of a way that stands there, and NONE where no way does.
+// Marks are least starts: the mark of a place is the smallest start of a way that stands there, and
+// NONE where no way does.
 ghost use mathlib.Core.Path.{_≡_};
 ghost use Prim.Native.Nat.{min};
 ghost use Rattle.marks.specs.Marks.{when};
@@ -20,7 +21,8 @@ pub(super) fn only(b: bool, x: u64) -> u64
     if b { x } else { NONE }
 }
 
-// What is behind a part: what comes, if the part can be passed without a byte, and what can end in it.
+// What is behind a part: what comes, if the part can be passed without a byte, and what can end in
+// it.
 pub(super) fn passed(null: bool, come: u64, ends: u64) -> u64
     ensures { λ r. ⌜ r ≡ min (when null come) ends ⌝ }
 {

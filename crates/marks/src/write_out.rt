@@ -1,6 +1,6 @@
-// The written-out form, node by node: each function writes the rows of its form from row `at` on, its
-// positions numbered from b on, and says how many positions it has and at which gaps it can be passed
-// without a byte. The node number falls; within a repeat the number of copies does.
+// The written-out form, node by node: each function writes the rows of its form from row `at` on,
+// its positions numbered from b on, and says how many positions it has and at which gaps it can be
+// passed without a byte. The node number falls; within a repeat the number of copies does.
 use crate::gaps;
 use crate::gaps::ALL;
 use crate::parts;

@@ -1,5 +1,5 @@
--- Windows, Reports (the lent lists), Runs (byte by byte), Logs (what the starts mean), Listed (the ordered
--- list), Answers.
+-- Windows, Reports (the lent lists), Runs (byte by byte), Logs (what the starts mean), Listed (the
+-- ordered list), Answers.
 pub mod Windows
 pub mod Reports
 pub mod Runs

@@ -50,9 +50,9 @@ abbrev pub leastSpace : ℕ
 leastSpace = 1024
 
 -- "Flag 256 with flag 8 is refused with 24, checked right after 2"; "A smallest offset above the
--- largest is refused with 26, right after 5"; "After 26, a longer log is refused with 28, then report
--- space under 1,024 with 20, both at place 0 before the pattern is read. .. Otherwise it refuses with
--- the same numbers and places".
+-- largest is refused with 26, right after 5"; "After 26, a longer log is refused with 28, then
+-- report space under 1,024 with 20, both at place 0 before the pattern is read. .. Otherwise it
+-- refuses with the same numbers and places".
 unfoldable pub verdict : Question → (space : ℕ) → Read
 verdict q space =
     cond (not (eqb (bitAnd (q .flags) knownFlags) (q .flags))) (refused 2 0)
@@ -73,9 +73,9 @@ ruleOf q t = record {
   tree = t;
 }
 
--- "gives the same list for that rule as table, scan and closing do": the one ordered list of the rule
--- alone. "its lists are offsets and stream starts": they stand at the front of the lent lists, and the
--- slots past the count keep their values.
+-- "gives the same list for that rule as table, scan and closing do": the one ordered list of the
+-- rule alone. "its lists are offsets and stream starts": they stand at the front of the lent lists,
+-- and the slots past the count keep their values.
 pub record Reports (r : Rule) (log : List ℕ) (old new : Lent) (count : ℕ) : Type 0 where
   pub list : List Report
   pub ordered : Ordered (r ∷ []) log list

@@ -1,6 +1,6 @@
 -- A log, byte by byte: the marks after each byte, the least starts with which the rule can end at a
--- gap as more is known of it, and what is reported. Answer gives the reports by meaning; this is how
--- they are worked out. Assumes nothing: these are definitions.
+-- gap as more is known of it, and what is reported. Answer gives the reports by meaning; this is
+-- how they are worked out. Assumes nothing: these are definitions.
 use mathlib.Core.Bool.{Bool, true, false, cond, not, _&&_, _||_}
 use mathlib.Core.List.{List, [], _∷_, _++_, map}
 use Prim.Native.Nat.{ℕ, zero, suc, _+_, _*_, _-_}
@@ -26,7 +26,8 @@ module _ (bytes : List ℕ) (f : Form ByteSet Assertion) where
   marksAt zero = replicate 256 none
   marksAt (suc k) = moved (world (before k) (after k) false) (taken bytes k) f 0 k (marksAt k)
 
-  -- the least start of a match that ends at offset k, settled with its last byte; and with the next byte
+  -- the least start of a match that ends at offset k, settled with its last byte; and with the next
+  -- byte
   unfoldable pub ownAt : ℕ → ℕ
   ownAt zero = none
   ownAt (suc k) = ends (world (before (suc k)) unknown false) f 0 (marksAt (suc k))

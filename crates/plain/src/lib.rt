@@ -18,8 +18,8 @@ pub struct Matched {
     pub count: usize,
 }
 
-// The windows of a rule: smallest and largest end offset, and smallest length of a match. One that is
-// left out is 0, the largest number, 0.
+// The windows of a rule: smallest and largest end offset, and smallest length of a match. One that
+// is left out is 0, the largest number, 0.
 pub struct Bounds {
     pub lowest: u64,
     pub highest: u64,

@@ -84,8 +84,8 @@ fn both(
     report(offsets, starts, c, wanted, second, k + 1, y)
 }
 
-// How far a run came: the reports, and the least starts of the matches that end before the last byte
-// taken and with it.
+// How far a run came: the reports, and the least starts of the matches that end before the last
+// byte taken and with it.
 pub(super) struct Taken {
     pub count: usize,
     pub late: u64,

@@ -3,27 +3,19 @@ use borrow.Author.Tests.{eq-eqb, ne-eqb}
 use Rattle.plain.specs.Invariants.{flagFault}
 use Rattle.plain.proofs.flag_fault.Statement.{statement}
 use Rattle.plain.proofs.flag_fault.Tie as tie
-use Rattle.plain.proofs.flag_fault.Reads as reads
-use Rattle.plain.proofs.flag_fault.Lts as lts
-use Rattle.plain.proofs.is_leftmost.Reads as is-leftmost-reads
-use Rattle.plain.proofs.is_single.Reads as is-single-reads
 
--- src/lib.rt:72:9
 returns : tie.Need-returns
 unfolding flagFault
 returns c =
     let c-if1 = c .if1 in
     rw (ne-eqb _ _ (c-if1 .taken))
 
--- src/lib.rt:74:8
 is-leftmost-requires : tie.Need-is-leftmost-requires
 is-leftmost-requires c κs = tt
 
--- src/lib.rt:74:29
 is-single-requires : tie.Need-is-single-requires
 is-single-requires c κs = tt
 
--- src/lib.rt:75:9
 returns-2 : tie.Need-returns-2
 unfolding flagFault
 returns-2 c =
@@ -33,7 +25,6 @@ returns-2 c =
     let c-if2 = c .if2 in
     rw (eq-eqb _ _ (c-if1 .left), ← c-is-leftmost .ensures, ← c-is-single .ensures, c-if2 .taken)
 
--- src/lib.rt:68:1
 returns-3 : tie.Need-returns-3
 unfolding flagFault
 returns-3 c =

@@ -5,53 +5,38 @@ use Rattle.plain.proofs.Answers.{early-answer, checked}
 use borrow.Author.Needs.{needs}
 use Rattle.plain.proofs.matches.Statement.{statement}
 use Rattle.plain.proofs.matches.Tie as tie
-use Rattle.plain.proofs.matches.Reads as reads
-use Rattle.plain.proofs.matches.Lts as lts
-use Rattle.plain.proofs.answer.Reads as answer-reads
-use Rattle.plain.proofs.first_fault.Reads as first-fault-reads
-use Rattle.plain.proofs.refused.Reads as refused-reads
-use Rattle.plain.proofs.shorter.Reads as shorter-reads
 
--- src/lib.rt:166:9
 shorter-requires : tie.Need-shorter-requires
 shorter-requires c κs = tt
 
--- src/lib.rt:167:9
 first-fault-requires : tie.Need-first-fault-requires
 first-fault-requires c κs = tt
 
--- src/lib.rt:169:9
 refused-requires : tie.Need-refused-requires
 refused-requires c κs = tt
 
--- src/lib.rt:169:9
 returns : tie.Need-returns
 returns c =
-    let c-start = c .before .before .before .before .before .before .before .before in
-    let c-shorter = c .before .before .before .shorter in
-    let c-first-fault = c .before .before .first-fault in
-    let c-if1 = c .before .if1 in
-    let c-refused = c .refused in
-    early-answer (question (c-start .args .pattern .now) (c-start .args .flags) (c-start .args .bounds) (c-start .args .log .now)) (lent (c-start .args .offsets .now) (c-start .args .starts .now)) (c-shorter .ensures) (c-first-fault .ensures) (c-if1 .taken) (c-refused .ensures)
+    let at-if1 = c .before in
+    let at-first-fault = at-if1 .before in
+    let at-shorter = at-first-fault .before in
+    let start = at-shorter .before .before .before .before .before in
+    early-answer (question (start .args .pattern .now) (start .args .flags) (start .args .bounds) (start .args .log .now)) (lent (start .args .offsets .now) (start .args .starts .now)) (at-shorter .shorter .ensures) (at-first-fault .first-fault .ensures) (at-if1 .if1 .taken) (c .refused .ensures)
 
--- src/lib.rt:171:5
 answer-requires : tie.Need-answer-requires
 answer-requires c κs =
-    let c-start = c .before .before .before .before .before .before .before .before .before in
-    let c-shorter = c .before .before .before .before .shorter in
-    let c-first-fault = c .before .before .before .first-fault in
-    let c-if1 = c .before .before .if1 in
-    checked (question (c-start .args .pattern .now) (c-start .args .flags) (c-start .args .bounds) (c-start .args .log .now)) (lent (c-start .args .offsets .now) (c-start .args .starts .now)) (c-shorter .ensures) (c-first-fault .ensures) (c-if1 .left)
+    let at-if1 = c .before .before in
+    let at-first-fault = at-if1 .before in
+    let at-shorter = at-first-fault .before in
+    let start = at-shorter .before .before .before .before .before in
+    checked (question (start .args .pattern .now) (start .args .flags) (start .args .bounds) (start .args .log .now)) (lent (start .args .offsets .now) (start .args .starts .now)) (at-shorter .shorter .ensures) (at-first-fault .first-fault .ensures) (at-if1 .if1 .left)
 
--- src/lib.rt:156:1
 same-length : tie.Need-same-length
 same-length c = search needs
 
--- src/lib.rt:156:1
 same-length-2 : tie.Need-same-length-2
 same-length-2 c = search needs
 
--- src/lib.rt:156:1
 returns-2 : tie.Need-returns-2
 returns-2 c = search needs
 

@@ -3,17 +3,13 @@ use borrow.Author.Tests.{lt-ltb, le-ltb}
 use Rattle.plain.specs.Invariants.{sizeFault}
 use Rattle.plain.proofs.size_fault.Statement.{statement}
 use Rattle.plain.proofs.size_fault.Tie as tie
-use Rattle.plain.proofs.size_fault.Reads as reads
-use Rattle.plain.proofs.size_fault.Lts as lts
 
--- src/lib.rt:85:9
 returns : tie.Need-returns
 unfolding sizeFault
 returns c =
     let c-if1 = c .if1 in
     rw (lt-ltb _ _ (c-if1 .taken))
 
--- src/lib.rt:88:9
 returns-2 : tie.Need-returns-2
 unfolding sizeFault
 returns-2 c =
@@ -21,7 +17,6 @@ returns-2 c =
     let c-if2 = c .if2 in
     rw (le-ltb _ _ (c-if1 .left), lt-ltb _ _ (c-if2 .taken))
 
--- src/lib.rt:91:9
 returns-3 : tie.Need-returns-3
 unfolding sizeFault
 returns-3 c =
@@ -30,7 +25,6 @@ returns-3 c =
     let c-if3 = c .if3 in
     rw (le-ltb _ _ (c-if1 .left), le-ltb _ _ (c-if2 .left), lt-ltb _ _ (c-if3 .taken))
 
--- src/lib.rt:94:9
 returns-4 : tie.Need-returns-4
 unfolding sizeFault
 returns-4 c =
@@ -40,7 +34,6 @@ returns-4 c =
     let c-if4 = c .if4 in
     rw (le-ltb _ _ (c-if1 .left), le-ltb _ _ (c-if2 .left), le-ltb _ _ (c-if3 .left), lt-ltb _ _ (c-if4 .taken))
 
--- src/lib.rt:81:1
 returns-5 : tie.Need-returns-5
 unfolding sizeFault
 returns-5 c =

@@ -7,46 +7,37 @@ use Rattle.marks.specs.Parts.{maskOf}
 use Rattle.nodes.proofs.Forms.{last-assertion}
 use Rattle.marks.proofs.gaps.assertion.Statement.{statement}
 use Rattle.marks.proofs.gaps.assertion.Tie as tie
-use Rattle.marks.proofs.gaps.assertion.Reads as reads
-use Rattle.marks.proofs.gaps.assertion.Lts as lts
 
--- src/gaps.rt:76:1
 returns : tie.Need-returns
 returns c =
     let c-match = c .match in
     ap (λ (n : ℕ). maskOf (assertionOf n)) (sym (c-match .keys1))
 
--- src/gaps.rt:76:1
 returns-2 : tie.Need-returns-2
 returns-2 c =
     let c-match = c .match in
     ap (λ (n : ℕ). maskOf (assertionOf n)) (sym (c-match .keys2))
 
--- src/gaps.rt:76:1
 returns-3 : tie.Need-returns-3
 returns-3 c =
     let c-match = c .match in
     ap (λ (n : ℕ). maskOf (assertionOf n)) (sym (c-match .keys3))
 
--- src/gaps.rt:76:1
 returns-4 : tie.Need-returns-4
 returns-4 c =
     let c-match = c .match in
     ap (λ (n : ℕ). maskOf (assertionOf n)) (sym (c-match .keys4))
 
--- src/gaps.rt:76:1
 returns-5 : tie.Need-returns-5
 returns-5 c =
     let c-match = c .match in
     ap (λ (n : ℕ). maskOf (assertionOf n)) (sym (c-match .keys5))
 
--- src/gaps.rt:76:1
 returns-6 : tie.Need-returns-6
 returns-6 c =
     let c-match = c .match in
     ap (λ (n : ℕ). maskOf (assertionOf n)) (sym (c-match .keys6))
 
--- src/gaps.rt:76:1
 returns-7 : tie.Need-returns-7
 returns-7 c =
     let c-start = c .before in

@@ -9,11 +9,7 @@ use Rattle.marks.proofs.Worlds.{known-last}
 use borrow.Author.Needs.{needs}
 use Rattle.marks.proofs.gaps.before.Statement.{statement}
 use Rattle.marks.proofs.gaps.before.Tie as tie
-use Rattle.marks.proofs.gaps.before.Reads as reads
-use Rattle.marks.proofs.gaps.before.Lts as lts
-use Rattle.marks.proofs.gaps.side.Reads as side-reads
 
--- src/gaps.rt:45:9
 returns : tie.Need-returns
 unfolding known-before
 returns c =
@@ -22,19 +18,15 @@ returns c =
     let e : c-start .args .k ≡ 0 = c-if1 .taken in
     ap (λ (n : ℕ). sideCode (known-before (take n (c-start .args .log .now)))) (sym e)
 
--- src/gaps.rt:47:14
 sub-side : tie.Need-sub-side
 sub-side c = search needs
 
--- src/gaps.rt:47:10
 shared-slice-read-side : tie.Need-shared-slice-read-side
 shared-slice-read-side c = search needs
 
--- src/gaps.rt:47:5
 side-requires : tie.Need-side-requires
 side-requires c κs = search needs
 
--- src/gaps.rt:40:1
 returns-2 : tie.Need-returns-2
 returns-2 c =
     let c-start = c .before .before .before .before in

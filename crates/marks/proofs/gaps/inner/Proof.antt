@@ -8,27 +8,19 @@ use Rattle.marks.proofs.Worlds.{code-low, byte-code, inner-newline, inn
 use borrow.Author.Needs.{needs}
 use Rattle.marks.proofs.gaps.inner.Statement.{statement}
 use Rattle.marks.proofs.gaps.inner.Tie as tie
-use Rattle.marks.proofs.gaps.inner.Reads as reads
-use Rattle.marks.proofs.gaps.inner.Lts as lts
-use Rattle.marks.proofs.gaps.before.Reads as before-reads
-use Rattle.marks.proofs.gaps.side.Reads as side-reads
 
--- src/gaps.rt:55:16
 shared-slice-read-byte : tie.Need-shared-slice-read-byte
 shared-slice-read-byte c = search needs
 
--- src/gaps.rt:56:9
 before-requires : tie.Need-before-requires
 before-requires c κs = search needs
 
--- src/gaps.rt:58:16
 add-result : tie.Need-add-result
 add-result c =
     let c-before2 = c .before .before2 in
     let c-start = c .before .before .before .before in
     omega (arith, c-before2 .ensures, code-low (beforeGap (c-start .args .log .now) (c-start .args .k)))
 
--- src/gaps.rt:58:9
 returns : tie.Need-returns
 returns c =
     let c-start = c .before .before .before .before in
@@ -36,25 +28,21 @@ returns c =
     let c-if1 = c .if1 in
     inner-newline (c-start .args .log .now) (c-start .args .k) (c-before2 .result) (c-start .args .last) (c-if1 .taken) (c-before2 .ensures)
 
--- src/gaps.rt:60:10
 side-requires : tie.Need-side-requires
 side-requires c κs = search needs
 
--- src/gaps.rt:60:10
 sub-result : tie.Need-sub-result
 sub-result c =
     let c-side = c .side in
     let c-start = c .before .before .before .before .before in
     omega (arith, c-side .ensures, byte-code (sideOf (getD (c-start .args .log .now) (c-start .args .k) 0)))
 
--- src/gaps.rt:60:5
 mul-result : tie.Need-mul-result
 mul-result c =
     let c-side = c .side in
     let c-start = c .before .before .before .before .before in
     omega (arith, c-side .ensures, code-low (byte (sideOf (getD (c-start .args .log .now) (c-start .args .k) 0))))
 
--- src/gaps.rt:60:5
 add-result-2 : tie.Need-add-result-2
 add-result-2 c =
     let c-side = c .side in
@@ -62,7 +50,6 @@ add-result-2 c =
     let c-before2 = c .before .before .before2 in
     omega (arith, c-side .ensures, code-low (byte (sideOf (getD (c-start .args .log .now) (c-start .args .k) 0))), c-before2 .ensures, code-low (beforeGap (c-start .args .log .now) (c-start .args .k)))
 
--- src/gaps.rt:51:1
 returns-2 : tie.Need-returns-2
 returns-2 c =
     let c-start = c .before .before .before .before .before in

@@ -7,26 +7,19 @@ use Rattle.marks.proofs.Worlds.{code-low, outer-end, outer-open}
 use borrow.Author.Needs.{needs}
 use Rattle.marks.proofs.gaps.outer.Statement.{statement}
 use Rattle.marks.proofs.gaps.outer.Tie as tie
-use Rattle.marks.proofs.gaps.outer.Reads as reads
-use Rattle.marks.proofs.gaps.outer.Lts as lts
-use Rattle.marks.proofs.gaps.side.Reads as side-reads
 
--- src/gaps.rt:68:21
 shared-slice-read-side : tie.Need-shared-slice-read-side
 shared-slice-read-side c = search needs
 
--- src/gaps.rt:68:9
 side-requires : tie.Need-side-requires
 side-requires c κs = search needs
 
--- src/gaps.rt:70:16
 add-result : tie.Need-add-result
 add-result c =
     let c-side = c .before .side in
     let c-start = c .before .before .before .before in
     omega (arith, c-side .ensures, code-low (byte (sideOf (getD (c-start .args .log .now) (c-start .args .k) 0))))
 
--- src/gaps.rt:70:9
 returns : tie.Need-returns
 returns c =
     let c-start = c .before .before .before .before in
@@ -34,14 +27,12 @@ returns c =
     let c-if1 = c .if1 in
     outer-end (c-start .args .log .now) (c-start .args .k) (c-start .pre) (c-side .result) (c-side .ensures) (c-start .args .last) (c-if1 .taken)
 
--- src/gaps.rt:72:5
 add-result-2 : tie.Need-add-result-2
 add-result-2 c =
     let c-side = c .before .side in
     let c-start = c .before .before .before .before in
     omega (arith, c-side .ensures, code-low (byte (sideOf (getD (c-start .args .log .now) (c-start .args .k) 0))))
 
--- src/gaps.rt:64:1
 returns-2 : tie.Need-returns-2
 returns-2 c =
     let c-start = c .before .before .before .before in

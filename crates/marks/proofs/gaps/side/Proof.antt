@@ -6,41 +6,31 @@ use Rattle.marks.specs.Parts.{sideCode}
 use borrow.Author.Needs.{needs}
 use Rattle.marks.proofs.gaps.side.Statement.{statement}
 use Rattle.marks.proofs.gaps.side.Tie as tie
-use Rattle.marks.proofs.gaps.side.Reads as reads
-use Rattle.marks.proofs.gaps.side.Lts as lts
-use Rattle.kinds.proofs.side_of.Reads as side-of-reads
 
--- src/gaps.rt:31:9
 side-of-requires : tie.Need-side-of-requires
 side-of-requires c κs = search needs
 
--- src/gaps.rt:33:26
 enum-told : tie.Need-enum-told
 enum-told c = search needs
 
--- src/gaps.rt:34:23
 enum-told-2 : tie.Need-enum-told-2
 enum-told-2 c = search needs
 
--- src/gaps.rt:35:24
 enum-told-3 : tie.Need-enum-told-3
 enum-told-3 c = search needs
 
--- src/gaps.rt:28:1
 returns : tie.Need-returns
 returns c =
     let c-enum-told = c .enum-told in
     let c-side-of = c .before .before .side-of in
     ap (λ (s : Side). sideCode (byte s)) (sym (c-enum-told .given .1) ∙ c-side-of .ensures)
 
--- src/gaps.rt:28:1
 returns-2 : tie.Need-returns-2
 returns-2 c =
     let c-enum-told2 = c .enum-told2 in
     let c-side-of = c .before .before .side-of in
     ap (λ (s : Side). sideCode (byte s)) (sym (c-enum-told2 .given .1) ∙ c-side-of .ensures)
 
--- src/gaps.rt:28:1
 returns-3 : tie.Need-returns-3
 returns-3 c =
     let c-enum-told3 = c .enum-told3 in

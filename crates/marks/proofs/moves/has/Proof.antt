@@ -3,14 +3,10 @@ use Rattle.marks.proofs.Worlds.{digit-is}
 use borrow.Author.Needs.{needs}
 use Rattle.marks.proofs.moves.has.Statement.{statement}
 use Rattle.marks.proofs.moves.has.Tie as tie
-use Rattle.marks.proofs.moves.has.Reads as reads
-use Rattle.marks.proofs.moves.has.Lts as lts
 
--- src/moves.rt:23:5
 shr-result : tie.Need-shr-result
 shr-result c = search needs
 
--- src/moves.rt:19:1
 returns : tie.Need-returns
 returns c =
     let c-start = c in

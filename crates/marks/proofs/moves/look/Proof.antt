@@ -4,15 +4,9 @@ use Prim.Native.Nat.{suc, _+_, _-_, _≤_}
 use native.Mathlib.Omega.{arith}
 use lib.ListN.{length, length-set}
 use Rattle.marks.specs.Invariants.{Looked}
-use Rattle.marks.proofs.Passes.{looked-none, looked-more, looked-to}
+use Rattle.marks.proofs.Passes.{through, looked-none, looked-more, looked-to}
 use Rattle.marks.proofs.moves.look.Statement.{statement}
 use Rattle.marks.proofs.moves.look.Tie as tie
-use Rattle.marks.proofs.moves.look.Reads as reads
-use Rattle.marks.proofs.moves.look.Lts as lts
-use Rattle.nodes.proofs.layout.word.Reads as word-reads
-use Rattle.marks.proofs.starts.only.Reads as only-reads
-use Rattle.marks.proofs.moves.core.Reads as core-reads
-use Rattle.marks.proofs.moves.has.Reads as has-reads
 
 abbrev Inv-loop : tie.InvT-loop
 Inv-loop parts n g marks cores₀ ends₀ j₀ cores ends j =
@@ -22,96 +16,85 @@ Inv-loop parts n g marks cores₀ ends₀ j₀ cores ends j =
 abbrev μ-loop : tie.MeasureT-loop
 μ-loop parts n g marks cores₀ ends₀ j₀ cores ends j = n - j
 
--- src/moves.rt:75:5
+-- what was known before, from a later place
+abbrev begun : tie.After-core-arg2 Inv-loop μ-loop → tie.Start Inv-loop μ-loop
+begun c = c .before .before .before .before .before .before
+
 loop-holds : tie.Need-loop-holds Inv-loop μ-loop
 loop-holds c =
     let c-start = c .before .before in
     (omega arith, refl, refl, λ u v. looked-none (c-start .args .parts .now) (c-start .args .g) (c-start .args .marks .now) (c-start .args .cores .now) (c-start .args .ends .now))
 
--- src/moves.rt:76:13
 core-requires : tie.Need-core-requires Inv-loop μ-loop
 core-requires c κs =
     let c-start = c .before .before .before .before .before .before in
     (omega (arith, c-start .pre .0), c-start .pre .1)
 
--- src/moves.rt:77:9
 mul-cores : tie.Need-mul-cores Inv-loop μ-loop
 mul-cores c =
-    let c-start = c .before .before .before .before .before .before .before in
-    omega (arith, c-start .pre .0)
+    let start = begun (c .before) in
+    omega (arith, start .pre .0)
 
--- src/moves.rt:77:9
 element-write-cores : tie.Need-element-write-cores Inv-loop μ-loop
 element-write-cores c =
-    let c-start = c .before .before .before .before .before .before .before in
-    omega (arith, c-start .pre .0)
+    let start = begun (c .before) in
+    omega (arith, start .pre .0)
 
--- src/moves.rt:78:47
 mul-word : tie.Need-mul-word Inv-loop μ-loop
 mul-word c =
-    let c-start = c .before .before .before .before .before .before .before in
-    omega (arith, c-start .pre .0)
+    let start = begun (c .before) in
+    omega (arith, start .pre .0)
 
--- src/moves.rt:78:47
 add-word : tie.Need-add-word Inv-loop μ-loop
 add-word c =
-    let c-start = c .before .before .before .before .before .before .before in
-    omega (arith, c-start .pre .0)
+    let start = begun (c .before) in
+    omega (arith, start .pre .0)
 
--- src/moves.rt:78:35
 word-requires : tie.Need-word-requires Inv-loop μ-loop
 word-requires c κs = tt
 
--- src/moves.rt:78:31
 has-requires : tie.Need-has-requires Inv-loop μ-loop
 has-requires c κs =
-    let c-start = c .before .before .before .before .before .before .before .before in
-    c-start .pre .1
+    let start = begun (c .before .before) in
+    start .pre .1
 
--- src/moves.rt:78:19
 only-requires : tie.Need-only-requires Inv-loop μ-loop
 only-requires c κs = tt
 
--- src/moves.rt:78:9
 mul-ends : tie.Need-mul-ends Inv-loop μ-loop
 mul-ends c =
-    let c-start = c .before .before .before .before .before .before .before .before .before .before in
-    omega (arith, c-start .pre .0)
+    let start = begun (c .before .before .before .before) in
+    omega (arith, start .pre .0)
 
--- src/moves.rt:78:9
 element-write-ends : tie.Need-element-write-ends Inv-loop μ-loop
 element-write-ends c =
-    let c-start = c .before .before .before .before .before .before .before .before .before .before in
-    omega (arith, c-start .pre .0)
+    let start = begun (c .before .before .before .before) in
+    omega (arith, start .pre .0)
 
--- src/moves.rt:79:9
 add-j : tie.Need-add-j Inv-loop μ-loop
 add-j c =
-    let c-start = c .before .before .before .before .before .before .before .before .before .before in
-    omega (arith, c-start .pre .0)
+    let start = begun (c .before .before .before .before) in
+    omega (arith, start .pre .0)
 
--- src/moves.rt:75:5
 loop-less : tie.Need-loop-less Inv-loop μ-loop
 loop-less c = omega arith
 
--- src/moves.rt:75:5
 loop-again : tie.Need-loop-again Inv-loop μ-loop
 loop-again c =
-    let c-loop = c .before .before .before .before .before .before .before .loop in
-    let c-start = c .before .before .before .before .before .before .before .before .before .before in
-    let c-core = c .before .before .before .core in
-    let c-only = c .only in
-    let inv = c-loop .inv in
-    let e : suc (c-loop .j) ≡ c-loop .j + 1 = omega arith in (
+    let at-core = c .before .before .before in
+    let at-loop = at-core .before .before .before .before in
+    let start = at-loop .before .before .before in
+    let inv = at-loop .loop .inv in
+    let e : suc (at-loop .loop .j) ≡ at-loop .loop .j + 1 = omega arith in (
       omega arith,
-      length-set (c-loop .cores) (c-loop .j) (c-core .result) ∙ inv .1,
-      length-set (c-loop .ends) (c-loop .j) (c-only .result) ∙ inv .2,
-      λ u v. looked-to (c-start .args .parts .now) (c-start .args .g) (c-start .args .marks .now) _ _ e
-          (looked-more (c-start .args .parts .now) (c-start .args .g) (c-start .args .marks .now) (c-loop .cores) (c-loop .ends) (c-loop .j) (c-core .result) (c-only .result)
-          (omega (arith, c-start .pre .0, inv .1)) (omega (arith, c-start .pre .0, inv .2)) (c-core .ensures) (cc) (inv .3 u v)),
+      length-set (at-loop .loop .cores) (at-loop .loop .j) (at-core .core .result) ∙ inv .1,
+      length-set (at-loop .loop .ends) (at-loop .loop .j) (c .only .result) ∙ inv .2,
+      λ u v. looked-to (start .args .parts .now) (start .args .g) (start .args .marks .now) _ _ e
+          (looked-more (start .args .parts .now) (start .args .g) (start .args .marks .now) (at-loop .loop .cores) (at-loop .loop .ends) (at-loop .loop .j) (at-core .core .result) (c .only .result)
+          (omega (arith, start .pre .0, inv .1)) (omega (arith, start .pre .0, inv .2)) (at-core .core .ensures)
+          (through (start .args .parts .now) (at-loop .loop .j) 6 (start .args .g) (c .before .before .word .ensures) (c .before .has .ensures) refl (c .only .ensures)) (inv .3 u v)),
     )
 
--- src/moves.rt:63:1
 returns : tie.Need-returns Inv-loop μ-loop
 returns c =
     let c-loop = c .before .loop in

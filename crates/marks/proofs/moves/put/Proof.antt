@@ -5,26 +5,19 @@ use lib.Seq.{set-out}
 use borrow.Author.Needs.{needs}
 use Rattle.marks.proofs.moves.put.Statement.{statement}
 use Rattle.marks.proofs.moves.put.Tie as tie
-use Rattle.marks.proofs.moves.put.Reads as reads
-use Rattle.marks.proofs.moves.put.Lts as lts
 
--- src/moves.rt:31:9
 mul-s : tie.Need-mul-s
 mul-s c = search needs
 
--- src/moves.rt:31:9
 slice-write-s : tie.Need-slice-write-s
 slice-write-s c = search needs
 
--- src/moves.rt:27:1
 same-length : tie.Need-same-length
 same-length c = search needs
 
--- src/moves.rt:27:1
 returns : tie.Need-returns
 returns c = search needs
 
--- src/moves.rt:27:1
 returns-2 : tie.Need-returns-2
 returns-2 c =
     let c-start = c .before in

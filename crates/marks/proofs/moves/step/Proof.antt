@@ -8,9 +8,6 @@ use Rattle.marks.specs.Invariants.{hitsOf}
 use Rattle.marks.proofs.Passes.{Remains, remains-all, remains-turn, remains-none, turned-length}
 use Rattle.marks.proofs.moves.step.Statement.{statement}
 use Rattle.marks.proofs.moves.step.Tie as tie
-use Rattle.marks.proofs.moves.step.Reads as reads
-use Rattle.marks.proofs.moves.step.Lts as lts
-use Rattle.marks.proofs.moves.turn.Reads as turn-reads
 
 abbrev Inv-loop : tie.InvT-loop
 Inv-loop a parts n g byte marks₀ cores ends come comes₀ j₀ marks comes j =
@@ -19,7 +16,10 @@ Inv-loop a parts n g byte marks₀ cores ends come comes₀ j₀ marks comes j =
 abbrev μ-loop : tie.MeasureT-loop
 μ-loop a parts n g byte marks₀ cores ends come comes₀ j₀ marks comes j = j
 
--- src/moves.rt:155:5
+-- what was known before, from a later place
+abbrev begun : tie.At-loop Inv-loop μ-loop → tie.Start Inv-loop μ-loop
+begun c = c .before .before .before .before .before .before
+
 loop-holds : tie.Need-loop-holds Inv-loop μ-loop
 loop-holds c =
     let c-start = c .before .before .before .before .before in
@@ -31,57 +31,50 @@ loop-holds c =
       remains-all (v .parts .now) (v .n) (v .g) (hitsOf (v .a .now) (v .byte)) (v .marks .now) (v .come) _ (λ m e. getD-replicate 512 m (v .come) 0 (omega (arith, c-start .pre .low))),
     )
 
--- src/moves.rt:156:9
 sub-j : tie.Need-sub-j Inv-loop μ-loop
 sub-j c = omega arith
 
--- src/moves.rt:157:56
 slice-aggregate-turn : tie.Need-slice-aggregate-turn Inv-loop μ-loop
 slice-aggregate-turn c =
     let c-loop = c .before .before .before .loop in
     sym (c-loop .inv .1)
 
--- src/moves.rt:157:9
 turn-requires : tie.Need-turn-requires Inv-loop μ-loop
 turn-requires c κs =
-    let c-start = c .before .before .before .before .before .before .before .before .before in
-    (omega (arith, c-start .pre .low), c-start .pre .gap)
+    let start = begun (c .before .before .before) in
+    (omega (arith, start .pre .low), start .pre .gap)
 
--- src/moves.rt:155:5
 loop-less : tie.Need-loop-less Inv-loop μ-loop
 loop-less c = omega arith
 
--- src/moves.rt:155:5
 loop-again : tie.Need-loop-again Inv-loop μ-loop
 loop-again c =
-    let c-start = c .before .before .before .before .before .before .before .before .before .before .before .before .before in
-    let c-loop = c .before .before .before .before .before .before .before .loop in
-    let c-turn = c .before .before .before .turn in
-    let v = c-start .args in
-    let inv = c-loop .inv in
-    let long = turned-length (v .parts .now) (c-loop .j - 1) (c-turn .ensures) in (
+    let at-turn = c .before .before .before in
+    let at-loop = at-turn .before .before .before .before in
+    let start = at-loop .before .before .before .before .before .before in
+    let v = start .args in
+    let inv = at-loop .loop .inv in
+    let long = turned-length (v .parts .now) (at-loop .loop .j - 1) (at-turn .turn .ensures) in (
       omega arith,
       long .1 ∙ inv .1,
       long .0 ∙ inv .2,
       λ z. absurd (omega arith),
-      remains-turn (v .parts .now) (v .n) (v .g) (hitsOf (v .a .now) (v .byte)) (v .marks .now) (v .come) (v .cores .now) (v .ends .now) (c-start .pre .looked)
-          (c-loop .j - 1) (c-loop .j) (c-loop .comes) _ (c-loop .marks) _ (omega arith) (omega arith) (omega (arith, inv .1, c-start .pre .low)) (c-turn .ensures .marks) (c-turn .ensures .comes) (inv .4),
+      remains-turn (v .parts .now) (v .n) (v .g) (hitsOf (v .a .now) (v .byte)) (v .marks .now) (v .come) (v .cores .now) (v .ends .now) (start .pre .looked)
+          (at-loop .loop .j - 1) (at-loop .loop .j) (at-loop .loop .comes) _ (at-loop .loop .marks) _ (omega arith) (omega arith) (omega (arith, inv .1, start .pre .low)) (at-turn .turn .ensures .marks) (at-turn .turn .ensures .comes) (inv .4),
     )
 
--- src/moves.rt:136:1
 same-length : tie.Need-same-length Inv-loop μ-loop
 same-length c =
     let c-loop = c .before .loop in
     c-loop .inv .2
 
--- src/moves.rt:136:1
 returns : tie.Need-returns Inv-loop μ-loop
 returns c =
-    let c-start = c .before .before .before .before .before .before .before in
-    let c-loop = c .before .loop in
-    let v = c-start .args in
-    let inv = c-loop .inv in
-    (inv .3, remains-none (v .parts .now) (v .n) (v .g) (hitsOf (v .a .now) (v .byte)) (v .marks .now) (v .come) (c-loop .comes) (c-loop .marks) (c-loop .j) (omega arith) (inv .4))
+    let at-loop = c .before in
+    let start = at-loop .before .before .before .before .before .before in
+    let v = start .args in
+    let inv = at-loop .loop .inv in
+    (inv .3, remains-none (v .parts .now) (v .n) (v .g) (hitsOf (v .a .now) (v .byte)) (v .marks .now) (v .come) (at-loop .loop .comes) (at-loop .loop .marks) (at-loop .loop .j) (omega arith) (inv .4))
 
 pub step-spec : {M : Type 1} → statement M
 step-spec =

@@ -13,9 +13,6 @@ use Rattle.sets.specs.Set.{on, has}
 use Rattle.nodes.specs.Invariants.{setAt}
 use Rattle.marks.proofs.moves.takes.Statement.{statement}
 use Rattle.marks.proofs.moves.takes.Tie as tie
-use Rattle.marks.proofs.moves.takes.Reads as reads
-use Rattle.marks.proofs.moves.takes.Lts as lts
-use Rattle.nodes.proofs.layout.word.Reads as word-reads
 
 -- a byte in the set that stands before node k
 takes-is : (a : List ℕ) (k from x w : ℕ) → x < 256 → from ≡ k - 4 → w ≡ getD a (from + x / 64) 0 → eqb (bitAnd (w / 2 ^ (x % 64)) 1) 1 ≡ has (setAt a k) x
@@ -25,25 +22,20 @@ takes-is a k from x w lt e f =
     let read : getD (setAt a k) (x / 64) 0 ≡ w = getD-take 4 (drop (k - 4) a) (x / 64) 0 inside ∙ rw getD-drop (rw (← e) (sym f)) in
     ap (λ (v : ℕ). eqb v 1) (and-mask (w / 2 ^ (x % 64)) 1) ∙ ap (λ (v : ℕ). eqb (v / 2 ^ (x % 64) % 2) 1) (sym read)
 
--- src/moves.rt:40:13
 add-word : tie.Need-add-word
 add-word c =
     let c-if1 = c .before .if1 in
     ⊎-elim (λ u. omega (arith, u .0 .taken, u .1)) (λ u. omega (arith, u .0 .left, u .1)) (c-if1 .came)
 
--- src/moves.rt:40:5
 word-requires : tie.Need-word-requires
 word-requires c κs = search needs
 
--- src/moves.rt:40:44
 cast-result : tie.Need-cast-result
 cast-result c = search needs
 
--- src/moves.rt:40:5
 shr-result : tie.Need-shr-result
 shr-result c = search needs
 
--- src/moves.rt:36:1
 returns : tie.Need-returns
 returns c =
     let c-start = c .before .before .before .before in

@@ -74,6 +74,13 @@ abbrev node-uses : ℕ → node-lts.Claims
 node-uses t = (word-reads.Asked, word-reads.Learnt, put-reads.Asked, put-reads.Learnt, assertion-reads.Asked, assertion-reads.Learnt, child-below t, child.Post, rows-reads.Asked, rows-reads.Learnt, then-reads.Asked, then-reads.Learnt, or-reads.Asked, or-reads.Learnt, copies-below t, copies.Post)
 
 module _ (t : ℕ) where
+  -- what was known before, from a later place
+  abbrev copies-to-child : copies-lts.Then4 (copies-uses t) (copies-at t) copies.Post → copies-lts.After-child (copies-uses t) (copies-at t) copies.Post
+  copies-to-child c = c .before .before .before .before .before .before
+
+  abbrev copies-to-childa : copies-lts.Else4 (copies-uses t) (copies-at t) copies.Post → copies-lts.After-child (copies-uses t) (copies-at t) copies.Post
+  copies-to-childa c = c .before .before .before .before .before .before
+
   child-node-requires : child-lts.Need-node-requires (child-uses t) (child-at t) child.Post
   child-node-requires c κs =
       let c-if1 = c .before .if1 in
@@ -110,26 +117,24 @@ module _ (t : ℕ) where
 
   copies-returns-2 : copies-lts.Need-returns-2 (copies-uses t) (copies-at t) copies.Post
   copies-returns-2 c =
-      let c-start = c .before .before .before .before .before .before .before in
-      let c-child = c .before .before .before .child in
-      let c-if2 = c .if2 in
-      let c-open-if = c .before .before .open-if in
-      copies-bare (childAt (c-start .args .a .now) (c-start .args .k) (c-start .args .x)) (c-start .args .n) (c-start .args .endless) (c-start .args .j) (c-child .ensures) (c-if2 .taken) refl (c-open-if .ensures)
+      let at-open-if = c .before .before in
+      let at-child = at-open-if .before in
+      let start = at-child .before .before .before .before in
+      copies-bare (childAt (start .args .a .now) (start .args .k) (start .args .x)) (start .args .n) (start .args .endless) (start .args .j) (at-child .child .ensures) (c .if2 .taken) refl (at-open-if .open-if .ensures)
 
   copies-rows-requires : copies-lts.Need-rows-requires (copies-uses t) (copies-at t) copies.Post
   copies-rows-requires c κs =
-      let c-child = c .before .before .before .before .before .child in
-      let c-start = c .before .before .before .before .before .before .before .before .before in
-      let c-if1 = c .before .before .before .before .before .before .before .if1 in
-      omega (arith, c-child .ensures .size, copies-low (childAt (c-start .args .a .now) (c-start .args .k) (c-start .args .x)) (c-start .args .n) (c-start .args .endless) (c-start .args .j) (c-if1 .left), c-start .pre .1 .2 .positions, c-start .pre .1 .2 .rows)
+      let at-child = c .before .before .before .before .before in
+      let at-if1 = at-child .before .before in
+      let start = at-if1 .before .before in
+      omega (arith, at-child .child .ensures .size, copies-low (childAt (start .args .a .now) (start .args .k) (start .args .x)) (start .args .n) (start .args .endless) (start .args .j) (at-if1 .if1 .left), start .pre .1 .2 .positions, start .pre .1 .2 .rows)
 
   copies-add-widen : copies-lts.Need-add-widen (copies-uses t) (copies-at t) copies.Post
   copies-add-widen c =
-      let c-child = c .before .before .before .before .before .before .child in
-      let c-start = c .before .before .before .before .before .before .before .before .before .before in
-      let c-if1 = c .before .before .before .before .before .before .before .before .if1 in
-      let c-rows = c .rows in
-      omega (arith, c-child .ensures .size, copies-low (childAt (c-start .args .a .now) (c-start .args .k) (c-start .args .x)) (c-start .args .n) (c-start .args .endless) (c-start .args .j) (c-if1 .left), c-start .pre .1 .2 .positions, c-start .pre .1 .2 .rows, c-rows .ensures, rows-most (c-child .result .size))
+      let at-child = c .before .before .before .before .before .before in
+      let at-if1 = at-child .before .before in
+      let start = at-if1 .before .before in
+      omega (arith, at-child .child .ensures .size, copies-low (childAt (start .args .a .now) (start .args .k) (start .args .x)) (start .args .n) (start .args .endless) (start .args .j) (at-if1 .if1 .left), start .pre .1 .2 .positions, start .pre .1 .2 .rows, c .rows .ensures, rows-most (at-child .child .result .size))
 
   copies-sub-widen : copies-lts.Need-sub-widen (copies-uses t) (copies-at t) copies.Post
   copies-sub-widen c =
@@ -140,86 +145,81 @@ module _ (t : ℕ) where
 
   copies-widen-requires : copies-lts.Need-widen-requires (copies-uses t) (copies-at t) copies.Post
   copies-widen-requires c κs =
-      let c-child = c .before .before .before .before .before .before .child in
-      let c-start = c .before .before .before .before .before .before .before .before .before .before in
-      let c-if1 = c .before .before .before .before .before .before .before .before .if1 in
-      let c-rows = c .rows in
-      let c-if2 = c .before .before .before .if2 in
-      omega (arith, c-child .ensures .size, copies-low (childAt (c-start .args .a .now) (c-start .args .k) (c-start .args .x)) (c-start .args .n) (c-start .args .endless) (c-start .args .j) (c-if1 .left), c-start .pre .1 .2 .positions, c-start .pre .1 .2 .rows, c-rows .ensures, rows-some (c-child .result .size) (c-if2 .left))
+      let at-if2 = c .before .before .before in
+      let at-child = at-if2 .before .before .before in
+      let at-if1 = at-child .before .before in
+      let start = at-if1 .before .before in
+      omega (arith, at-child .child .ensures .size, copies-low (childAt (start .args .a .now) (start .args .k) (start .args .x)) (start .args .n) (start .args .endless) (start .args .j) (at-if1 .if1 .left), start .pre .1 .2 .positions, start .pre .1 .2 .rows, c .rows .ensures, rows-some (at-child .child .result .size) (at-if2 .if2 .left))
 
   copies-returns-3 : copies-lts.Need-returns-3 (copies-uses t) (copies-at t) copies.Post
   copies-returns-3 c =
-      let c-start = c .before .before .before .before .before .before .before .before .before .before .before in
-      let c-child = c .before .before .before .before .before .before .before .child in
-      let c-if3 = c .before .before .before .if3 in
-      let c-if2 = c .before .before .before .before .if2 in
-      let c-rows = c .before .rows in
-      let c-widen = c .widen in
-      let c-open-if = c .before .before .before .before .before .before .open-if in
-      copies-round (childAt (c-start .args .a .now) (c-start .args .k) (c-start .args .x)) (c-start .args .n) (c-start .args .endless) (c-start .args .j) (c-child .ensures) (c-start .pre .1 .2) (c-if3 .taken) (c-if2 .left) (c-rows .ensures) (c-widen .ensures) refl (c-open-if .ensures)
+      let at-rows = c .before in
+      let at-if3 = at-rows .before .before in
+      let at-if2 = at-if3 .before in
+      let at-open-if = at-if2 .before .before in
+      let at-child = at-open-if .before in
+      let start = at-child .before .before .before .before in
+      copies-round (childAt (start .args .a .now) (start .args .k) (start .args .x)) (start .args .n) (start .args .endless) (start .args .j) (at-child .child .ensures) (start .pre .1 .2) (at-if3 .if3 .taken) (at-if2 .if2 .left) (at-rows .rows .ensures) (c .widen .ensures) refl (at-open-if .open-if .ensures)
 
   copies-rows-requires-2 : copies-lts.Need-rows-requires-2 (copies-uses t) (copies-at t) copies.Post
   copies-rows-requires-2 c κs =
-      let c-child = c .before .before .before .before .child in
-      let c-start = c .before .before .before .before .before .before .before .before in
-      let c-if1 = c .before .before .before .before .before .before .if1 in
-      omega (arith, c-child .ensures .size, copies-low (childAt (c-start .args .a .now) (c-start .args .k) (c-start .args .x)) (c-start .args .n) (c-start .args .endless) (c-start .args .j) (c-if1 .left), c-start .pre .1 .2 .positions, c-start .pre .1 .2 .rows)
+      let at-child = c .before .before .before .before in
+      let at-if1 = at-child .before .before in
+      let start = at-if1 .before .before in
+      omega (arith, at-child .child .ensures .size, copies-low (childAt (start .args .a .now) (start .args .k) (start .args .x)) (start .args .n) (start .args .endless) (start .args .j) (at-if1 .if1 .left), start .pre .1 .2 .positions, start .pre .1 .2 .rows)
 
   copies-add-next : copies-lts.Need-add-next (copies-uses t) (copies-at t) copies.Post
   copies-add-next c =
-      let c-child = c .before .before .before .before .before .child in
-      let c-start = c .before .before .before .before .before .before .before .before .before in
-      let c-if1 = c .before .before .before .before .before .before .before .if1 in
-      let c-rows2 = c .rows2 in
-      omega (arith, c-child .ensures .size, copies-low (childAt (c-start .args .a .now) (c-start .args .k) (c-start .args .x)) (c-start .args .n) (c-start .args .endless) (c-start .args .j) (c-if1 .left), c-start .pre .1 .2 .positions, c-start .pre .1 .2 .rows, c-rows2 .ensures, rows-most (c-child .result .size))
+      let at-child = c .before .before .before .before .before in
+      let at-if1 = at-child .before .before in
+      let start = at-if1 .before .before in
+      omega (arith, at-child .child .ensures .size, copies-low (childAt (start .args .a .now) (start .args .k) (start .args .x)) (start .args .n) (start .args .endless) (start .args .j) (at-if1 .if1 .left), start .pre .1 .2 .positions, start .pre .1 .2 .rows, c .rows2 .ensures, rows-most (at-child .child .result .size))
 
   copies-sub-copies : copies-lts.Need-sub-copies (copies-uses t) (copies-at t) copies.Post
   copies-sub-copies c =
-      let c-start = c .before .before .before .before .before .before .before .before .before .before in
-      let c-if1 = c .before .before .before .before .before .before .before .before .if1 in
-      let c-if3 = c .before .before .if3 in
-      let c-if4 = c .if4 in
-      omega (arith, fewer (childAt (c-start .args .a .now) (c-start .args .k) (c-start .args .x)) (c-start .args .n) (c-start .args .endless) (c-start .args .j) (c-if1 .left) (c-if3 .left) (c-if4 .taken))
+      let at-if3 = c .before .before in
+      let at-if1 = at-if3 .before .before .before .before .before .before in
+      let start = at-if1 .before .before in
+      omega (arith, fewer (childAt (start .args .a .now) (start .args .k) (start .args .x)) (start .args .n) (start .args .endless) (start .args .j) (at-if1 .if1 .left) (at-if3 .if3 .left) (c .if4 .taken))
 
   copies-add-copies : copies-lts.Need-add-copies (copies-uses t) (copies-at t) copies.Post
   copies-add-copies c =
-      let c-child = c .before .before .before .before .before .before .before .child in
-      let c-start = c .before .before .before .before .before .before .before .before .before .before .before in
-      let c-if1 = c .before .before .before .before .before .before .before .before .before .if1 in
-      omega (arith, c-child .ensures .size, copies-low (childAt (c-start .args .a .now) (c-start .args .k) (c-start .args .x)) (c-start .args .n) (c-start .args .endless) (c-start .args .j) (c-if1 .left), c-start .pre .1 .2 .positions, c-start .pre .1 .2 .rows)
+      let at-child = copies-to-child (c .before) in
+      let at-if1 = at-child .before .before in
+      let start = at-if1 .before .before in
+      omega (arith, at-child .child .ensures .size, copies-low (childAt (start .args .a .now) (start .args .k) (start .args .x)) (start .args .n) (start .args .endless) (start .args .j) (at-if1 .if1 .left), start .pre .1 .2 .positions, start .pre .1 .2 .rows)
 
   copies-copies-requires : copies-lts.Need-copies-requires (copies-uses t) (copies-at t) copies.Post
   copies-copies-requires c κs =
-      let c-start = c .before .before .before .before .before .before .before .before .before .before .before .before in
-      let c-if1 = c .before .before .before .before .before .before .before .before .before .before .if1 in
-      let c-if3 = c .before .before .before .before .if3 in
-      let c-if4 = c .before .before .if4 in
-      let c-child = c .before .before .before .before .before .before .before .before .child in
-      let c-rows2 = c .before .before .before .rows2 in
-      (omega (arith, fewer (childAt (c-start .args .a .now) (c-start .args .k) (c-start .args .x)) (c-start .args .n) (c-start .args .endless) (c-start .args .j) (c-if1 .left) (c-if3 .left) (c-if4 .taken)), (omega arith, omega (arith, c-start .pre .1 .1), room-second (c-start .pre .1 .2) (repeated (write (childAt (c-start .args .a .now) (c-start .args .k) (c-start .args .x))) 0 (extra false (c-start .args .j - 1))) (sum-0 (childAt (c-start .args .a .now) (c-start .args .k) (c-start .args .x)) (c-start .args .n) (c-start .args .endless) (c-start .args .j) (c-if1 .left) (c-if3 .left) (c-if4 .taken)) (c-child .ensures) (c-rows2 .ensures)))
+      let at-if4 = c .before .before in
+      let at-rows2 = at-if4 .before in
+      let at-if3 = at-rows2 .before in
+      let at-child = at-if3 .before .before .before .before in
+      let at-if1 = at-child .before .before in
+      let start = at-if1 .before .before in
+      (omega (arith, fewer (childAt (start .args .a .now) (start .args .k) (start .args .x)) (start .args .n) (start .args .endless) (start .args .j) (at-if1 .if1 .left) (at-if3 .if3 .left) (at-if4 .if4 .taken)), (omega arith, omega (arith, start .pre .1 .1), room-second (start .pre .1 .2) (repeated (write (childAt (start .args .a .now) (start .args .k) (start .args .x))) 0 (extra false (start .args .j - 1))) (sum-0 (childAt (start .args .a .now) (start .args .k) (start .args .x)) (start .args .n) (start .args .endless) (start .args .j) (at-if1 .if1 .left) (at-if3 .if3 .left) (at-if4 .if4 .taken)) (at-child .child .ensures) (at-rows2 .rows2 .ensures)))
 
   copies-then-requires : copies-lts.Need-then-requires (copies-uses t) (copies-at t) copies.Post
   copies-then-requires c κs =
-      let c-start = c .before .before .before .before .before .before .before .before .before .before .before .before .before .before in
-      let c-if1 = c .before .before .before .before .before .before .before .before .before .before .before .before .if1 in
-      let c-if3 = c .before .before .before .before .before .before .if3 in
-      let c-if4 = c .before .before .before .before .if4 in
-      let c-child = c .before .before .before .before .before .before .before .before .before .before .child in
-      let c-rows2 = c .before .before .before .before .before .rows2 in
-      let c-copies = c .before .copies in
-      room-joined (c-start .pre .1 .2) (repeated (write (childAt (c-start .args .a .now) (c-start .args .k) (c-start .args .x))) 0 (extra false (c-start .args .j - 1))) (sum-0 (childAt (c-start .args .a .now) (c-start .args .k) (c-start .args .x)) (c-start .args .n) (c-start .args .endless) (c-start .args .j) (c-if1 .left) (c-if3 .left) (c-if4 .taken)) (c-child .ensures) (c-rows2 .result) (c-copies .ensures)
+      let at-copies = c .before in
+      let at-if4 = at-copies .before .before .before in
+      let at-rows2 = at-if4 .before in
+      let at-if3 = at-rows2 .before in
+      let at-child = at-if3 .before .before .before .before in
+      let at-if1 = at-child .before .before in
+      let start = at-if1 .before .before in
+      room-joined (start .pre .1 .2) (repeated (write (childAt (start .args .a .now) (start .args .k) (start .args .x))) 0 (extra false (start .args .j - 1))) (sum-0 (childAt (start .args .a .now) (start .args .k) (start .args .x)) (start .args .n) (start .args .endless) (start .args .j) (at-if1 .if1 .left) (at-if3 .if3 .left) (at-if4 .if4 .taken)) (at-child .child .ensures) (at-rows2 .rows2 .result) (at-copies .copies .ensures)
 
   copies-returns-4 : copies-lts.Need-returns-4 (copies-uses t) (copies-at t) copies.Post
   copies-returns-4 c =
-      let c-start = c .before .before .before .before .before .before .before .before .before .before .before .before .before .before .before in
-      let c-if1 = c .before .before .before .before .before .before .before .before .before .before .before .before .before .if1 in
-      let c-if3 = c .before .before .before .before .before .before .before .if3 in
-      let c-child = c .before .before .before .before .before .before .before .before .before .before .before .child in
-      let c-rows2 = c .before .before .before .before .before .before .rows2 in
-      let c-if4 = c .before .before .before .before .before .if4 in
-      let c-copies = c .before .before .copies in
-      let c-then = c .then in
-      copies-opt (childAt (c-start .args .a .now) (c-start .args .k) (c-start .args .x)) (c-start .args .n) (c-start .args .endless) (c-start .args .j) (c-if1 .left) (c-if3 .left) (c-start .pre .1 .2) (c-child .ensures) (c-rows2 .ensures) (c-if4 .taken) (c-copies .ensures) (c-then .ensures) refl refl
+      let at-copies = c .before .before in
+      let at-if4 = at-copies .before .before .before in
+      let at-rows2 = at-if4 .before in
+      let at-if3 = at-rows2 .before in
+      let at-child = at-if3 .before .before .before .before in
+      let at-if1 = at-child .before .before in
+      let start = at-if1 .before .before in
+      copies-opt (childAt (start .args .a .now) (start .args .k) (start .args .x)) (start .args .n) (start .args .endless) (start .args .j) (at-if1 .if1 .left) (at-if3 .if3 .left) (start .pre .1 .2) (at-child .child .ensures) (at-rows2 .rows2 .ensures) (at-if4 .if4 .taken) (at-copies .copies .ensures) (c .then .ensures) refl refl
 
   copies-sub-copies-2 : copies-lts.Need-sub-copies-2 (copies-uses t) (copies-at t) copies.Post
   copies-sub-copies-2 c =
@@ -228,43 +228,42 @@ module _ (t : ℕ) where
 
   copies-add-copies-2 : copies-lts.Need-add-copies-2 (copies-uses t) (copies-at t) copies.Post
   copies-add-copies-2 c =
-      let c-child = c .before .before .before .before .before .before .before .child in
-      let c-start = c .before .before .before .before .before .before .before .before .before .before .before in
-      let c-if1 = c .before .before .before .before .before .before .before .before .before .if1 in
-      omega (arith, c-child .ensures .size, copies-low (childAt (c-start .args .a .now) (c-start .args .k) (c-start .args .x)) (c-start .args .n) (c-start .args .endless) (c-start .args .j) (c-if1 .left), c-start .pre .1 .2 .positions, c-start .pre .1 .2 .rows)
+      let at-child = copies-to-childa (c .before) in
+      let at-if1 = at-child .before .before in
+      let start = at-if1 .before .before in
+      omega (arith, at-child .child .ensures .size, copies-low (childAt (start .args .a .now) (start .args .k) (start .args .x)) (start .args .n) (start .args .endless) (start .args .j) (at-if1 .if1 .left), start .pre .1 .2 .positions, start .pre .1 .2 .rows)
 
   copies-copies-requires-2 : copies-lts.Need-copies-requires-2 (copies-uses t) (copies-at t) copies.Post
   copies-copies-requires-2 c κs =
-      let c-if4 = c .before .before .if4 in
-      let c-start = c .before .before .before .before .before .before .before .before .before .before .before .before in
-      let c-if1 = c .before .before .before .before .before .before .before .before .before .before .if1 in
-      let c-if3 = c .before .before .before .before .if3 in
-      let c-child = c .before .before .before .before .before .before .before .before .child in
-      let c-rows2 = c .before .before .before .rows2 in
-      (omega (arith, c-if4 .left), (omega (arith, c-start .pre .1 .0), c-start .pre .1 .1, room-second (c-start .pre .1 .2) (repeated (write (childAt (c-start .args .a .now) (c-start .args .k) (c-start .args .x))) (c-start .args .n - 1) (extra (c-start .args .endless) (c-start .args .j))) (sum-n (childAt (c-start .args .a .now) (c-start .args .k) (c-start .args .x)) (c-start .args .n) (c-start .args .endless) (c-start .args .j) (c-if1 .left) (c-if3 .left) (c-if4 .left)) (c-child .ensures) (c-rows2 .ensures)))
+      let at-if4 = c .before .before in
+      let at-rows2 = at-if4 .before in
+      let at-if3 = at-rows2 .before in
+      let at-child = at-if3 .before .before .before .before in
+      let at-if1 = at-child .before .before in
+      let start = at-if1 .before .before in
+      (omega (arith, at-if4 .if4 .left), (omega (arith, start .pre .1 .0), start .pre .1 .1, room-second (start .pre .1 .2) (repeated (write (childAt (start .args .a .now) (start .args .k) (start .args .x))) (start .args .n - 1) (extra (start .args .endless) (start .args .j))) (sum-n (childAt (start .args .a .now) (start .args .k) (start .args .x)) (start .args .n) (start .args .endless) (start .args .j) (at-if1 .if1 .left) (at-if3 .if3 .left) (at-if4 .if4 .left)) (at-child .child .ensures) (at-rows2 .rows2 .ensures)))
 
   copies-then-requires-2 : copies-lts.Need-then-requires-2 (copies-uses t) (copies-at t) copies.Post
   copies-then-requires-2 c κs =
-      let c-start = c .before .before .before .before .before .before .before .before .before .before .before .before .before .before in
-      let c-if1 = c .before .before .before .before .before .before .before .before .before .before .before .before .if1 in
-      let c-if3 = c .before .before .before .before .before .before .if3 in
-      let c-if4 = c .before .before .before .before .if4 in
-      let c-child = c .before .before .before .before .before .before .before .before .before .before .child in
-      let c-rows2 = c .before .before .before .before .before .rows2 in
-      let c-copies2 = c .before .copies2 in
-      room-joined (c-start .pre .1 .2) (repeated (write (childAt (c-start .args .a .now) (c-start .args .k) (c-start .args .x))) (c-start .args .n - 1) (extra (c-start .args .endless) (c-start .args .j))) (sum-n (childAt (c-start .args .a .now) (c-start .args .k) (c-start .args .x)) (c-start .args .n) (c-start .args .endless) (c-start .args .j) (c-if1 .left) (c-if3 .left) (c-if4 .left)) (c-child .ensures) (c-rows2 .result) (c-copies2 .ensures)
+      let at-copies2 = c .before in
+      let at-if4 = at-copies2 .before .before .before in
+      let at-rows2 = at-if4 .before in
+      let at-if3 = at-rows2 .before in
+      let at-child = at-if3 .before .before .before .before in
+      let at-if1 = at-child .before .before in
+      let start = at-if1 .before .before in
+      room-joined (start .pre .1 .2) (repeated (write (childAt (start .args .a .now) (start .args .k) (start .args .x))) (start .args .n - 1) (extra (start .args .endless) (start .args .j))) (sum-n (childAt (start .args .a .now) (start .args .k) (start .args .x)) (start .args .n) (start .args .endless) (start .args .j) (at-if1 .if1 .left) (at-if3 .if3 .left) (at-if4 .if4 .left)) (at-child .child .ensures) (at-rows2 .rows2 .result) (at-copies2 .copies2 .ensures)
 
   copies-returns-5 : copies-lts.Need-returns-5 (copies-uses t) (copies-at t) copies.Post
   copies-returns-5 c =
-      let c-start = c .before .before .before .before .before .before .before .before .before .before .before .before .before .before .before in
-      let c-if1 = c .before .before .before .before .before .before .before .before .before .before .before .before .before .if1 in
-      let c-if3 = c .before .before .before .before .before .before .before .if3 in
-      let c-child = c .before .before .before .before .before .before .before .before .before .before .before .child in
-      let c-rows2 = c .before .before .before .before .before .before .rows2 in
-      let c-if4 = c .before .before .before .before .before .if4 in
-      let c-copies2 = c .before .before .copies2 in
-      let c-then2 = c .then2 in
-      copies-then (childAt (c-start .args .a .now) (c-start .args .k) (c-start .args .x)) (c-start .args .n) (c-start .args .endless) (c-start .args .j) (c-if1 .left) (c-if3 .left) (c-start .pre .1 .2) (c-child .ensures) (c-rows2 .ensures) (c-if4 .left) (c-copies2 .ensures) (c-then2 .ensures)
+      let at-copies2 = c .before .before in
+      let at-if4 = at-copies2 .before .before .before in
+      let at-rows2 = at-if4 .before in
+      let at-if3 = at-rows2 .before in
+      let at-child = at-if3 .before .before .before .before in
+      let at-if1 = at-child .before .before in
+      let start = at-if1 .before .before in
+      copies-then (childAt (start .args .a .now) (start .args .k) (start .args .x)) (start .args .n) (start .args .endless) (start .args .j) (at-if1 .if1 .left) (at-if3 .if3 .left) (start .pre .1 .2) (at-child .child .ensures) (at-rows2 .rows2 .ensures) (at-if4 .if4 .left) (at-copies2 .copies2 .ensures) (c .then2 .ensures)
 
   node-word-requires : node-lts.Need-word-requires (node-uses t) (node-at t) node.Post
   node-word-requires c κs = tt
@@ -304,96 +303,92 @@ module _ (t : ℕ) where
 
   node-add-child : node-lts.Need-add-child (node-uses t) (node-at t) node.Post
   node-add-child c =
-      let c-child = c .before .child in
-      let c-start = c .before .before .before .before .before .before .before .before in
-      let c-word = c .before .before .before .before .before .before .word in
-      let c-if3 = c .before .before .before .if3 in
-      omega (arith, c-child .ensures .size, pair-positions (c-start .args .a .now) (c-start .args .k) (c-word .result) (c-word .ensures) (c-if3 .taken), c-start .pre .1 .positions, c-start .pre .1 .rows)
+      let at-child = c .before in
+      let at-if3 = at-child .before .before in
+      let at-word = at-if3 .before .before .before in
+      let start = at-word .before .before in
+      omega (arith, at-child .child .ensures .size, pair-positions (start .args .a .now) (start .args .k) (at-word .word .result) (at-word .word .ensures) (at-if3 .if3 .taken), start .pre .1 .positions, start .pre .1 .rows)
 
   node-rows-requires : node-lts.Need-rows-requires (node-uses t) (node-at t) node.Post
   node-rows-requires c κs =
-      let c-child = c .before .child in
-      let c-start = c .before .before .before .before .before .before .before .before in
-      let c-word = c .before .before .before .before .before .before .word in
-      let c-if3 = c .before .before .before .if3 in
-      omega (arith, c-child .ensures .size, pair-positions (c-start .args .a .now) (c-start .args .k) (c-word .result) (c-word .ensures) (c-if3 .taken), c-start .pre .1 .positions, c-start .pre .1 .rows)
+      let at-child = c .before in
+      let at-if3 = at-child .before .before in
+      let at-word = at-if3 .before .before .before in
+      let start = at-word .before .before in
+      omega (arith, at-child .child .ensures .size, pair-positions (start .args .a .now) (start .args .k) (at-word .word .result) (at-word .word .ensures) (at-if3 .if3 .taken), start .pre .1 .positions, start .pre .1 .rows)
 
   node-add-child-2 : node-lts.Need-add-child-2 (node-uses t) (node-at t) node.Post
   node-add-child-2 c =
-      let c-child = c .before .before .child in
-      let c-start = c .before .before .before .before .before .before .before .before .before in
-      let c-word = c .before .before .before .before .before .before .before .word in
-      let c-if3 = c .before .before .before .before .if3 in
-      let c-rows = c .rows in
-      omega (arith, c-child .ensures .size, pair-positions (c-start .args .a .now) (c-start .args .k) (c-word .result) (c-word .ensures) (c-if3 .taken), c-start .pre .1 .positions, c-start .pre .1 .rows, c-rows .ensures, rows-most (c-child .result .size))
+      let at-child = c .before .before in
+      let at-if3 = at-child .before .before in
+      let at-word = at-if3 .before .before .before in
+      let start = at-word .before .before in
+      omega (arith, at-child .child .ensures .size, pair-positions (start .args .a .now) (start .args .k) (at-word .word .result) (at-word .word .ensures) (at-if3 .if3 .taken), start .pre .1 .positions, start .pre .1 .rows, c .rows .ensures, rows-most (at-child .child .result .size))
 
   node-child-requires-2 : node-lts.Need-child-requires-2 (node-uses t) (node-at t) node.Post
   node-child-requires-2 c κs =
-      let c-start = c .before .before .before .before .before .before .before .before .before .before in
-      let c-word = c .before .before .before .before .before .before .before .before .word in
-      let c-if3 = c .before .before .before .before .before .if3 in
-      let c-child = c .before .before .before .child in
-      let c-rows = c .before .rows in
-      (omega arith, room-second (c-start .pre .1) (childForm (c-start .args .a .now) (c-start .args .k) (yOf (c-word .result))) (pair-positions (c-start .args .a .now) (c-start .args .k) (c-word .result) (c-word .ensures) (c-if3 .taken)) (c-child .ensures) (c-rows .ensures))
+      let at-rows = c .before in
+      let at-child = at-rows .before .before in
+      let at-if3 = at-child .before .before in
+      let at-word = at-if3 .before .before .before in
+      let start = at-word .before .before in
+      (omega arith, room-second (start .pre .1) (childForm (start .args .a .now) (start .args .k) (yOf (at-word .word .result))) (pair-positions (start .args .a .now) (start .args .k) (at-word .word .result) (at-word .word .ensures) (at-if3 .if3 .taken)) (at-child .child .ensures) (at-rows .rows .ensures))
 
   node-then-requires : node-lts.Need-then-requires (node-uses t) (node-at t) node.Post
   node-then-requires c κs =
-      let c-start = c .before .before .before .before .before .before .before .before .before .before .before .before .before in
-      let c-word = c .before .before .before .before .before .before .before .before .before .before .before .word in
-      let c-if3 = c .before .before .before .before .before .before .before .before .if3 in
-      let c-child = c .before .before .before .before .before .before .child in
-      let c-rows = c .before .before .before .before .rows in
-      let c-child2 = c .before .before .child2 in
-      room-joined (c-start .pre .1) (childForm (c-start .args .a .now) (c-start .args .k) (yOf (c-word .result))) (pair-positions (c-start .args .a .now) (c-start .args .k) (c-word .result) (c-word .ensures) (c-if3 .taken)) (c-child .ensures) (c-rows .result) (c-child2 .ensures)
+      let at-child2 = c .before .before in
+      let at-rows = at-child2 .before .before in
+      let at-child = at-rows .before .before in
+      let at-if3 = at-child .before .before in
+      let at-word = at-if3 .before .before .before in
+      let start = at-word .before .before in
+      room-joined (start .pre .1) (childForm (start .args .a .now) (start .args .k) (yOf (at-word .word .result))) (pair-positions (start .args .a .now) (start .args .k) (at-word .word .result) (at-word .word .ensures) (at-if3 .if3 .taken)) (at-child .child .ensures) (at-rows .rows .result) (at-child2 .child2 .ensures)
 
   node-returns-3 : node-lts.Need-returns-3 (node-uses t) (node-at t) node.Post
   node-returns-3 c =
-      let c-start = c .before .before .before .before .before .before .before .before .before .before .before .before .before .before in
-      let c-word = c .before .before .before .before .before .before .before .before .before .before .before .before .word in
-      let c-if3 = c .before .before .before .before .before .before .before .before .before .if3 in
-      let c-child = c .before .before .before .before .before .before .before .child in
-      let c-rows = c .before .before .before .before .before .rows in
-      let c-if4 = c .before .before .if4 in
-      let c-child2 = c .before .before .before .child2 in
-      let c-then = c .then in
-      both-seq (c-start .pre .1) (childForm (c-start .args .a .now) (c-start .args .k) (yOf (c-word .result))) (pair-positions (c-start .args .a .now) (c-start .args .k) (c-word .result) (c-word .ensures) (c-if3 .taken)) (c-child .ensures) (c-rows .ensures) (form-seq (c-start .args .a .now) (c-start .args .k) (c-word .result) (c-word .ensures) (c-if4 .taken)) (c-child2 .ensures) (c-then .ensures)
+      let at-if4 = c .before .before in
+      let at-child2 = at-if4 .before in
+      let at-rows = at-child2 .before .before in
+      let at-child = at-rows .before .before in
+      let at-if3 = at-child .before .before in
+      let at-word = at-if3 .before .before .before in
+      let start = at-word .before .before in
+      both-seq (start .pre .1) (childForm (start .args .a .now) (start .args .k) (yOf (at-word .word .result))) (pair-positions (start .args .a .now) (start .args .k) (at-word .word .result) (at-word .word .ensures) (at-if3 .if3 .taken)) (at-child .child .ensures) (at-rows .rows .ensures) (form-seq (start .args .a .now) (start .args .k) (at-word .word .result) (at-word .word .ensures) (at-if4 .if4 .taken)) (at-child2 .child2 .ensures) (c .then .ensures)
 
   node-or-requires : node-lts.Need-or-requires (node-uses t) (node-at t) node.Post
   node-or-requires c κs =
-      let c-start = c .before .before .before .before .before .before .before .before .before .before .before .before .before in
-      let c-word = c .before .before .before .before .before .before .before .before .before .before .before .word in
-      let c-if3 = c .before .before .before .before .before .before .before .before .if3 in
-      let c-child = c .before .before .before .before .before .before .child in
-      let c-rows = c .before .before .before .before .rows in
-      let c-child2 = c .before .before .child2 in
-      room-joined (c-start .pre .1) (childForm (c-start .args .a .now) (c-start .args .k) (yOf (c-word .result))) (pair-positions (c-start .args .a .now) (c-start .args .k) (c-word .result) (c-word .ensures) (c-if3 .taken)) (c-child .ensures) (c-rows .result) (c-child2 .ensures)
+      let at-child2 = c .before .before in
+      let at-rows = at-child2 .before .before in
+      let at-child = at-rows .before .before in
+      let at-if3 = at-child .before .before in
+      let at-word = at-if3 .before .before .before in
+      let start = at-word .before .before in
+      room-joined (start .pre .1) (childForm (start .args .a .now) (start .args .k) (yOf (at-word .word .result))) (pair-positions (start .args .a .now) (start .args .k) (at-word .word .result) (at-word .word .ensures) (at-if3 .if3 .taken)) (at-child .child .ensures) (at-rows .rows .result) (at-child2 .child2 .ensures)
 
   node-returns-4 : node-lts.Need-returns-4 (node-uses t) (node-at t) node.Post
   node-returns-4 c =
-      let c-start = c .before .before .before .before .before .before .before .before .before .before .before .before .before .before in
-      let c-word = c .before .before .before .before .before .before .before .before .before .before .before .before .word in
-      let c-if3 = c .before .before .before .before .before .before .before .before .before .if3 in
-      let c-child = c .before .before .before .before .before .before .before .child in
-      let c-rows = c .before .before .before .before .before .rows in
-      let c-if4 = c .before .before .if4 in
-      let c-child2 = c .before .before .before .child2 in
-      let c-or = c .or in
-      both-alt (c-start .pre .1) (childForm (c-start .args .a .now) (c-start .args .k) (yOf (c-word .result))) (pair-positions (c-start .args .a .now) (c-start .args .k) (c-word .result) (c-word .ensures) (c-if3 .taken)) (c-child .ensures) (c-rows .ensures) (form-alt (c-start .args .a .now) (c-start .args .k) (c-word .result) (c-word .ensures) (c-if3 .taken) (c-if4 .left)) (c-child2 .ensures) (c-or .ensures)
+      let at-if4 = c .before .before in
+      let at-child2 = at-if4 .before in
+      let at-rows = at-child2 .before .before in
+      let at-child = at-rows .before .before in
+      let at-if3 = at-child .before .before in
+      let at-word = at-if3 .before .before .before in
+      let start = at-word .before .before in
+      both-alt (start .pre .1) (childForm (start .args .a .now) (start .args .k) (yOf (at-word .word .result))) (pair-positions (start .args .a .now) (start .args .k) (at-word .word .result) (at-word .word .ensures) (at-if3 .if3 .taken)) (at-child .child .ensures) (at-rows .rows .ensures) (form-alt (start .args .a .now) (start .args .k) (at-word .word .result) (at-word .word .ensures) (at-if3 .if3 .taken) (at-if4 .if4 .left)) (at-child2 .child2 .ensures) (c .or .ensures)
 
   node-copies-requires : node-lts.Need-copies-requires (node-uses t) (node-at t) node.Post
   node-copies-requires c κs =
-      let c-start = c .before .before .before .before .before .before .before in
-      let c-word = c .before .before .before .before .before .word in
-      let c-if5 = c .before .if5 in
-      (omega arith, (omega arith, omega arith, room-part (c-start .pre .1) (omega (arith, ap positions (form-repeated (c-start .args .a .now) (c-start .args .k) (c-word .result) (c-word .ensures) (c-if5 .taken))))))
+      let at-if5 = c .before in
+      let at-word = at-if5 .before .before .before .before in
+      let start = at-word .before .before in
+      (omega arith, (omega arith, omega arith, room-part (start .pre .1) (omega (arith, ap positions (form-repeated (start .args .a .now) (start .args .k) (at-word .word .result) (at-word .word .ensures) (at-if5 .if5 .taken))))))
 
   node-returns-5 : node-lts.Need-returns-5 (node-uses t) (node-at t) node.Post
   node-returns-5 c =
-      let c-start = c .before .before .before .before .before .before .before .before in
-      let c-word = c .before .before .before .before .before .before .word in
-      let c-if5 = c .before .before .if5 in
-      let c-copies = c .copies in
-      made-as (c-start .args .a .now) (c-start .args .b) (c-start .args .at) (c-start .args .out .now) (form-repeated (c-start .args .a .now) (c-start .args .k) (c-word .result) (c-word .ensures) (c-if5 .taken)) (c-copies .ensures)
+      let at-if5 = c .before .before in
+      let at-word = at-if5 .before .before .before .before in
+      let start = at-word .before .before in
+      made-as (start .args .a .now) (start .args .b) (start .args .at) (start .args .out .now) (form-repeated (start .args .a .now) (start .args .k) (at-word .word .result) (at-word .word .ensures) (at-if5 .if5 .taken)) (c .copies .ensures)
 
   node-returns-6 : node-lts.Need-returns-6 (node-uses t) (node-at t) node.Post
   node-returns-6 c =

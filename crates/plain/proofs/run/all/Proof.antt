@@ -9,13 +9,17 @@ use Rattle.plain.proofs.Runs.{last-runs, last-stands, closing-runs, clo
 use borrow.Author.Needs.{needs}
 use Rattle.plain.proofs.run.all.Statement.{statement}
 use Rattle.plain.proofs.run.all.Tie as tie
-use Rattle.plain.proofs.run.all.Reads as reads
-use Rattle.plain.proofs.run.all.Lts as lts
-use Rattle.plain.proofs.run.close.Reads as close-reads
-use Rattle.plain.proofs.run.run.Reads as run-reads
-use Rattle.plain.proofs.run.step.Reads as step-reads
 
--- src/run.rt:244:9
+-- what was known before, from a later place
+abbrev begun : tie.Else1 → tie.Start
+begun c = c .before .before .before .before .before .before
+
+abbrev to-run : tie.After-step-arg → tie.After-run
+to-run c = c .before .before .before .before .before .before
+
+abbrev to-step : tie.After-close-arg → tie.After-step
+to-step c = c .before .before .before .before .before .before
+
 returns : tie.Need-returns
 unfolding closed
 returns c =
@@ -24,62 +28,53 @@ returns c =
     let e : length (c-start .args .log .now) ≡ 0 = c-if1 .taken in
     rw e (delivered-none (c-start .args .wanted) (lent (c-start .args .offsets .now) (c-start .args .starts .now)))
 
--- src/run.rt:247:56
 sub-run : tie.Need-sub-run
 sub-run c = search needs
 
--- src/run.rt:247:9
 run-requires : tie.Need-run-requires
 unfolding marksAt
 run-requires c κs =
-    let c-start = c .before .before .before .before .before .before .before .before .before in
-    (record { room = c-start .pre .room; plays = c-start .pre .plays; within = omega arith; short = c-start .pre .short; space = c-start .pre .space }, refl)
+    let start = begun (c .before .before .before) in
+    (record { room = start .pre .room; plays = start .pre .plays; within = omega arith; short = start .pre .short; space = start .pre .space }, refl)
 
--- src/run.rt:249:59
 sub-step : tie.Need-sub-step
 sub-step c = search needs
 
--- src/run.rt:249:9
 step-requires : tie.Need-step-requires
 step-requires c κs =
-    let c-start = c .before .before .before .before .before .before .before .before .before .before .before .before .before .before .before .before .before in
-    let c-if1 = c .before .before .before .before .before .before .before .before .before .before .before .if1 in
-    let c-run = c .before .before .before .before .before .before .before .run in
-    let last : suc (length (c-start .args .log .now) - 1) ≡ length (c-start .args .log .now) = omega (arith, c-if1 .left) in
-    (last-runs (c-start .pre) last (c-run .ensures), last-stands (c-start .pre) last (c-run .ensures))
+    let at-run = to-run (c .before) in
+    let at-if1 = at-run .before .before .before .before in
+    let start = at-if1 .before .before .before .before .before .before in
+    let last : suc (length (start .args .log .now) - 1) ≡ length (start .args .log .now) = omega (arith, at-if1 .if1 .left) in
+    (last-runs (start .pre) last (at-run .run .ensures), last-stands (start .pre) last (at-run .run .ensures))
 
--- src/run.rt:257:9
 sub-close : tie.Need-sub-close
 sub-close c = search needs
 
--- src/run.rt:250:5
 close-requires : tie.Need-close-requires
 close-requires c κs =
-    let c-start = c .before .before .before .before .before .before .before .before .before .before .before .before .before .before .before .before .before .before .before .before .before .before .before .before .before in
-    let c-if1 = c .before .before .before .before .before .before .before .before .before .before .before .before .before .before .before .before .before .before .before .if1 in
-    let c-run = c .before .before .before .before .before .before .before .before .before .before .before .before .before .before .before .run in
-    let c-step = c .before .before .before .before .before .before .before .step in
-    let last : suc (length (c-start .args .log .now) - 1) ≡ length (c-start .args .log .now) = omega (arith, c-if1 .left) in
-    (closing-runs (c-start .pre) last (c-run .ensures) (c-step .ensures), closing-asks (c-start .pre) last (c-run .ensures) (c-step .ensures))
+    let at-step = to-step (c .before) in
+    let at-run = to-run (at-step .before .before) in
+    let at-if1 = at-run .before .before .before .before in
+    let start = at-if1 .before .before .before .before .before .before in
+    let last : suc (length (start .args .log .now) - 1) ≡ length (start .args .log .now) = omega (arith, at-if1 .if1 .left) in
+    (closing-runs (start .pre) last (at-run .run .ensures) (at-step .step .ensures), closing-asks (start .pre) last (at-run .run .ensures) (at-step .step .ensures))
 
--- src/run.rt:229:1
 same-length : tie.Need-same-length
 same-length c = search needs
 
--- src/run.rt:229:1
 same-length-2 : tie.Need-same-length-2
 same-length-2 c = search needs
 
--- src/run.rt:229:1
 returns-2 : tie.Need-returns-2
 returns-2 c =
-    let c-start = c .before .before .before .before .before .before .before .before .before .before .before .before .before .before .before .before .before .before .before .before .before .before .before .before .before .before .before .before .before .before in
-    let c-if1 = c .before .before .before .before .before .before .before .before .before .before .before .before .before .before .before .before .before .before .before .before .before .before .before .before .if1 in
-    let c-run = c .before .before .before .before .before .before .before .before .before .before .before .before .before .before .before .before .before .before .before .before .run in
-    let c-step = c .before .before .before .before .before .before .before .before .before .before .before .before .step in
-    let c-close = c .before .before .before .before .close in
-    let last : suc (length (c-start .args .log .now) - 1) ≡ length (c-start .args .log .now) = omega (arith, c-if1 .left) in
-    whole-is (c-start .pre) last (c-run .ensures) (c-step .ensures) (c-close .ensures)
+    let at-close = c .before .before .before .before in
+    let at-step = to-step (at-close .before .before) in
+    let at-run = to-run (at-step .before .before) in
+    let at-if1 = at-run .before .before .before .before in
+    let start = at-if1 .before .before .before .before .before .before in
+    let last : suc (length (start .args .log .now) - 1) ≡ length (start .args .log .now) = omega (arith, at-if1 .if1 .left) in
+    whole-is (start .pre) last (at-run .run .ensures) (at-step .step .ensures) (at-close .close .ensures)
 
 pub all-spec : {M : Type 1} → statement M
 all-spec =

@@ -4,40 +4,35 @@ use Rattle.plain.proofs.Reports.{second-room, both-more}
 use borrow.Author.Needs.{needs}
 use Rattle.plain.proofs.run.both.Statement.{statement}
 use Rattle.plain.proofs.run.both.Tie as tie
-use Rattle.plain.proofs.run.both.Reads as reads
-use Rattle.plain.proofs.run.both.Lts as lts
-use Rattle.plain.proofs.run.report.Reads as report-reads
 
--- src/run.rt:144:9
+-- what was known before, from a later place
+abbrev to-report : tie.After-report-arg4 → tie.After-report
+to-report c = c .before .before .before .before .before .before
+
 report-requires : tie.Need-report-requires
 report-requires c κs = search needs
 
--- src/run.rt:145:48
 add-report : tie.Need-add-report
 add-report c = search needs
 
--- src/run.rt:145:5
 report-requires-2 : tie.Need-report-requires-2
 report-requires-2 c κs =
-    let c-start = c .before .before .before .before .before .before .before .before .before .before .before in
-    let c-report = c .before .before .before .before .before .before .report in
-    second-room (c-start .args .second) (c-start .args .y) (omega arith) (c-start .pre .0) (c-report .ensures)
+    let at-report = c .before .before .before .before .before .before in
+    let start = at-report .before .before .before .before .before in
+    second-room (start .args .second) (start .args .y) (omega arith) (start .pre .0) (at-report .report .ensures)
 
--- src/run.rt:130:1
 same-length : tie.Need-same-length
 same-length c = search needs
 
--- src/run.rt:130:1
 same-length-2 : tie.Need-same-length-2
 same-length-2 c = search needs
 
--- src/run.rt:130:1
 returns : tie.Need-returns
 returns c =
-    let c-start = c .before .before .before .before .before .before .before .before .before .before .before .before .before .before .before .before in
-    let c-report = c .before .before .before .before .before .before .before .before .before .before .before .report in
-    let c-report2 = c .before .before .before .before .report2 in
-    both-more (c-start .args .second) (c-start .args .y) (omega arith) (c-start .pre .0) (c-report .ensures) (c-report2 .ensures)
+    let at-report2 = c .before .before .before .before in
+    let at-report = to-report (at-report2 .before) in
+    let start = at-report .before .before .before .before .before in
+    both-more (start .args .second) (start .args .y) (omega arith) (start .pre .0) (at-report .report .ensures) (at-report2 .report2 .ensures)
 
 pub both-spec : {M : Type 1} → statement M
 both-spec =

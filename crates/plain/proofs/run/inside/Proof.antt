@@ -5,24 +5,19 @@ use Rattle.plain.specs.Answer.{windowsOf}
 use Rattle.plain.proofs.Windows.{outside, out-of-bounds, in-bounds}
 use Rattle.plain.proofs.run.inside.Statement.{statement}
 use Rattle.plain.proofs.run.inside.Tie as tie
-use Rattle.plain.proofs.run.inside.Reads as reads
-use Rattle.plain.proofs.run.inside.Lts as lts
 
--- src/run.rt:91:9
 returns : tie.Need-returns
 returns c =
     let c-start = c .before .before .before in
     let c-if1 = c .if1 in
     out-of-bounds (windowsOf (c-start .args .bounds)) (c-start .args .e) (c-start .args .x) (c-if1 .taken)
 
--- src/run.rt:94:9
 returns-2 : tie.Need-returns-2
 returns-2 c =
     let c-start = c .before .before .before .before in
     let c-if2 = c .if2 in
     sym (outside (windowsOf (c-start .args .bounds)) (c-start .args .e) (c-start .args .x) (omega (arith, c-if2 .taken)))
 
--- src/run.rt:86:1
 returns-3 : tie.Need-returns-3
 returns-3 c =
     let c-start = c .before .before .before .before .before in

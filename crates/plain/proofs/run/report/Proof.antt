@@ -7,20 +7,13 @@ use Rattle.plain.specs.Run.{lent}
 use Rattle.plain.proofs.Reports.{report-room, report-made, report-not}
 use Rattle.plain.proofs.run.report.Statement.{statement}
 use Rattle.plain.proofs.run.report.Tie as tie
-use Rattle.plain.proofs.run.report.Reads as reads
-use Rattle.plain.proofs.run.report.Lts as lts
-use Rattle.plain.proofs.run.inside.Reads as inside-reads
-use Rattle.plain.proofs.run.start_of.Reads as start-of-reads
 
--- src/run.rt:120:21
 inside-requires : tie.Need-inside-requires
 inside-requires c κs = search needs
 
--- src/run.rt:122:9
 mul-offsets : tie.Need-mul-offsets
 mul-offsets c = search needs
 
--- src/run.rt:122:9
 slice-write-offsets : tie.Need-slice-write-offsets
 slice-write-offsets c =
     let c-start = c .before .before .before .before .before in
@@ -28,15 +21,12 @@ slice-write-offsets c =
     let c-if1 = c .if1 in
     omega (arith, report-room (c-start .args .wanted) (c-start .args .new) (c-start .args .e) (c-start .args .x) (c-start .args .count) (lent (c-start .args .offsets .now) (c-start .args .starts .now)) (c-inside .ensures) (c-if1 .taken) (c-start .pre) .offsets)
 
--- src/run.rt:123:25
 start-of-requires : tie.Need-start-of-requires
 start-of-requires c κs = search needs
 
--- src/run.rt:123:9
 mul-starts : tie.Need-mul-starts
 mul-starts c = search needs
 
--- src/run.rt:123:9
 slice-write-starts : tie.Need-slice-write-starts
 slice-write-starts c =
     let c-start = c .before .before .before .before .before .before in
@@ -44,19 +34,15 @@ slice-write-starts c =
     let c-if1 = c .before .if1 in
     omega (arith, report-room (c-start .args .wanted) (c-start .args .new) (c-start .args .e) (c-start .args .x) (c-start .args .count) (lent (c-start .args .offsets .now) (c-start .args .starts .now)) (c-inside .ensures) (c-if1 .taken) (c-start .pre) .starts)
 
--- src/run.rt:124:16
 add-result : tie.Need-add-result
 add-result c = search needs
 
--- src/run.rt:124:9
 same-length : tie.Need-same-length
 same-length c = search needs
 
--- src/run.rt:124:9
 same-length-2 : tie.Need-same-length-2
 same-length-2 c = search needs
 
--- src/run.rt:124:9
 returns : tie.Need-returns
 returns c =
     let c-start = c .before .before .before .before .before .before in
@@ -65,7 +51,6 @@ returns c =
     let c-start-of = c .start-of in
     report-made (c-start .args .wanted) (c-start .args .new) (c-start .args .e) (c-start .args .x) (c-start .args .count) (lent (c-start .args .offsets .now) (c-start .args .starts .now)) (c-inside .ensures) (c-if1 .taken) (c-start-of .ensures) (omega arith)
 
--- src/run.rt:108:1
 returns-2 : tie.Need-returns-2
 returns-2 c =
     let c-start = c .before .before .before .before .before in

@@ -9,9 +9,6 @@ use Rattle.plain.proofs.Reports.{delivered-none, delivered-few, deliver
 use Rattle.plain.proofs.Runs.{runs-on, up-alike}
 use Rattle.plain.proofs.run.run.Statement.{statement}
 use Rattle.plain.proofs.run.run.Tie as tie
-use Rattle.plain.proofs.run.run.Reads as reads
-use Rattle.plain.proofs.run.run.Lts as lts
-use Rattle.plain.proofs.run.step.Reads as step-reads
 
 abbrev Inv-loop : tie.InvT-loop
 Inv-loop a root parts rows marks₀ log n wanted offsets₀ starts₀ t₀ k₀ marks offsets starts t k =
@@ -21,67 +18,59 @@ Inv-loop a root parts rows marks₀ log n wanted offsets₀ starts₀ t₀ k₀ 
 abbrev μ-loop : tie.MeasureT-loop
 μ-loop a root parts rows marks₀ log n wanted offsets₀ starts₀ t₀ k₀ marks offsets starts t k = n - k
 
--- src/run.rt:221:5
 loop-holds : tie.Need-loop-holds Inv-loop μ-loop
 unfolding ownAt upTo
 loop-holds c =
     let c-start = c .before .before .before .before .before in
     (omega arith, c-start .pre .1, refl, record { offsets = refl; starts = refl }, delivered-none (c-start .args .wanted) (lent (c-start .args .offsets .now) (c-start .args .starts .now)))
 
--- src/run.rt:222:9
 step-requires : tie.Need-step-requires Inv-loop μ-loop
 step-requires c κs =
-    let c-loop = c .before .before .before .before .loop in
-    let c-start = c .before .before .before .before .before .before .before .before .before .before in
-    let inv = c-loop .inv in
-    (runs-on (c-start .pre .0) (omega (arith, c-start .pre .0 .within)) (inv .3), record { marks = inv .1; own = inv .2; few = delivered-few (inv .4) })
+    let at-loop = c .before .before .before .before in
+    let start = at-loop .before .before .before .before .before .before in
+    let inv = at-loop .loop .inv in
+    (runs-on (start .pre .0) (omega (arith, start .pre .0 .within)) (inv .3), record { marks = inv .1; own = inv .2; few = delivered-few (inv .4) })
 
--- src/run.rt:223:9
 add-k : tie.Need-add-k Inv-loop μ-loop
 add-k c = omega arith
 
--- src/run.rt:221:5
 loop-less : tie.Need-loop-less Inv-loop μ-loop
 loop-less c = omega arith
 
--- src/run.rt:221:5
 loop-again : tie.Need-loop-again Inv-loop μ-loop
 loop-again c =
-    let c-loop = c .before .before .before .before .before .before .before .before .before .loop in
-    let c-start = c .before .before .before .before .before .before .before .before .before .before .before .before .before .before .before in
-    let c-step = c .before .before .before .before .step in
-    let inv = c-loop .inv in
-    let e : suc (c-loop .k) ≡ c-loop .k + 1 = omega arith in
-    let f = formAt (c-start .args .a .now) (c-start .args .root) in
-    let log = c-start .args .log .now in
-    let d = delivered-as (ap (upTo (choiceOf (c-start .args .wanted)) log f) e) (c-step .ensures .reports (lent (c-start .args .offsets .now) (c-start .args .starts .now)) (alike-back (inv .3)) (inv .4)) in
-    (omega arith, c-step .ensures .marks ∙ ap (marksAt log f) e, c-step .ensures .own ∙ ap (ownAt log f) e, up-alike (c-start .pre .0) (omega (arith, c-start .pre .0 .within)) d, d)
+    let at-step = c .before .before .before .before in
+    let at-loop = at-step .before .before .before .before .before in
+    let start = at-loop .before .before .before .before .before .before in
+    let inv = at-loop .loop .inv in
+    let e : suc (at-loop .loop .k) ≡ at-loop .loop .k + 1 = omega arith in
+    let f = formAt (start .args .a .now) (start .args .root) in
+    let log = start .args .log .now in
+    let d = delivered-as (ap (upTo (choiceOf (start .args .wanted)) log f) e) (at-step .step .ensures .reports (lent (start .args .offsets .now) (start .args .starts .now)) (alike-back (inv .3)) (inv .4)) in
+    (omega arith, at-step .step .ensures .marks ∙ ap (marksAt log f) e, at-step .step .ensures .own ∙ ap (ownAt log f) e, up-alike (start .pre .0) (omega (arith, start .pre .0 .within)) d, d)
 
--- src/run.rt:200:1
 same-length : tie.Need-same-length Inv-loop μ-loop
 same-length c =
     let c-loop = c .before .loop in
     c-loop .inv .3 .offsets
 
--- src/run.rt:200:1
 same-length-2 : tie.Need-same-length-2 Inv-loop μ-loop
 same-length-2 c =
     let c-loop = c .before .loop in
     c-loop .inv .3 .starts
 
--- src/run.rt:200:1
 returns : tie.Need-returns Inv-loop μ-loop
 returns c =
-    let c-loop = c .before .loop in
-    let c-start = c .before .before .before .before .before .before .before in
-    let inv = c-loop .inv in
-    let e : c-loop .k ≡ c-start .args .n = omega arith in
-    let f = formAt (c-start .args .a .now) (c-start .args .root) in
-    let log = c-start .args .log .now in
+    let at-loop = c .before in
+    let start = at-loop .before .before .before .before .before .before in
+    let inv = at-loop .loop .inv in
+    let e : at-loop .loop .k ≡ start .args .n = omega arith in
+    let f = formAt (start .args .a .now) (start .args .root) in
+    let log = start .args .log .now in
     record {
       marks = inv .1 ∙ ap (marksAt log f) e;
       own = inv .2 ∙ ap (ownAt log f) e;
-      reports = delivered-as (ap (upTo (choiceOf (c-start .args .wanted)) log f) e) (inv .4);
+      reports = delivered-as (ap (upTo (choiceOf (start .args .wanted)) log f) e) (inv .4);
     }
 
 pub run-spec : {M : Type 1} → statement M

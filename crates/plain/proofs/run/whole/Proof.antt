@@ -12,9 +12,9 @@ slice-aggregate-all c = search needs
 
 all-requires : tie.Need-all-requires
 all-requires c κs =
-    let c-start = c .before .before .before .before .before .before .before .before .before in
-    let c-write-rule = c .before .before .before .write-rule in
-    asked-runs (c-start .pre) (c-write-rule .ensures)
+    let at-write-rule = c .before .before .before in
+    let start = at-write-rule .before .before .before .before .before .before in
+    asked-runs (start .pre) (at-write-rule .write-rule .ensures)
 
 same-length : tie.Need-same-length
 same-length c = search needs
