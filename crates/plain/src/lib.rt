@@ -6,7 +6,7 @@ mod run;
 use run::Wanted;
 ghost use mathlib.Core.Path.{_≡_};
 ghost use Prim.Native.Nat.{min};
-ghost use Rattle.plain.specs.Answer.{windowsOf, question, hasSingle, hasLeftmost, Matches, refusal};
+ghost use Rattle.plain.specs.Answer.{windowsOf, question, Matches, refusal};
 ghost use Rattle.plain.specs.Run.{lent};
 ghost use Rattle.plain.specs.Invariants.{flagFault, sizeFault, firstFault, Checked, wantedBy};
 
@@ -46,19 +46,6 @@ fn refused(number: u32, place: usize) -> Matched
     }
 }
 
-// Flag 8, single match, and flag 256, leftmost start.
-fn is_single(flags: u32) -> bool
-    ensures { λ r. ⌜ r ≡ hasSingle flags ⌝ }
-{
-    flags / 8 % 2 == 1
-}
-
-fn is_leftmost(flags: u32) -> bool
-    ensures { λ r. ⌜ r ≡ hasLeftmost flags ⌝ }
-{
-    flags / 256 % 2 == 1
-}
-
 // The checks of the flags, in order: the number of the first that fails, or 0.
 fn flag_fault(flags: u32) -> u32
     ensures { λ r. ⌜ r ≡ flagFault flags ⌝ }
@@ -66,7 +53,7 @@ fn flag_fault(flags: u32) -> u32
     if flags & KNOWN_FLAGS != flags {
         return 2;
     }
-    if is_leftmost(flags) & is_single(flags) {
+    if (flags / 256 % 2 == 1) & (flags / 8 % 2 == 1) {
         return 24;
     }
     0
@@ -114,8 +101,8 @@ fn wanted(flags: u32, bounds: Bounds) -> Wanted
     ensures { λ r. ⌜ r ≡ wantedBy flags bounds ⌝ }
 {
     Wanted {
-        single: is_single(flags),
-        leftmost: is_leftmost(flags),
+        single: flags / 8 % 2 == 1,
+        leftmost: flags / 256 % 2 == 1,
         bounds,
     }
 }
