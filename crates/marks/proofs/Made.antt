@@ -681,7 +681,6 @@ module _ (s : Syntax) (n : ℕ) (endless : Bool) (j : ℕ) where
 pub plays-of : {a : List ℕ} {root : ℕ} {ps qs : List ℕ} {r : Piece} {rows : ℕ} → Room (formAt a root) 0 0 ps → Made a (formAt a root) 0 0 ps qs r → rows ≡ rowsOf (r .size)
     → Plays a root qs rows
 plays-of {a} {root} {ps} {qs} {r} {rows} room m e = record {
-  words = m .length ∙ room .words;
   low = go (ℕ-discrete (r .size) 0);
   bare = λ z. sym (m .size) ∙ bare-size (ℕ-discrete (r .size) 0) z;
   part = λ l. let w = m .part (pos (ℕ-discrete (r .size) 0) l) in (w .0, w .1, w .2, e ∙ rows-last (r .size) (w .0) (w .1 .size ∙ sym (m .size)));

@@ -141,10 +141,13 @@ altRows f g n ps =
 
 -- the whole rule is written out
 pub record Plays (a : List ℕ) (root : ℕ) (ps : List ℕ) (rows : ℕ) : Type 0 where
-  pub words : length ps ≡ 4096
   pub low : rows < 512
   pub bare : rows ≡ 0 → positions (formAt a root) ≡ 0
   pub part : 0 < rows → (p : Part) × Says a p (formAt a root) × Laid ps 0 0 p × (rows ≡ suc (lastOf p))
+
+pub record Wrote (a : List ℕ) (root : ℕ) (ps : List ℕ) (rows : ℕ) : Type 0 where
+  pub words : length ps ≡ 4096
+  pub plays : positions (formAt a root) ≤ 256 → Plays a root ps rows
 
 -- ---- a gap
 
@@ -195,6 +198,10 @@ Moved a ps n g x ms ns i =
     × ((p : Part) → Laid ps 0 0 p → n ≡ suc (lastOf p) → ns ≡ movedP g (hitsOf a x) p 0 i ms ms)
 
 -- ---- a log
+
+-- the rule is written out, and the log has the byte at offset k and is not too long
+abbrev pub Taking : (a : List ℕ) (root : ℕ) (ps : List ℕ) (rows : ℕ) (bytes : List ℕ) (k : ℕ) → Type 0
+Taking a root ps rows bytes k = Plays a root ps rows × (k < length bytes) × (length bytes ≤ 1024)
 
 -- what the byte at offset k brings; `last` says that the log is known to end with it
 pub record Took (f : Written) (bytes : List ℕ) (k : ℕ) (last : Bool) (ms ns : List ℕ) (r : Ends) : Type 0 where

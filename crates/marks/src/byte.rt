@@ -6,10 +6,10 @@ use crate::moves::ROWS;
 use crate::starts::NONE;
 use nodes::layout::word;
 ghost use mathlib.Core.Path.{_≡_};
-ghost use Prim.Native.Nat.{_≤_, _<_};
+ghost use Prim.Native.Nat.{_<_};
 ghost use lib.ListN.{length};
 ghost use Rattle.nodes.specs.Invariants.{formAt};
-ghost use Rattle.marks.specs.Invariants.{Plays, topOf, Took};
+ghost use Rattle.marks.specs.Invariants.{topOf, Taking, Took};
 
 // What a byte brings: the least start of the matches that end before it, now that it is known, and
 // of those that end with it, while nothing is known of the next.
@@ -28,8 +28,8 @@ fn top(ends: &[u64], rows: usize) -> u64
     word(ends, rows - 1)
 }
 
-// Takes the byte at offset k; `last` says that the log is known to end with it.
-pub fn take_byte(
+// Takes the byte at offset k, which the log has.
+fn pass(
     a: &[u64],
     root: usize,
     parts: &[u64],
@@ -39,8 +39,8 @@ pub fn take_byte(
     k: usize,
     last: bool,
 ) -> Ends
-    requires { ⌜ Plays (now a) root (now parts) rows × (k < length (now log)) × (length (now log) ≤ 1024) ⌝ }
-    ensures { λ r. ⌜ Took (formAt (now (a .entry)) root) (now (log .entry)) k last (now (marks .entry)) (now (marks .exit)) r ⌝ }
+    requires { ⌜ (k < length (now log)) × (rows < 512) ⌝ }
+    ensures { λ r. ⌜ (Taking (now (a .entry)) root (now (parts .entry)) rows (now (log .entry)) k → Took (formAt (now (a .entry)) root) (now (log .entry)) k last (now (marks .entry)) (now (marks .exit)) r) ⌝ }
 {
     let mut cores = [NONE; ROWS];
     let mut ends = [NONE; ROWS];
@@ -62,4 +62,33 @@ pub fn take_byte(
     moves::look(parts, rows, outer, marks, &mut cores, &mut ends);
     let own = top(&ends, rows);
     Ends { late, own }
+}
+
+// Takes the byte at offset k; `last` says that the log is known to end with it. Nothing ends at a byte
+// that the log has not.
+pub fn take_byte(
+    a: &[u64],
+    root: usize,
+    parts: &[u64],
+    rows: usize,
+    marks: &mut [u64; 256],
+    log: &[u8],
+    k: usize,
+    last: bool,
+) -> Ends
+    ensures { λ r. ⌜ (Taking (now (a .entry)) root (now (parts .entry)) rows (now (log .entry)) k → Took (formAt (now (a .entry)) root) (now (log .entry)) k last (now (marks .entry)) (now (marks .exit)) r) ⌝ }
+{
+    if k >= log.len() {
+        return Ends {
+            late: NONE,
+            own: NONE,
+        };
+    }
+    if rows >= ROWS {
+        return Ends {
+            late: NONE,
+            own: NONE,
+        };
+    }
+    pass(a, root, parts, rows, marks, log, k, last)
 }

@@ -11,7 +11,7 @@ ghost use mathlib.Core.Path.{_≡_};
 ghost use Prim.Native.Nat.{_+_, _*_, _<_, _≤_};
 ghost use Rattle.regex.specs.Form.{seq, alt, repeated};
 ghost use Rattle.nodes.specs.Invariants.{formAt, childForm, extra};
-ghost use Rattle.marks.specs.Invariants.{Room, Made, Plays, rowsOf, openIf, Joined, seqPiece, seqRows, altPiece, altRows};
+ghost use Rattle.marks.specs.Invariants.{Room, Made, Wrote, rowsOf, openIf, Joined, seqPiece, seqRows, altPiece, altRows};
 
 // What a form is to those around it.
 struct Piece {
@@ -179,11 +179,14 @@ fn node(a: &[u64], k: usize, b: usize, at: usize, out: &mut [u64; WORDS]) -> Pie
     Piece { size: 0, null: ALL }
 }
 
-// The whole rule, from row 0 on; how many rows it has.
+// The whole rule, from row 0 on; how many rows it has. One of more than 256 positions has none.
 pub fn write_rule(a: &[u64], root: usize, out: &mut [u64; WORDS]) -> usize
-    requires { ⌜ Room (formAt (now a) root) 0 0 (now out) ⌝ }
-    ensures { λ r. ⌜ Plays (now (a .entry)) root (now (out .exit)) r ⌝ }
+    ensures { λ r. ⌜ Wrote (now (a .entry)) root (now (out .exit)) r ⌝ }
 {
+    *out = [0; WORDS];
+    if nodes::count(a, root) > 256 {
+        return 0;
+    }
     let piece = node(a, root, 0, 0, out);
     rows(piece.size)
 }

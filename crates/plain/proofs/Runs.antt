@@ -17,7 +17,7 @@ use Rattle.marks.specs.Gaps.{innerWorld, outerWorld, taken}
 use Rattle.plain.specs.Run.{before, after, marksAt, ownAt, lateAt, lineAt, endAt, Hit, shown, inside, Choice, pick, upTo, closed, Lent}
 use Rattle.plain.specs.Answer.{windowsOf}
 use Rattle.nodes.specs.Invariants.{Written, formAt}
-use Rattle.marks.specs.Invariants.{Took, Plays}
+use Rattle.marks.specs.Invariants.{Took, Plays, Taking}
 use Rattle.plain.specs.Invariants.{choiceOf, due, Slots, Alike, Delivered, Both, Runs, Asks, Stands, Stepped, Closes, Closed, Ran}
 use Rattle.marks.specs.declared.byte.Ends.{Ends}
 use Rattle.plain.specs.declared.run.Taken.{Taken}
@@ -278,6 +278,10 @@ module _ {a : List ℕ} {root : ℕ} {ps : List ℕ} {rows : ℕ} {bytes : List 
 
     pub whole-alike : {c : ℕ} {now : Lent} → Closed shape w bytes k s late c now → Alike now old
     whole-alike close = closed-alike runs (omega arith) (close old (alike-back late-alike) all-reports)
+
+-- a byte that the run has still to take
+pub taking : {a : List ℕ} {root : ℕ} {ps : List ℕ} {rows : ℕ} {bytes : List ℕ} {k : ℕ} {old : Lent} → Runs a root ps rows bytes (suc k) old → Taking a root ps rows bytes k
+taking r = (r .plays, r .within, r .short)
 
 -- the rule is written out
 pub asked-runs : {a : List ℕ} {root : ℕ} {ps : List ℕ} {rows : ℕ} {bytes : List ℕ} {old : Lent} → Asks a root bytes old → Plays a root ps rows

@@ -1,6 +1,6 @@
 -- `close` meets its contract: what the end settles is what the definitions say, and there is room for it.
 use native.Mathlib.Omega.{arith}
-use Rattle.plain.proofs.Runs.{close-slots, close-is}
+use Rattle.plain.proofs.Runs.{taking, close-slots, close-is}
 use borrow.Author.Needs.{needs}
 use Rattle.plain.proofs.run.close.Statement.{statement}
 use Rattle.plain.proofs.run.close.Tie as tie
@@ -10,7 +10,7 @@ abbrev begun : tie.After-take-byte-arg → tie.Start
 begun c = c .before .before .before .before .before .before
 
 take-byte-requires : tie.Need-take-byte-requires
-take-byte-requires c κs = search needs
+take-byte-requires c κs = tt
 
 inside-requires : tie.Need-inside-requires
 inside-requires c κs = search needs
@@ -31,7 +31,7 @@ both-requires c κs =
     let at-inside = at-inside2 .before in
     let at-take-byte = at-inside .before in
     let start = begun (at-take-byte .before) in
-    (close-slots (start .pre .0) (start .pre .1) (at-inside .inside .ensures) (at-inside2 .inside2 .ensures) (at-inside3 .inside3 .ensures) (at-take-byte .take-byte .ensures), omega (arith, start .pre .0 .within, start .pre .0 .short))
+    (close-slots (start .pre .0) (start .pre .1) (at-inside .inside .ensures) (at-inside2 .inside2 .ensures) (at-inside3 .inside3 .ensures) (at-take-byte .take-byte .ensures (taking (start .pre .0))), omega (arith, start .pre .0 .within, start .pre .0 .short))
 
 same-length : tie.Need-same-length
 same-length c = search needs
@@ -47,7 +47,7 @@ returns c =
     let at-inside = at-inside2 .before in
     let at-take-byte = at-inside .before in
     let start = begun (at-take-byte .before) in
-    close-is (start .pre .0) (start .pre .1) (at-inside .inside .ensures) (at-inside2 .inside2 .ensures) (at-inside3 .inside3 .ensures) (at-take-byte .take-byte .ensures) (at-both .both .ensures)
+    close-is (start .pre .0) (start .pre .1) (at-inside .inside .ensures) (at-inside2 .inside2 .ensures) (at-inside3 .inside3 .ensures) (at-take-byte .take-byte .ensures (taking (start .pre .0))) (at-both .both .ensures)
 
 pub close-spec : {M : Type 1} → statement M
 close-spec =

@@ -1,6 +1,6 @@
 -- `step` meets its contract: what the byte settles is what the definitions say, and there is room for it.
 use native.Mathlib.Omega.{arith}
-use Rattle.plain.proofs.Runs.{step-slots, step-is}
+use Rattle.plain.proofs.Runs.{taking, step-slots, step-is}
 use borrow.Author.Needs.{needs}
 use Rattle.plain.proofs.run.step.Statement.{statement}
 use Rattle.plain.proofs.run.step.Tie as tie
@@ -10,7 +10,7 @@ abbrev begun : tie.After-take-byte-arg → tie.Start
 begun c = c .before .before .before .before .before .before
 
 take-byte-requires : tie.Need-take-byte-requires
-take-byte-requires c κs = search needs
+take-byte-requires c κs = tt
 
 inside-requires : tie.Need-inside-requires
 inside-requires c κs = search needs
@@ -20,7 +20,7 @@ both-requires c κs =
     let at-inside = c .before .before in
     let at-take-byte = at-inside .before in
     let start = begun (at-take-byte .before) in
-    (step-slots (start .pre .0) (start .pre .1) (at-inside .inside .ensures) (at-take-byte .take-byte .ensures), omega (arith, start .pre .0 .within, start .pre .0 .short))
+    (step-slots (start .pre .0) (start .pre .1) (at-inside .inside .ensures) (at-take-byte .take-byte .ensures (taking (start .pre .0))), omega (arith, start .pre .0 .within, start .pre .0 .short))
 
 same-length : tie.Need-same-length
 same-length c = search needs
@@ -34,7 +34,7 @@ returns c =
     let at-inside = at-both .before .before .before in
     let at-take-byte = at-inside .before in
     let start = begun (at-take-byte .before) in
-    step-is (start .pre .0) (start .pre .1) (at-inside .inside .ensures) (at-take-byte .take-byte .ensures) (at-both .both .ensures)
+    step-is (start .pre .0) (start .pre .1) (at-inside .inside .ensures) (at-take-byte .take-byte .ensures (taking (start .pre .0))) (at-both .both .ensures)
 
 pub step-spec : {M : Type 1} → statement M
 step-spec =

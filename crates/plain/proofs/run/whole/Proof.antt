@@ -5,7 +5,7 @@ use Rattle.plain.proofs.run.whole.Statement.{statement}
 use Rattle.plain.proofs.run.whole.Tie as tie
 
 write-rule-requires : tie.Need-write-rule-requires
-write-rule-requires c κs = search needs
+write-rule-requires c κs = tt
 
 slice-aggregate-all : tie.Need-slice-aggregate-all
 slice-aggregate-all c = search needs
@@ -14,7 +14,7 @@ all-requires : tie.Need-all-requires
 all-requires c κs =
     let at-write-rule = c .before .before .before in
     let start = at-write-rule .before .before .before .before .before .before in
-    asked-runs (start .pre) (at-write-rule .write-rule .ensures)
+    asked-runs (start .pre) (at-write-rule .write-rule .ensures .plays (start .pre .room))
 
 same-length : tie.Need-same-length
 same-length c = search needs
