@@ -74,11 +74,11 @@ module _ (w : ℕ) (fits : w < 2 ^ 64) (some : ¬ (w ≡ 0)) where
     at-digit = omega (arith, digit)
 
     -- the digit that the turn asks is in the word
-    asked-in : inWord w i (i * 64 + z) ≡ true
+    pub asked-in : inWord w i (i * 64 + z) ≡ true
     asked-in = ap₂ (λ (a b : Bool). a && b) (eq-eqb ((i * 64 + z) / 64) i at-word) (ap (on w) at-digit ∙ zeros-on 64 w fits positive .1)
 
     -- every other is in what is left exactly if it is in the word
-    others-left : (q : ℕ) → ¬ (q ≡ i * 64 + z) → inWord w i q ≡ inWord (bitAnd w (w - 1)) i q
+    pub others-left : (q : ℕ) → ¬ (q ≡ i * 64 + z) → inWord w i q ≡ inWord (bitAnd w (w - 1)) i q
     others-left q ne = go (ℕ-discrete (q / 64) i)
       where
         go : Dec (q / 64 ≡ i) → inWord w i q ≡ inWord (bitAnd w (w - 1)) i q
@@ -117,7 +117,7 @@ pub at-least-one : (n : ℕ) → ¬ (n ≡ 0) → 1 ≤ n
 at-least-one n h = omega arith
 
 -- no digit is left
-none-left : (i q : ℕ) → inWord 0 i q ≡ false
+pub none-left : (i q : ℕ) → inWord 0 i q ≡ false
 none-left i q = ap (λ (b : Bool). eqb (q / 64) i && b) (on-zero (q % 64)) ∙ and-no (eqb (q / 64) i)
   where
     and-no : (b : Bool) → (b && false) ≡ false
@@ -204,7 +204,7 @@ put-join f g keep start a b c h k = record {
     both false false v = refl
 
 -- a set is its four words
-four-words : (set : List ℕ) (q : ℕ) → q < maxPositions
+pub four-words : (set : List ℕ) (q : ℕ) → q < maxPositions
     → (((inWord (getD set 0 0) 0 q || inWord (getD set 1 0) 1 q) || inWord (getD set 2 0) 2 q) || inWord (getD set 3 0) 3 q) ≡ has set q
 unfolding has
 four-words set q lt = go (q / 64) refl

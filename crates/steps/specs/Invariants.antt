@@ -56,6 +56,10 @@ abbrev pub Followed : (ℕ → Bool) → (next from : List ℕ) → (rows : ℕ)
 Followed test next from rows t =
     Changed (λ q x. cond (has next q) (smallest maxPositions (λ p. test p && rowHas t (rows + p * 4) q) (λ p. getD from p 0) x) x)
 
+-- the starts of the positions that pass a test are those in `from`
+abbrev pub Copied : (ℕ → Bool) → (from old new : List ℕ) → Type 0
+Copied test from = Changed (λ q x. cond (test q) (getD from q 0) x)
+
 -- the smallest of d and of the starts of the positions that pass a test and have this owner
 unfoldable pub leastOwned : (t : List ℕ) → (ℕ → Bool) → (a : ℕ) → (starts : List ℕ) → (d : ℕ) → ℕ
 leastOwned t test a starts d = smallest maxPositions (λ p. test p && eqb (getD t (ownerAt p) 0) a) (λ p. getD starts p 0) d

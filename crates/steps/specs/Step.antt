@@ -1,15 +1,16 @@
 -- What one byte does to a live set, and which rules a live set ends. Over the automaton that the
 -- words describe, not over words. Assumes nothing: these are definitions.
-use mathlib.Core.Bool.{Bool, cond, not, _&&_, _||_}
+use mathlib.Core.Path.{_≡_}
+use mathlib.Core.Bool.{Bool, false, cond, not, _&&_, _||_}
 use mathlib.Core.List.{List, [], _∷_}
-use Prim.Native.Nat.{ℕ, zero, suc}
+use Prim.Native.Nat.{ℕ, zero, suc, _<_}
 use lib.Dec.{leb, ltb}
 use lib.ListN.{length, getD}
 use Rattle.kinds.specs.declared.Side.{Side}
 use Rattle.sets.specs.Set.{on, has, setOf, wordOf, any, smallest, emptySet, intersectionOf}
 use Rattle.table.specs.Layout.{tableWords, maxRules, maxPositions}
 use Rattle.table.specs.Gaps.{unsettled, gapOf, firstGap}
-use Rattle.table.specs.Automaton.{Automaton, last, starts}
+use Rattle.table.specs.Automaton.{Automaton, automaton, last, starts}
 
 -- a set, and a number, that is given of words enough for a table; of fewer it is empty, and 0
 unfoldable pub setOn : (t s : List ℕ) → List ℕ
@@ -85,3 +86,15 @@ module _ (w : Automaton) where
   -- the same for each of some rules, a digit for each place; 0 for every other
   unfoldable pub startsAt : (rules gap : ℕ) → (set starts from : List ℕ) → List ℕ
   startsAt rules gap set starts from = listFrom 0 maxRules (λ a. cond (on rules a) (startAt gap set starts (getD from a 0) a) 0)
+
+-- starts of positions of which only those of a set have one; every other has 0
+pub record OnlyIn (set starts : List ℕ) : Type 0 where
+  pub as-long : length starts ≡ maxPositions
+  pub none : (q : ℕ) → q < maxPositions → has set q ≡ false → getD starts q 0 ≡ 0
+
+-- What a byte makes of the starts of the live positions, put in place of them, with the help of
+-- spare ones that are all 0, and are so again: `keeping` are the live positions that keep a start.
+pub record StartsInPlace (t : List ℕ) (before after : Side) (live keeping next : List ℕ) (taken : ℕ) (starts spare starts′ spare′ : List ℕ) : Type 0 where
+  pub starts-are : spare ≡ listFrom 0 maxPositions (λ q. 0) → OnlyIn live starts
+      → starts′ ≡ listOn t maxPositions (steppedStarts (automaton t) false before after keeping starts next taken)
+  pub spare-is : spare ≡ listFrom 0 maxPositions (λ q. 0) → spare′ ≡ spare

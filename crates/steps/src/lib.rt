@@ -25,5 +25,6 @@ pub use rows::line_ending;
 pub use rows::meets;
 pub use rows::rule_id;
 pub use rows::singles;
+pub use starts::carry_starts;
 pub use starts::rule_starts;
 pub use starts::step_starts;

@@ -17,8 +17,8 @@ ghost use lib.ListN.{length};
 ghost use Rattle.sets.specs.Set.{has, setOf, intersectionOf};
 ghost use Rattle.table.specs.Layout.{tableWords, maxRules, maxPositions};
 ghost use Rattle.table.specs.Automaton.{automaton};
-ghost use Rattle.steps.specs.Step.{listOn, steppedStarts, startsAt};
-ghost use Rattle.steps.specs.Invariants.{chosenOf, inWord, Put, Followed, leastOwned};
+ghost use Rattle.steps.specs.Step.{listOn, steppedStarts, StartsInPlace, startsAt};
+ghost use Rattle.steps.specs.Invariants.{chosenOf, inWord, Put, Followed, Copied, leastOwned};
 
 // Of two starts the new one, or the smaller.
 fn chosen(keep: bool, old: u64, new: u64) -> u64
@@ -112,6 +112,59 @@ pub fn step_starts(
     let rows = FOLLOW_AT + gap_of(line, before, after) * FOLLOW_WORDS;
     follow(live, next, starts, rows, words, &mut new);
     new
+}
+
+// Copies the starts of the positions of one word, the word i of a set.
+fn copy_word(mut word: u64, i: usize, from: &[u64; 256], to: &mut [u64; 256])
+    requires { ⌜ i < 4 ⌝ }
+    ensures { λ _. ⌜ Copied (inWord word i) (now (from .entry)) (now (to .entry)) (now (to .exit)) ⌝ }
+{
+    while word != 0 {
+        let q = i * 64 + u64::trailing_zeros(word) as usize;
+        let start = from[q];
+        to[q] = start;
+        word = word & (word - 1);
+    }
+}
+
+// Copies the starts of the positions of a set.
+fn copy(set: [u64; 4], from: &[u64; 256], to: &mut [u64; 256])
+    ensures { λ _. ⌜ Copied (has set) (now (from .entry)) (now (to .entry)) (now (to .exit)) ⌝ }
+{
+    copy_word(set[0], 0, from, to);
+    copy_word(set[1], 1, from, to);
+    copy_word(set[2], 2, from, to);
+    copy_word(set[3], 3, from, to);
+}
+
+// Makes of the starts of the live positions what a byte makes of them: `live` are the positions
+// before it, `keeping` those of them that keep a start, and `next` those after it that do. The new
+// ones are put together in `spare`, and come back into the place of the old ones. So only starts of
+// these positions are touched, and no array is made for a byte. The two steps of `step_starts` stand
+// here again: the compiler then puts them into the loop over the bytes, their only caller.
+pub fn carry_starts(
+    before: Side,
+    after: Side,
+    live: [u64; 4],
+    keeping: [u64; 4],
+    next: [u64; 4],
+    taken: u64,
+    words: &[u64],
+    starts: &mut [u64; 256],
+    spare: &mut [u64; 256],
+)
+    ensures { λ _. ⌜ StartsInPlace (now (words .entry)) before after live keeping next taken (now (starts .entry)) (now (spare .entry)) (now (starts .exit)) (now (spare .exit)) ⌝ }
+{
+    if words.len() < TABLE_WORDS {
+        put(live, false, 0, starts);
+        return;
+    }
+    put(next, false, taken, spare);
+    let rows = FOLLOW_AT + gap_of(false, before, after) * FOLLOW_WORDS;
+    follow(keeping, next, starts, rows, words, spare);
+    put(live, false, 0, starts);
+    copy(next, spare, starts);
+    put(next, false, 0, spare);
 }
 
 // The smaller of two starts, if the second counts.
