@@ -69,6 +69,9 @@ module _ (taken n at : ℕ) (h : taken + (n - at) ≤ streamLimit) (l : at < n) 
   pub next-fits : Fits w64 (taken + 1)
   next-fits = record { fits = omega arith }
 
+pub pass-fits : (taken n at to : ℕ) → taken + (n - at) ≤ streamLimit → to ≤ n → Fits w64 (taken + (to - at))
+pass-fits taken n at to h l = record { fits = omega arith }
+
 pub at-fits : (at n : ℕ) → at < n → n < 2 ^ 63 → Fits w64 (at + 1)
 at-fits at n h l = record { fits = omega arith }
 

@@ -241,23 +241,23 @@ module _ {w : Automaton} {z : Traced} {allowance : ℕ} {block : List ℕ} {l₀
       }
       go false e = record { running = running-take w z allowance block l₀ y k l h r k′ l′ (t .takes e); rests = λ q. absurd (true≢false q) }
 
-  -- the loop's measure
-  pub turn-less : (going : Bool) → going ≡ true → cond (not (r .stopped)) 1 0 + (length block - r .at) < cond going 1 0 + (length block - y .at)
-  turn-less going e = go (r .stopped) refl
+  -- the loop's measure, from a place before the turn
+  pub turn-less : (going : Bool) → going ≡ true → (at : ℕ) → at ≤ y .at → cond (not (r .stopped)) 1 0 + (length block - r .at) < cond going 1 0 + (length block - at)
+  turn-less going e at before = go (r .stopped) refl
     where
-      further : (n a b : ℕ) → a ≡ b + 1 → b < n → 1 + (n - a) < 1 + (n - b)
-      further n a b e h = omega arith
+      further : (n a b : ℕ) → a ≡ b + 1 → b < n → at ≤ b → 1 + (n - a) < 1 + (n - at)
+      further n a b e h l = omega arith
 
-      same : (n a b : ℕ) → a ≡ b → 0 + (n - a) < 1 + (n - b)
-      same n a b e = omega arith
+      same : (n a b : ℕ) → a ≡ b → at ≤ b → 0 + (n - a) < 1 + (n - at)
+      same n a b e l = omega arith
 
-      go : (b : Bool) → r .stopped ≡ b → cond (not b) 1 0 + (length block - r .at) < cond going 1 0 + (length block - y .at)
+      go : (b : Bool) → r .stopped ≡ b → cond (not b) 1 0 + (length block - r .at) < cond going 1 0 + (length block - at)
       go true q =
-          subst (λ (g : Bool). 0 + (length block - r .at) < cond g 1 0 + (length block - y .at)) (sym e)
-          (same (length block) (r .at) (y .at) (ap (λ (u : Turn). u .at) (t .stops q .is)))
+          subst (λ (g : Bool). 0 + (length block - r .at) < cond g 1 0 + (length block - at)) (sym e)
+          (same (length block) (r .at) (y .at) (ap (λ (u : Turn). u .at) (t .stops q .is)) before)
       go false q =
-          subst (λ (g : Bool). 1 + (length block - r .at) < cond g 1 0 + (length block - y .at)) (sym e)
-          (further (length block) (r .at) (y .at) (t .takes q .at-is) (t .takes q .inside))
+          subst (λ (g : Bool). 1 + (length block - r .at) < cond g 1 0 + (length block - at)) (sym e)
+          (further (length block) (r .at) (y .at) (t .takes q .at-is) (t .takes q .inside) before)
 
 pub ran : {w : Automaton} {z : Traced} {allowance : ℕ} {block : List ℕ} {l₀ : Lists} {going : Bool} {y : Turn} {k : Starts} {l : Lists}
     → going ≡ false → Turned w z allowance block l₀ going y k l → Ran w z allowance block l₀ y k l

@@ -4,11 +4,11 @@ use mathlib.Core.Path.{_≡_}
 use mathlib.Core.Bool.{Bool, true, false, cond, not, _&&_}
 use mathlib.Core.Logic.{_⊎_}
 use mathlib.Core.List.{List}
-use Prim.Native.Nat.{ℕ, suc, _+_, _-_, _^_, _<_, _≤_}
+use Prim.Native.Nat.{ℕ, suc, _+_, _-_, _^_, _<_, _≤_, min}
 use lib.Dec.{ltb}
 use lib.ListN.{length, getD}
 use borrow.Rule.Slice.PartMut.{putMid}
-use Rattle.sets.specs.Set.{on, any, fullSet, keptBelow, sizeOf}
+use Rattle.sets.specs.Set.{on, any, emptySet, fullSet, keptBelow}
 use Rattle.kinds.specs.Side.{sideOf}
 use Rattle.table.specs.Layout.{positionsOf, maxRules, maxPositions}
 use Rattle.table.specs.Gaps.{beforeLast}
@@ -17,7 +17,7 @@ use Rattle.table.specs.Automaton.{Automaton, automaton, single}
 use Rattle.steps.specs.Step.{listFrom, lastsOf, latesOf, keepersOf, rulesWhere, steppedStarts, startAt}
 use Rattle.stream.specs.declared.Stream.{Stream}
 use Rattle.stream.specs.Byte.{after, reportsBy, costBy, runReports, runMarks, twoReports, twoMarks, nextLive, nextHeld, nextPending, byteState, busyOf}
-use Rattle.stream.specs.Invariants.{columnAt, partAt, Over}
+use Rattle.stream.specs.Invariants.{columnAt, partAt, NoOpener, Over}
 use Rattle.traced.specs.declared.Starts.{Starts}
 use Rattle.traced.specs.declared.Traced.{Traced}
 use Rattle.traced.specs.declared.reports.Marks.{Marks}
@@ -157,6 +157,65 @@ pub record Delivered (w : Automaton) (z : Traced) (x first : ℕ) (l : Lists) (f
   pub full-if : full ≡ ltb (space l) (length (byteReports w z x))
   pub stays : full ≡ true → (k ≡ z .starts) × (l′ ≡ l)
   pub goes : full ≡ false → Gone w z x first l reports marks some waits k l′
+
+-- ---- bytes that are passed over
+
+-- nothing is live inside the stream, and no start is kept
+pub record Quietly (some waits : Bool) (live : List ℕ) (taken : ℕ) : Type 0 where
+  pub none-live : some ≡ false
+  pub none-waits : waits ≡ false
+  pub empty : live ≡ emptySet
+  pub begun : 0 < taken
+
+-- a place from `from` on, at most `to`, before which no newline stands, unless it is `from`
+pub record BackOver (block : List ℕ) (from to r : ℕ) : Type 0 where
+  pub rises : from ≤ r
+  pub inside : r ≤ to
+  pub other : from < r → ¬ (getD block (r - 1) 0 ≡ 10)
+
+-- where a pass ends: it may begin, no match can begin with the bytes up to there, which are at most
+-- those up to `end`, and the last of them is no newline
+pub record PassEnd (w : Automaton) (quiet : Bool) (block : List ℕ) (from end r : ℕ) : Type 0 where
+  pub unopened : NoOpener w block from end r
+  pub quiet-is : from < r → quiet ≡ true
+  pub other : from < r → ¬ (getD block (r - 1) 0 ≡ 10)
+
+-- a turn that passes bytes over, up to place `to`: a unit each, and nothing waits
+abbrev pub passTo : (block : List ℕ) → Turn → (to : ℕ) → Turn
+passTo block y to = record {
+  stream = record {
+    live = y .stream .live;
+    held = emptySet;
+    reported = y .stream .reported;
+    pending = 0;
+    last = sideOf (getD block (to - 1) 0);
+    taken = y .stream .taken + (to - y .at);
+    rules = y .stream .rules;
+    positions = y .stream .positions;
+    closed = y .stream .closed;
+  };
+  at = to;
+  count = y .count;
+  left = y .left - (to - y .at);
+  some = false;
+  waits = false;
+  stopped = y .stopped;
+}
+
+pub record Passes (w : Automaton) (block : List ℕ) (y r : Turn) : Type 0 where
+  pub further : y .at < r .at
+  pub quiet : Quietly (y .some) (y .waits) (y .stream .live) (y .stream .taken)
+  pub inside : r .at ≤ min (length block) (y .at + y .left)
+  pub unopened : (j : ℕ) → y .at ≤ j → j < r .at → w .opens (getD block j 0) ≡ false
+  pub other : ¬ (getD block (r .at - 1) 0 ≡ 10)
+  pub marks-small : y .stream .reported < 2 ^ 64
+  pub is : r ≡ passTo block y (r .at)
+
+-- some bytes are passed over, or none
+abbrev pub Passed : (w : Automaton) (block : List ℕ) (y r : Turn) → Type 0
+Passed w block y r = Passes w block y r ⊎ (r ≡ y)
+
+-- ---- a byte that is offered
 
 -- a turn that stops
 abbrev pub stopAt : Turn → Turn

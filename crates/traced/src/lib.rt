@@ -3,6 +3,7 @@
 // start of its matches. Nothing is required of a caller: each promise holds for any words, state
 // and inputs. specs/Calls.antt says what each call gives.
 mod checks;
+mod pass;
 mod reports;
 mod scan;
 

@@ -1,6 +1,7 @@
 // The bytes of a block, one after the other: each is looked at, its reports are written, and the
 // starts are carried along.
 use super::checks::shortest;
+use super::pass::pass_over;
 use super::reports::Marks;
 use super::reports::due;
 use super::reports::starts_of;
@@ -532,7 +533,7 @@ fn take_byte(
 }
 
 // Takes bytes of the block up to its end, or up to the first that cannot be paid for or whose
-// reports do not all fit in the free space.
+// reports do not all fit in the free space. Before each, those that change nothing are passed over.
 pub(super) fn run(
     s: Stream,
     gates: Gates,
@@ -562,8 +563,9 @@ pub(super) fn run(
     };
     let mut going = true;
     while going {
+        let over = pass_over(y, words, block);
         let next = take_byte(
-            y,
+            over,
             gates,
             first,
             words,

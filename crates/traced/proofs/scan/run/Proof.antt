@@ -1,4 +1,5 @@
--- `traced::scan::run` meets its contract: each turn offers one byte more (`Turned`).
+-- `traced::scan::run` meets its contract: each turn passes over the bytes that change nothing and
+-- offers one more (`Turned`).
 use mathlib.Core.Path.{_≡_, sym, ap, subst}
 use mathlib.Core.Bool.{cond}
 use Prim.Native.Nat.{ℕ, _+_, _-_, _^_, _<_, _≤_}
@@ -7,9 +8,12 @@ use denote.Ref.{now}
 use lib.ListN.{length}
 use Rattle.table.specs.Automaton.{automaton}
 use Rattle.stream.specs.Valid.{streamLimit}
-use Rattle.traced.specs.Calls.{lists}
-use Rattle.traced.specs.Invariants.{startsOf, stateOf}
+use Rattle.traced.specs.declared.Starts.{Starts}
+use Rattle.traced.specs.declared.scan.Turn.{Turn}
+use Rattle.traced.specs.Calls.{Lists, lists}
+use Rattle.traced.specs.Invariants.{startsOf, stateOf, Running}
 use Rattle.traced.proofs.Lists.{filled-long, filled-inside}
+use Rattle.traced.proofs.Passing.{running-over, pass-rises}
 use Rattle.traced.proofs.Taking.{Turned, turned-start, turned, turn-less, ran, taken-now}
 use Rattle.traced.proofs.scan.run.Statement.{statement}
 use Rattle.traced.proofs.scan.run.Tie as tie
@@ -37,39 +41,65 @@ loop-holds c =
     turned-start (automaton (now (a .words))) (stateOf (a .s) (now (a .live)) (now (a .held)) (now (a .pairs))) (a .allowance) (now (a .block))
     (lists (now (a .ids)) (now (a .offsets)) (now (a .starts)) (now (a .relatives)))
 
+-- the start of the call, from inside the loop
+abbrev begun : tie.In-loop Inv-loop μ-loop → tie.Start Inv-loop μ-loop
+begun c = let l = c .before in l .before .before .before .before .before .before
+
+-- the limit where a turn begins
+limit : (c : tie.In-loop Inv-loop μ-loop) → (y : Turn) (k : Starts) (l : Lists)
+    → Running (automaton (now (begun c .args .words))) (stateOf (begun c .args .s) (now (begun c .args .live)) (now (begun c .args .held)) (now (begun c .args .pairs)))
+    (begun c .args .allowance) (now (begun c .args .block)) (lists (now (begun c .args .ids)) (now (begun c .args .offsets)) (now (begun c .args .starts)) (now (begun c .args .relatives))) y k l
+    → y .stream .taken + (length (now (begun c .args .block)) - y .at) ≤ streamLimit
+limit c y k l r =
+    let a = begun c .args in
+    within (y .stream .taken) (a .s .taken) (y .at) (length (now (a .block))) (taken-now r) (r .inside) (begun c .pre .2)
+
+pass-over-requires : tie.Need-pass-over-requires Inv-loop μ-loop
+pass-over-requires c κs =
+    let r = c .before .loop .inv .running in
+    (r .inside, limit c _ _ _ r)
+
+-- what holds once bytes are passed over
+over : (c : tie.After-pass-over Inv-loop μ-loop) → Running (automaton (now (begun (c .before) .args .words)))
+    (stateOf (begun (c .before) .args .s) (now (begun (c .before) .args .live)) (now (begun (c .before) .args .held)) (now (begun (c .before) .args .pairs)))
+    (begun (c .before) .args .allowance) (now (begun (c .before) .args .block))
+    (lists (now (begun (c .before) .args .ids)) (now (begun (c .before) .args .offsets)) (now (begun (c .before) .args .starts)) (now (begun (c .before) .args .relatives)))
+    (c .pass-over .result) (let l = c .before .before .loop in startsOf (l .live) (l .held) (l .pairs)) (let l = c .before .before .loop in lists (l .ids) (l .offsets) (l .starts) (l .relatives))
+over c = running-over (c .before .before .loop .inv .running) (c .pass-over .ensures)
+
 take-byte-requires : tie.Need-take-byte-requires Inv-loop μ-loop
 take-byte-requires c κs =
-    let back = c .before .before .before .before .before .before in
-    let c-loop = back .before .before .loop in
-    let further = back .before .before .before .before .before .before in
-    let c-start = further .before .before in
-    let a = c-start .args in
-    let r = c-loop .inv .running in (
-      c-start .pre .0,
-      c-start .pre .1,
+    let six = c .before .before .before .before .before .before in
+    let o = six .before in
+    let s = begun (o .before) in
+    let r = over o in (
+      s .pre .0,
+      s .pre .1,
       filled-inside (r .filled),
-      small (a .s .taken) (length (now (a .block))) (c-start .pre .2),
-      within (c-loop .y .stream .taken) (a .s .taken) (c-loop .y .at) (length (now (a .block))) (taken-now r) (r .inside) (c-start .pre .2),
+      small (s .args .s .taken) (length (now (s .args .block))) (s .pre .2),
+      limit (o .before) _ _ _ r,
       r .live-none,
       r .wait-none,
     )
 
+-- where the byte was offered, from the end of a turn
+abbrev offered : tie.After-struct-known Inv-loop μ-loop → tie.After-take-byte Inv-loop μ-loop
+offered c = let i = c .before .before .before .before in i .before .before .before .before
+
+abbrev passed : tie.After-take-byte Inv-loop μ-loop → tie.After-pass-over Inv-loop μ-loop
+passed c = let i = c .before .before .before .before in i .before .before .before .before
+
 loop-less : tie.Need-loop-less Inv-loop μ-loop
 loop-less c =
-    let back = c .before .before .before .before .before .before in
-    let c-take-byte = back .before .before .take-byte in
-    let further = back .before .before .before .before .before .before in
-    let c-loop-test = further .before .before .before .before .loop-test in
-    let c-loop = further .before .before .before .before .before .loop in
-    turn-less (c-loop .inv .running) (c-take-byte .ensures) (c-loop .going) (c-loop-test .taken)
+    let t = offered c in
+    let o = passed t in
+    let l = o .before .before .loop in
+    turn-less (over o) (t .take-byte .ensures) (l .going) (o .before .loop-test .taken) (l .y .at) (pass-rises (o .pass-over .ensures))
 
 loop-again : tie.Need-loop-again Inv-loop μ-loop
 loop-again c =
-    let back = c .before .before .before .before .before .before in
-    let c-take-byte = back .before .before .take-byte in
-    let further = back .before .before .before .before .before .before in
-    let c-loop = further .before .before .before .before .before .loop in
-    turned (c-loop .inv .running) (c-take-byte .ensures)
+    let t = offered c in
+    turned (over (passed t)) (t .take-byte .ensures)
 
 same-length : tie.Need-same-length Inv-loop μ-loop
 same-length c =
@@ -104,6 +134,7 @@ run-spec =
     Inv-loop
     μ-loop
     loop-holds
+    pass-over-requires
     take-byte-requires
     loop-less
     loop-again
