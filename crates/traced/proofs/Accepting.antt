@@ -1,14 +1,15 @@
 -- When a call is accepted: its number is settled by the first test that fails, and number 0 says that
 -- all of them hold (`Accepted`).
 use mathlib.Core.Path.{_≡_, refl, sym, ap, ap₂, _∙_}
-use mathlib.Core.Bool.{Bool, true, false, cond, _&&_, and-false, and-eq-true-iff}
+use mathlib.Core.Bool.{Bool, true, false, cond, not, _&&_, and-false, and-eq-true-iff}
 use mathlib.Core.List.{List}
 use Prim.Native.Nat.{ℕ, _+_, _*_, _<_, _≤_}
 use native.Mathlib.Omega.{arith}
 use lib.Dec.{ltb}
-use lib.ListN.{length}
-use borrow.Author.Tests.{lt-ltb, le-ltb, ltb-false, le-leb}
-use Rattle.sets.specs.Set.{on, has}
+use lib.ListN.{length, getD}
+use borrow.Author.Tests.{lt-ltb, le-ltb, ltb-false, le-leb, eqb-true, not-true, not-false}
+use Rattle.sets.specs.Set.{on, has, any}
+use Rattle.sets.proofs.Laws.{any-none}
 use Rattle.table.specs.Layout.{tableWords, maxRules, maxPositions, rulesOf}
 use Rattle.table.specs.Table.{isTable}
 use Rattle.table.specs.Automaton.{Automaton, automaton}
@@ -18,8 +19,9 @@ use Rattle.stream.specs.Valid.{streamLimit, sound}
 use Rattle.stream.specs.Calls.{spaceNumber}
 use Rattle.stream.proofs.Accepting.{Fitting, fitting}
 use Rattle.traced.specs.declared.Traced.{Traced}
-use Rattle.traced.specs.Valid.{startsOk, valid}
+use Rattle.traced.specs.Valid.{startOk, startsOk, valid}
 use Rattle.traced.specs.Calls.{scanNumber, closeNumber}
+use Rattle.traced.specs.Invariants.{InOrder}
 
 -- ---- a state
 
@@ -46,6 +48,28 @@ module _ (w : Automaton) (z : Traced) where
   pub valid-parts : valid w z ≡ true → (sound w (z .stream) ≡ true) × (inOrder z ≡ true)
   unfolding valid
   valid-parts e = and-eq-true-iff (sound w (z .stream)) (inOrder z) .0 e
+
+-- where there is no start, it is 0
+none-there : (n : ℕ) (there : ℕ → Bool) (taken : ℕ) (starts : List ℕ) → startsOk n there taken starts ≡ true → (q : ℕ) → q < n → there q ≡ false → getD starts q 0 ≡ 0
+unfolding startsOk
+none-there n there taken starts e q lt off =
+    eqb-true (getD starts q 0) 0
+    (sym (ap (λ (b : Bool). startOk b taken (getD starts q 0)) off)
+    ∙ not-false (startOk (there q) taken (getD starts q 0))
+    (any-none n (λ q. not (startOk (there q) taken (getD starts q 0))) (not-true (any n (λ q. not (startOk (there q) taken (getD starts q 0)))) e) q lt))
+
+pub in-order : (z : Traced) → inOrder z ≡ true → length (z .starts .live) ≡ maxPositions → length (z .starts .held) ≡ maxPositions → length (z .starts .pairs) ≡ maxRules
+    → InOrder (z .stream) (z .starts)
+in-order z e live held pairs =
+    let s : Stream = z .stream in
+    let one = and-eq-true-iff (startsOk maxPositions (has (s .live)) (s .taken) (z .starts .live)) _ .0 e in
+    let two = and-eq-true-iff (startsOk maxPositions (has (s .held)) (s .taken) (z .starts .held)) _ .0 (one .1) in
+    record {
+      live = record { as-long = live; none = none-there maxPositions (has (s .live)) (s .taken) (z .starts .live) (one .0) };
+      held = record { as-long = held; none = none-there maxPositions (has (s .held)) (s .taken) (z .starts .held) (two .0) };
+      as-many = pairs;
+      pairs = none-there maxRules (on (s .pending)) (s .taken) (z .starts .pairs) (two .1);
+    }
 
 -- a state is sound as it was asked, of a table
 pub sound-on : (t : List ℕ) (s : Stream) (r : Bool) → isTable t ≡ true → (b : Bool) → r ≡ (b && sound (automaton t) s) → b ≡ true → r ≡ sound (automaton t) s

@@ -7,21 +7,25 @@ use native.Mathlib.Nat.{zero-add}
 use native.Mathlib.Omega.{arith}
 use lib.Bits.{bitAnd}
 use lib.Dec.{eqb, ltb}
-use lib.ListN.{getD}
+use lib.ListN.{length, getD, replicate}
 use borrow.Author.Tests.{eqb-true, not-true}
 use Rattle.sets.specs.Set.{on, has, any, isEmpty, wordOf}
 use Rattle.sets.proofs.Digits.{on-and, on-zero, on-wordOf}
-use Rattle.sets.proofs.Laws.{any-none}
+use Rattle.sets.proofs.Laws.{any-none, has-intersection}
 use Rattle.kinds.specs.declared.Side.{Side}
+use Rattle.kinds.specs.Side.{sideOf}
 use Rattle.table.specs.Layout.{maxRules, maxPositions}
 use Rattle.kinds.specs.declared.Side.the-variants.{Newline}
 use Rattle.table.specs.Gaps.{between, beforeLast}
 use Rattle.table.specs.Automaton.{Automaton}
-use Rattle.steps.specs.Step.{listFrom, endsNewly, rulesWhere, startAfter, steppedStarts, startAt}
-use Rattle.steps.proofs.Carrying.{list-is, list-length, list-at}
+use Rattle.steps.specs.Step.{listFrom, endsNewly, keepersOf, rulesWhere, startAfter, steppedStarts, startAt, OnlyIn}
+use Rattle.steps.proofs.Carrying.{list-is, list-length, list-at, stepped-at, zeros-length, zeros-at}
 use Rattle.stream.specs.declared.Stream.{Stream}
-use Rattle.stream.specs.Byte.{nextPending}
-use Rattle.traced.specs.Invariants.{at, zeros, RuleStarts, pairsNext}
+use Rattle.stream.specs.Byte.{nextLive, nextPending}
+use Rattle.traced.specs.declared.Starts.{Starts}
+use Rattle.traced.specs.declared.Traced.{Traced}
+use Rattle.traced.specs.Byte.{keeping, nextStarts}
+use Rattle.traced.specs.Invariants.{at, zeros, RuleStarts, InOrder, pairsNext}
 
 -- lists of which each number is the same
 pub list-ext : (n : ℕ) (f g : ℕ → ℕ) → ((q : ℕ) → q < n → f q ≡ g q) → listFrom 0 n f ≡ listFrom 0 n g
@@ -34,6 +38,37 @@ unfolding steppedStarts isEmpty
 stepped-none w line before after live starts next taken e =
     list-ext maxPositions (λ q. cond (has next q) (startAfter w line before after live starts taken q) 0) (λ q. 0)
     (λ q lt. ap (λ (b : Bool). cond b (startAfter w line before after live starts taken q) 0) (any-none maxPositions (has next) (not-true (any maxPositions (has next)) e) q lt))
+
+stepped-long : (w : Automaton) (line : Bool) (before after : Side) (live starts next : List ℕ) (taken : ℕ) → length (steppedStarts w line before after live starts next taken) ≡ maxPositions
+unfolding steppedStarts
+stepped-long w line before after live starts next taken = list-length 0 maxPositions (λ q. cond (has next q) (startAfter w line before after live starts taken q) 0)
+
+-- only positions that are live after a byte have a start then
+pub only-next : (w : Automaton) (z : Traced) (x : ℕ) → OnlyIn (nextLive w (z .stream) x) (nextStarts w z x .live)
+unfolding nextStarts
+only-next w z x =
+    let s : Stream = z .stream in
+    let next : List ℕ = keeping w (nextLive w s x) in
+    record {
+      as-long = stepped-long w false (s .last) (sideOf x) (keeping w (s .live)) (z .starts .live) next (s .taken);
+      none = λ q lt e.
+          stepped-at w false (s .last) (sideOf x) (keeping w (s .live)) (z .starts .live) next (s .taken) q lt
+          ∙ ap (λ (b : Bool). cond b (startAfter w false (s .last) (sideOf x) (keeping w (s .live)) (z .starts .live) (s .taken) q) 0)
+          (has-intersection (nextLive w s x) (keepersOf w) q lt ∙ ap (λ (b : Bool). b && has (keepersOf w) q) e);
+    }
+
+-- an array of 0 is as many zeros
+pub all-zero : (n : ℕ) → replicate n 0 ≡ zeros n
+all-zero n = list-is n (replicate n 0) (λ q. 0) (zeros-length n) (λ q lt. zeros-at n q)
+
+-- where a set is empty, no position has a start; and where no digit is, no rule has one
+pub none-only : {set starts : List ℕ} → OnlyIn set starts → isEmpty set ≡ true → starts ≡ zeros maxPositions
+unfolding isEmpty
+none-only {set} {starts} h e =
+    list-is maxPositions starts (λ q. 0) (h .as-long) (λ q lt. h .none q lt (any-none maxPositions (has set) (not-true (any maxPositions (has set)) e) q lt))
+
+pub none-pairs : {s : Stream} {k : Starts} → InOrder s k → s .pending ≡ 0 → k .pairs ≡ zeros maxRules
+none-pairs {s} {k} h e = list-is maxRules (k .pairs) (λ a. 0) (h .as-many) (λ a lt. h .pairs a lt (ap (λ (n : ℕ). on n a) e ∙ on-zero a))
 
 -- ---- held pairs
 

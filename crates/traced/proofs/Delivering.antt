@@ -4,9 +4,9 @@ use mathlib.Core.Path.{_≡_, refl, sym, ap, ap₂, subst, _∙_}
 use mathlib.Core.Bool.{Bool, true, false, true≢false, cond, not, _&&_, _||_, and-eq-true-iff}
 use mathlib.Core.List.{List, [], _∷_, _++_}
 use Prim.Native.Nat.{ℕ, zero, suc, _+_, _-_, _^_, _<_, _≤_}
-use native.Mathlib.Nat.{lt-of-le-of-lt}
+use native.Mathlib.Nat.{add-zero, lt-of-le-of-lt}
 use native.Mathlib.Omega.{arith}
-use lib.Bits.{bitAnd, bitOr, or-add-and, and-le-l, and-le-r}
+use lib.Bits.{bitAnd, bitOr}
 use lib.Dec.{eqb, ltb}
 use lib.ListN.{length}
 use borrow.Author.Tests.{lt-ltb, le-ltb, eqb-true}
@@ -20,14 +20,15 @@ use Rattle.steps.specs.Step.{rulesWhere, startAt}
 use Rattle.stream.specs.declared.Stream.{Stream}
 use Rattle.stream.specs.Byte.{given as stream-given}
 use Rattle.stream.specs.Byte.{due, runReports, runMarks, twoReports, twoMarks, byteState, lateTest, ownTest}
-use Rattle.stream.proofs.TwoRuns.{two-ext, two-marks-ext, two-none, two-marks-none, due-two}
-use Rattle.stream.proofs.Runs.{alone}
+use Rattle.stream.proofs.TwoRuns.{two-ext, two-marks-ext, due-two}
+use Rattle.stream.proofs.Runs.{alone, run-none, marks-none}
 use Rattle.traced.specs.declared.Starts.{Starts}
 use Rattle.traced.specs.declared.Traced.{Traced}
 use Rattle.traced.specs.Byte.{Start, Report, from, none, given, lateStart, ownStart, nextStarts, byteReports}
 use Rattle.traced.specs.Calls.{Lists, space, written}
-use Rattle.traced.specs.Invariants.{at, zeros, Small, RuleStarts, WroteTwo, Carried, Gone, Delivered}
-use Rattle.traced.proofs.Lists.{written-none}
+use Rattle.traced.specs.Invariants.{at, zeros, writtenAt, Small, RuleStarts, Wrote, Carried, Gone, Delivered}
+use Rattle.traced.proofs.Lists.{written-at-none}
+use Rattle.traced.proofs.Runs.{first-room, second-room, wrote-two}
 
 -- ---- what a run gives counts only where a rule is due
 
@@ -107,44 +108,6 @@ module _ (w : Automaton) (few : w .rules ≤ 64) (z : Traced) (x late own : ℕ)
   unfolding byteState
   marks-by = two-marks-ext w (on late) (lateTest w s x) (on own) (ownTest w s x) (s .reported) late-at own-at
 
-  -- no rule ends
-  module _ (empty : bitOr late own ≡ 0) (small : s .reported < 2 ^ 64) where
-    none-late : late ≡ 0
-    none-late = omega (arith, or-add-and late own, and-le-l late own, and-le-r late own)
-
-    none-own : own ≡ 0
-    none-own = omega (arith, or-add-and late own, and-le-l late own, and-le-r late own)
-
-    off-late : (a : ℕ) → a < w .rules → lateTest w s x a ≡ false
-    off-late a h = sym (late-at a h) ∙ ap (λ (n : ℕ). on n a) none-late ∙ on-zero a
-
-    off-own : (a : ℕ) → a < w .rules → ownTest w s x a ≡ false
-    off-own a h = sym (own-at a h) ∙ ap (λ (n : ℕ). on n a) none-own ∙ on-zero a
-
-    no-reports : byteReports w z x ≡ []
-    unfolding byteReports
-    no-reports =
-        two-none w (lateTest w s x) (ownTest w s x) (s .reported) off-late off-own (given w (s .taken) (lateStart w z x)) (given w (suc (s .taken)) (ownStart w z x))
-
-    same-marks : byteState w s x .reported ≡ s .reported
-    unfolding byteState
-    same-marks = two-marks-none w (lateTest w s x) (ownTest w s x) (s .reported) off-late off-own small
-
-    pub delivered-quiet : (first : ℕ) (l : Lists) (some waits : Bool) (k : Starts) → Carried w z x some waits k
-        → Delivered w z x first l false 0 (s .reported) some waits k l
-    delivered-quiet first l some waits k h = record {
-      full-if = sym (le-ltb (space l) (length (byteReports w z x)) (omega (arith, ap length no-reports)));
-      stays = λ e. absurd (true≢false (sym e));
-      goes = λ e. record {
-        reports-are = sym (ap length no-reports);
-        marks-are = sym same-marks;
-        starts-are = h .starts-are;
-        lists-are = sym (ap (λ (r : List Report). written first r l) no-reports ∙ written-none first l);
-        live-none = h .live-none;
-        wait-none = h .wait-none;
-      };
-    }
-
   -- as many are due as there are reports
   pub due-is : s .reported < 2 ^ 64 → (singles : ℕ) → singles ≡ rulesWhere w (single w) → {due₁ due₂ : ℕ}
       → due₁ ≡ count 64 (λ a. on late a && not (on (s .reported) a))
@@ -154,27 +117,64 @@ module _ (w : Automaton) (few : w .rules ≤ 64) (z : Traced) (x late own : ℕ)
       due-two w late own (s .reported) (given w (s .taken) (lateStart w z x)) (given w (suc (s .taken)) (ownStart w z x)) small few late-alone own-alone singles is one two
       ∙ ap length reports-by
 
-  -- the starts for each place, as they were worked out
-  module _ (leftmost : ℕ) (flags : leftmost ≡ rulesWhere w (w .leftmost)) (one two : List ℕ)
-      (early : RuleStarts (bitAnd late leftmost) (lateStart w z x) one) (later : RuleStarts (bitAnd own leftmost) (ownStart w z x) two) where
-    pub given-by : twoReports w (on late) (on own) (s .reported) (given w (s .taken) (at one)) (given w (suc (s .taken)) (at two)) ≡ byteReports w z x
-    given-by =
-        two-give w (on late) (on own) (s .reported) (given w (s .taken) (at one)) (given w (s .taken) (lateStart w z x))
-        (given w (suc (s .taken)) (at two)) (given w (suc (s .taken)) (ownStart w z x))
-        (give-same w few leftmost flags late (lateStart w z x) one early (s .taken)) (give-same w few leftmost flags own (ownStart w z x) two later (suc (s .taken)))
-        ∙ reports-by
+  -- both runs are written, and the starts carried along
+  module _ {first : ℕ} {l l₁ : Lists} {next marks₁ : ℕ} (fit : length (byteReports w z x) ≤ space l)
+      (wrote : Wrote w (on late) (s .reported) (given w (s .taken) (lateStart w z x)) first 0 l next marks₁ l₁) where
+    room : length (twoReports w (on late) (on own) (s .reported) (given w (s .taken) (lateStart w z x)) (given w (suc (s .taken)) (ownStart w z x))) ≤ space l
+    room = subst (λ (n : ℕ). n ≤ space l) (sym (ap length reports-by)) fit
 
-    pub gone : {first : ℕ} {l : Lists} {reports marks : ℕ} {l′ : Lists} (some waits : Bool) (k : Starts)
-        → WroteTwo w (on late) (on own) (s .reported) (given w (s .taken) (at one)) (given w (suc (s .taken)) (at two)) first l reports marks l′
+    -- the first leaves room for the second
+    pub own-room : next + length (runReports (on own) marks₁ (given w (suc (s .taken)) (ownStart w z x)) (w .rules)) ≤ space l₁
+    own-room = second-room wrote (on own) (given w (suc (s .taken)) (ownStart w z x)) room
+
+    pub gone : {reports marks : ℕ} {l′ : Lists} {some waits : Bool} {k : Starts}
+        → Wrote w (on own) marks₁ (given w (suc (s .taken)) (ownStart w z x)) first next l₁ reports marks l′
         → Carried w z x some waits k → Gone w z x first l reports marks some waits k l′
-    gone {first} {l} some waits k wrote h = record {
-      reports-are = wrote .reports-are ∙ ap length given-by;
-      marks-are = wrote .marks-are ∙ marks-by;
-      starts-are = h .starts-are;
-      lists-are = wrote .lists-are ∙ ap (λ (r : List Report). written first r l) given-by;
-      live-none = h .live-none;
-      wait-none = h .wait-none;
+    gone then h =
+        let both = wrote-two wrote (on own) (given w (suc (s .taken)) (ownStart w z x)) room then in
+        record {
+          reports-are = both .reports-are ∙ ap length reports-by;
+          marks-are = both .marks-are ∙ marks-by;
+          starts-are = h .starts-are;
+          lists-are = both .lists-are ∙ ap (λ (r : List Report). written first r l) reports-by;
+          live-none = h .live-none;
+          wait-none = h .wait-none;
+        }
+
+  -- there is room for the first
+  pub late-room : (l : Lists) → length (byteReports w z x) ≤ space l
+      → 0 + length (runReports (on late) (s .reported) (given w (s .taken) (lateStart w z x)) (w .rules)) ≤ space l
+  late-room l fit =
+      first-room w (on late) (on own) (s .reported) (given w (s .taken) (lateStart w z x)) (given w (suc (s .taken)) (ownStart w z x)) l
+      (subst (λ (n : ℕ). n ≤ space l) (sym (ap length reports-by)) fit)
+
+-- no rule is in the word of a run: nothing is written
+pub wrote-none : {w : Automaton} {word marks : ℕ} {give : ℕ → Report} {first n : ℕ} {l : Lists} → word ≡ 0 → marks < 2 ^ 64 → Wrote w (on word) marks give first n l n marks l
+wrote-none {w} {word} {marks} {give} {first} {n} {l} e small =
+    let off : (a : ℕ) → a < w .rules → on word a ≡ false = λ a h. ap (λ (m : ℕ). on m a) e ∙ on-zero a in
+    let none : runReports (on word) marks give (w .rules) ≡ [] = run-none (on word) marks give (w .rules) off in
+    record {
+      next-is = sym (add-zero n) ∙ ap (λ (r : List Report). n + length r) (sym none);
+      marks-are = sym (marks-none w (on word) marks small off);
+      lists-are = sym (ap (λ (r : List Report). writtenAt first n r l) none ∙ written-at-none first l n);
     }
+
+-- a run is written with the starts that were worked out for it
+module _ (w : Automaton) (few : w .rules ≤ 64) (leftmost : ℕ) (flags : leftmost ≡ rulesWhere w (w .leftmost)) (word marks end : ℕ) (give : ℕ → ℕ) (froms : List ℕ)
+    (h : RuleStarts (bitAnd word leftmost) give froms) where
+  run-by : runReports (on word) marks (given w end (at froms)) (w .rules) ≡ runReports (on word) marks (given w end give) (w .rules)
+  run-by = run-give (on word) marks (given w end (at froms)) (given w end give) (w .rules) (give-same w few leftmost flags word give froms h end)
+
+  pub run-room : (n m : ℕ) → n + length (runReports (on word) marks (given w end give) (w .rules)) ≤ m → n + length (runReports (on word) marks (given w end (at froms)) (w .rules)) ≤ m
+  run-room n m = subst (λ (r : List Report). n + length r ≤ m) (sym run-by)
+
+  pub wrote-by : {first n next marks′ : ℕ} {l l′ : Lists} → Wrote w (on word) marks (given w end (at froms)) first n l next marks′ l′
+      → Wrote w (on word) marks (given w end give) first n l next marks′ l′
+  wrote-by {first} {n} {l = l} wrote = record {
+    next-is = wrote .next-is ∙ ap (λ (r : List Report). n + length r) run-by;
+    marks-are = wrote .marks-are;
+    lists-are = wrote .lists-are ∙ ap (λ (r : List Report). writtenAt first n r l) run-by;
+  }
 
 -- the reports do not fit, or all are written
 pub delivered-full : {w : Automaton} {z : Traced} {x first : ℕ} {l : Lists} (n room : ℕ) → n ≡ length (byteReports w z x) → room ≡ space l → room < n

@@ -8,10 +8,11 @@ use mathlib.Core.List.{List, [], _++_, append-nil}
 use Prim.Native.Nat.{ℕ, zero, suc, _+_, _-_, _^_, _<_, _≤_, min}
 use native.Mathlib.Nat.{add-zero, add-suc, le-trans}
 use native.Mathlib.Numerals.{add-one}
+use native.Mathlib.Decide.{decLt}
 use native.Mathlib.Omega.{arith}
-use lib.Dec.{eqb}
+use lib.Dec.{eqb, ltb}
 use lib.ListN.{length, getD}
-use borrow.Author.Tests.{eqb-false, ne-eqb}
+use borrow.Author.Tests.{eqb-false, ne-eqb, lt-ltb, le-ltb}
 use Rattle.sets.specs.Set.{on, has, emptySet, isEmpty}
 use Rattle.sets.proofs.Laws.{has-empty, has-intersection, any-never}
 use Rattle.sets.proofs.Digits.{on-zero}
@@ -281,19 +282,47 @@ quietly some waits live taken empty is = go some waits empty is (eqb taken 0) re
     go false true c is d e q = absurd (true≢false (sym q))
     go true b c is d e q = absurd (true≢false (sym q))
 
-pub passes : {w : Automaton} {block : List ℕ} {y : Turn} {to : ℕ} (quiet : Bool) → (quiet ≡ true → Quietly (y .some) (y .waits) (y .stream .live) (y .stream .taken))
-    → PassEnd w quiet block (y .at) (min (length block) (y .at + y .left)) to → y .at < to → y .stream .reported < 2 ^ 64 → (r : Turn) → r ≡ passTo block y to → Passed w block y r
-passes {w} {block} {y} quiet says end further small r is =
-    subst (λ (u : Turn). Passed w block y u) (sym is)
-    (inl (record {
-      further = further;
-      quiet = says (end .quiet-is further);
-      inside = end .unopened .inside;
-      unopened = end .unopened .none;
-      other = end .other further;
-      marks-small = small;
-      is = refl;
-    }))
+pub passed : {w : Automaton} {block : List ℕ} {y : Turn} {to : ℕ} (quiet : Bool) → (quiet ≡ true → Quietly (y .some) (y .waits) (y .stream .live) (y .stream .taken))
+    → PassEnd w quiet block (y .at) (min (length block) (y .at + y .left)) to → y .stream .reported < 2 ^ 64 → (r : Turn) → r ≡ passTo block y to → Passed w block y r
+passed {w} {block} {y} {to} quiet says end small r is = subst (λ (u : Turn). Passed w block y u) (sym is) (go (decLt (y .at) to))
+  where
+    go : Dec (y .at < to) → Passed w block y (passTo block y to)
+    go (yes further) =
+        inl (record {
+          further = further;
+          quiet = says (end .quiet-is further);
+          inside = end .unopened .inside;
+          unopened = end .unopened .none;
+          other = end .other further;
+          marks-small = small;
+          is = refl;
+        })
+    go (no l) =
+        let none : ltb (y .at) to ≡ false = le-ltb (y .at) to (omega arith) in
+        let same : to ≡ y .at = omega (arith, end .unopened .rises) in
+        let zero : to - y .at ≡ 0 = omega arith in
+        inr (λ i. record {
+          stream = record {
+            live = y .stream .live;
+            held = cond (none i) emptySet (y .stream .held);
+            reported = y .stream .reported;
+            pending = cond (none i) 0 (y .stream .pending);
+            last = cond (none i) (sideOf (getD block (to - 1) 0)) (y .stream .last);
+            taken = (ap (λ (n : ℕ). y .stream .taken + n) zero ∙ add-zero (y .stream .taken)) i;
+            rules = y .stream .rules;
+            positions = y .stream .positions;
+            closed = y .stream .closed;
+          };
+          at = same i;
+          count = y .count;
+          left = (ap (λ (n : ℕ). y .left - n) zero ∙ sub-zero (y .left)) i;
+          some = y .some;
+          waits = y .waits;
+          stopped = y .stopped;
+        })
+      where
+        sub-zero : (n : ℕ) → n - 0 ≡ n
+        sub-zero n = omega arith
 
 -- `Running` holds after a pass
 module _ (w : Automaton) (z : Traced) (allowance : ℕ) (block : List ℕ) (l₀ : Lists) (y : Turn) (k : Starts) (l : Lists) (h : Running w z allowance block l₀ y k l)
@@ -310,6 +339,9 @@ module _ (w : Automaton) (z : Traced) (allowance : ℕ) (block : List ℕ) (l₀
 
   stands : to - 1 ≡ y .at + more
   stands = omega (arith, p .further)
+
+  went : ltb (y .at) to ≡ true
+  went = lt-ltb (y .at) to (p .further)
 
   many : to - y .at ≡ suc more
   many = omega (arith, p .further)
@@ -342,10 +374,10 @@ module _ (w : Automaton) (z : Traced) (allowance : ℕ) (block : List ℕ) (l₀
       (λ i. record {
         stream = record {
           live = p .quiet .empty i;
-          held = emptySet;
+          held = cond (went i) emptySet (y .stream .held);
           reported = h .state-is i .stream .reported;
-          pending = 0;
-          last = sideOf (getD block (stands i) 0);
+          pending = cond (went i) 0 (y .stream .pending);
+          last = (ap (λ (b : Bool). cond b (sideOf (getD block (to - 1) 0)) (y .stream .last)) went ∙ ap (λ (n : ℕ). sideOf (getD block n 0)) stands) i;
           taken = ap₂ (λ (a b : ℕ). a + b) (ap (λ (u : Traced). u .stream .taken) (h .state-is)) many i;
           rules = h .state-is i .stream .rules;
           positions = h .state-is i .stream .positions;
@@ -367,6 +399,7 @@ module _ (w : Automaton) (z : Traced) (allowance : ℕ) (block : List ℕ) (l₀
         paid =
             paid-on (y .left) (r .at - y .at) (costBy (traced w) z block (r .at)) (costBy (traced w) z block (y .at)) allowance (left-paid (inside .1))
             (ap (costBy (traced w) z block) (sym all) ∙ cost-still w z block (y .at) live begun small (suc more) none ∙ ap (λ (n : ℕ). costBy (traced w) z block (y .at) + n) (sym many)) (h .paid);
+        only = h .only;
         filled = filled-same (sym (ap (reportsBy (traced w) z block) (sym all) ∙ reports-still w z block (y .at) live begun small (suc more) none)) (h .filled);
         live-none = λ e. h .live-none (p .quiet .none-live);
         wait-none = λ e. h .wait-none (p .quiet .none-waits);

@@ -12,11 +12,12 @@ use native.Mathlib.Omega.{arith}
 use lib.Dec.{ltb}
 use lib.ListN.{length, getD, length-append}
 use borrow.Author.Tests.{ltb-true, ltb-false}
-use Rattle.sets.specs.Set.{sizeOf}
+use Rattle.sets.specs.Set.{isEmpty}
 use Rattle.kinds.specs.declared.Side.{Side}
 use Rattle.kinds.specs.Side.{sideOf}
 use Rattle.table.specs.Layout.{maxRules, maxPositions}
 use Rattle.table.specs.Automaton.{Automaton}
+use Rattle.steps.specs.Step.{OnlyIn}
 use Rattle.stream.specs.declared.Stream.{Stream}
 use Rattle.stream.specs.Byte.{after, reportsBy, costBy, nextLive, nextHeld, nextPending, byteState, busyOf}
 use Rattle.stream.specs.Invariants.{Over}
@@ -26,7 +27,8 @@ use Rattle.traced.specs.declared.Traced.{Traced}
 use Rattle.traced.specs.declared.scan.Turn.{Turn}
 use Rattle.traced.specs.Byte.{Report, nextStarts, nextState, byteReports, traced}
 use Rattle.traced.specs.Calls.{Lists, space, written}
-use Rattle.traced.specs.Invariants.{zeros, writtenAt, free, back, stopAt, Filled, Gone, Delivered, Stops, Takes, Offered, Running, Ran}
+use Rattle.traced.specs.Invariants.{zeros, InOrder, writtenAt, free, back, stopAt, Filled, Gone, Delivered, Stops, Takes, Offered, Running, Ran}
+use Rattle.traced.proofs.Carrying.{only-next, none-only, none-pairs}
 use Rattle.traced.proofs.Lists.{written-none, written-part, written-at-none, free-space, filled-start, filled-space, filled-more, filled-same}
 
 module _ (w : Automaton) (z : Traced) (first : ℕ) (block : List ℕ) (y : Turn) (l : Lists) where
@@ -131,22 +133,25 @@ module _ (w : Automaton) (z : Traced) (first : ℕ) (block : List ℕ) (y : Turn
 -- ---- some bytes
 
 -- where the loop begins
-abbrev pub startTurn : Stream → (allowance : ℕ) → Turn
-startTurn s allowance = record { stream = s; at = 0; count = 0; left = allowance; some = true; waits = true; stopped = false }
+abbrev pub startTurn : Stream → (some waits : Bool) → (allowance : ℕ) → Turn
+startTurn s some waits allowance = record { stream = s; at = 0; count = 0; left = allowance; some = some; waits = waits; stopped = false }
 
 abbrev stateOf : Stream → Starts → Traced
 stateOf s k = record { stream = s; starts = k }
 
 module _ (w : Automaton) (z : Traced) (allowance : ℕ) (block : List ℕ) (l₀ : Lists) where
-  pub running-start : Running w z allowance block l₀ (startTurn (z .stream) allowance) (z .starts) l₀
+  -- nothing is live or held, or a start may not be 0
+  pub running-start : (some waits : Bool) → (some ≡ false → isEmpty (z .stream .live) ≡ true) → (waits ≡ false → (isEmpty (z .stream .held) ≡ true) × (z .stream .pending ≡ 0))
+      → InOrder (z .stream) (z .starts) → Running w z allowance block l₀ (startTurn (z .stream) some waits allowance) (z .starts) l₀
   unfolding after reportsBy costBy
-  running-start = record {
+  running-start some waits lives holds order = record {
     inside = zero-le;
     state-is = refl;
     paid = add-zero allowance;
     filled = filled-start (z .stream .taken) l₀;
-    live-none = λ e. absurd (true≢false e);
-    wait-none = λ e. absurd (true≢false e);
+    only = order .live;
+    live-none = λ e. none-only (order .live) (lives e);
+    wait-none = λ e. (none-only (order .held) (holds e .0), none-pairs order (holds e .1));
   }
 
   module _ (y : Turn) (k : Starts) (l : Lists) (h : Running w z allowance block l₀ y k l) where
@@ -168,7 +173,7 @@ module _ (w : Automaton) (z : Traced) (allowance : ℕ) (block : List ℕ) (l₀
 
     -- a byte that is taken
     pub running-take : (r : Turn) (k′ : Starts) (l′ : Lists) → Takes w here (z .stream .taken) block y l r k′ l′ → Running w z allowance block l₀ r k′ l′
-    unfolding nextState
+    unfolding nextState byteState
     running-take r k′ l′ t =
         let at : r .at ≡ y .at + 1 = t .at-is in
         record {
@@ -182,6 +187,9 @@ module _ (w : Automaton) (z : Traced) (allowance : ℕ) (block : List ℕ) (l₀
               subst (λ (n : ℕ). Filled (z .stream .taken) (reportsBy (traced w) z block (r .at)) l₀ n l′) (sym (t .count-is))
               (filled-same (reports-next ∙ ap (reportsBy (traced w) z block) (sym at))
               (filled-more (h .filled) (byteReports w here byte) l′ (t .lists-are) (t .room)));
+          only =
+              subst (λ (u : Starts). OnlyIn (r .stream .live) (u .live)) (sym (t .starts-are))
+              (subst (λ (s : Stream). OnlyIn (s .live) (nextStarts w here byte .live)) (sym (t .stream-is)) (only-next w here byte));
           live-none = t .live-none;
           wait-none = t .wait-none;
         }
@@ -199,7 +207,7 @@ module _ (w : Automaton) (z : Traced) (allowance : ℕ) (block : List ℕ) (l₀
           subst (λ (u : Turn). Running w z allowance block l₀ u k′ l′) (sym (t .is))
           (subst (λ (u : Starts). Running w z allowance block l₀ (stopAt y) u l′) (sym (t .starts-are))
           (subst (λ (u : Lists). Running w z allowance block l₀ (stopAt y) k u) (sym (t .lists-are))
-          (record { inside = h .inside; state-is = h .state-is; paid = h .paid; filled = h .filled; live-none = h .live-none; wait-none = h .wait-none })))
+          (record { inside = h .inside; state-is = h .state-is; paid = h .paid; filled = h .filled; only = h .only; live-none = h .live-none; wait-none = h .wait-none })))
 
       pub stop-over : r .at < length block → Over (traced w) z allowance block (space l₀) (r .at + 1)
       stop-over b =
@@ -226,8 +234,13 @@ pub record Turned (w : Automaton) (z : Traced) (allowance : ℕ) (block : List �
   pub running : Running w z allowance block l₀ y k l
   pub rests : going ≡ false → y .at < length block → Over (traced w) z allowance block (space l₀) (y .at + 1)
 
-pub turned-start : (w : Automaton) (z : Traced) (allowance : ℕ) (block : List ℕ) (l₀ : Lists) → Turned w z allowance block l₀ true (startTurn (z .stream) allowance) (z .starts) l₀
-turned-start w z allowance block l₀ = record { running = running-start w z allowance block l₀; rests = λ e. absurd (true≢false e) }
+pub turned-start : (w : Automaton) (z : Traced) (allowance : ℕ) (block : List ℕ) (l₀ : Lists) (some waits : Bool) → (some ≡ false → isEmpty (z .stream .live) ≡ true)
+    → (waits ≡ false → (isEmpty (z .stream .held) ≡ true) × (z .stream .pending ≡ 0)) → InOrder (z .stream) (z .starts)
+    → Turned w z allowance block l₀ true (startTurn (z .stream) some waits allowance) (z .starts) l₀
+turned-start w z allowance block l₀ some waits lives holds order = record {
+  running = running-start w z allowance block l₀ some waits lives holds order;
+  rests = λ e. absurd (true≢false e);
+}
 
 module _ {w : Automaton} {z : Traced} {allowance : ℕ} {block : List ℕ} {l₀ : Lists} {y r : Turn} {k k′ : Starts} {l l′ : Lists}
     (h : Running w z allowance block l₀ y k l) (t : Offered w (stateOf (y .stream) k) (z .stream .taken) block y l r k′ l′) where

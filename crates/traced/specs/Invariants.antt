@@ -14,10 +14,10 @@ use Rattle.table.specs.Layout.{positionsOf, maxRules, maxPositions}
 use Rattle.table.specs.Gaps.{beforeLast}
 use Rattle.table.specs.Table.{isTable}
 use Rattle.table.specs.Automaton.{Automaton, automaton, single}
-use Rattle.steps.specs.Step.{listFrom, lastsOf, latesOf, keepersOf, rulesWhere, steppedStarts, startAt}
+use Rattle.steps.specs.Step.{listFrom, lastsOf, latesOf, keepersOf, rulesWhere, steppedStarts, startAt, OnlyIn}
 use Rattle.stream.specs.declared.Stream.{Stream}
 use Rattle.stream.specs.Byte.{after, reportsBy, costBy, runReports, runMarks, twoReports, twoMarks, nextLive, nextHeld, nextPending, byteState, busyOf}
-use Rattle.stream.specs.Invariants.{columnAt, partAt, NoOpener, Over}
+use Rattle.stream.specs.Invariants.{columnAt, partAt, passedSide, NoOpener, Over}
 use Rattle.traced.specs.declared.Starts.{Starts}
 use Rattle.traced.specs.declared.Traced.{Traced}
 use Rattle.traced.specs.declared.reports.Marks.{Marks}
@@ -131,6 +131,13 @@ zeros n = listFrom 0 n (λ q. 0)
 abbrev pub startsOf : (live held pairs : List ℕ) → Starts
 startsOf live held pairs = record { live = live; held = held; pairs = pairs }
 
+-- the starts of a valid state, as far as they are 0
+pub record InOrder (s : Stream) (k : Starts) : Type 0 where
+  pub live : OnlyIn (s .live) (k .live)
+  pub held : OnlyIn (s .held) (k .held)
+  pub as-many : length (k .pairs) ≡ maxRules
+  pub pairs : (a : ℕ) → a < maxRules → on (s .pending) a ≡ false → getD (k .pairs) a 0 ≡ 0
+
 -- what byte x makes of the starts of the live positions, of the held ones, and of held pairs
 abbrev pub liveNext : Automaton → Stream → (live : List ℕ) → (x : ℕ) → List ℕ
 liveNext w s live x = steppedStarts w false (s .last) (sideOf x) (keeping w (s .live)) live (keeping w (nextLive w s x)) (s .taken)
@@ -180,15 +187,15 @@ pub record PassEnd (w : Automaton) (quiet : Bool) (block : List ℕ) (from end r
   pub quiet-is : from < r → quiet ≡ true
   pub other : from < r → ¬ (getD block (r - 1) 0 ≡ 10)
 
--- a turn that passes bytes over, up to place `to`: a unit each, and nothing waits
+-- a turn that passes bytes over, up to place `to`: a unit each, and nothing is held, if there are any
 abbrev pub passTo : (block : List ℕ) → Turn → (to : ℕ) → Turn
 passTo block y to = record {
   stream = record {
     live = y .stream .live;
-    held = emptySet;
+    held = cond (ltb (y .at) to) emptySet (y .stream .held);
     reported = y .stream .reported;
-    pending = 0;
-    last = sideOf (getD block (to - 1) 0);
+    pending = cond (ltb (y .at) to) 0 (y .stream .pending);
+    last = passedSide (y .at) to (y .stream .last) block;
     taken = y .stream .taken + (to - y .at);
     rules = y .stream .rules;
     positions = y .stream .positions;
@@ -197,8 +204,8 @@ passTo block y to = record {
   at = to;
   count = y .count;
   left = y .left - (to - y .at);
-  some = false;
-  waits = false;
+  some = y .some;
+  waits = y .waits;
   stopped = y .stopped;
 }
 
@@ -252,6 +259,7 @@ pub record Running (w : Automaton) (z : Traced) (allowance : ℕ) (block : List 
   pub state-is : record { stream = y .stream; starts = k } ≡ after (traced w) z block (y .at)
   pub paid : y .left + costBy (traced w) z block (y .at) ≡ allowance
   pub filled : Filled (z .stream .taken) (reportsBy (traced w) z block (y .at)) l₀ (y .count) l
+  pub only : OnlyIn (y .stream .live) (k .live)
   pub live-none : y .some ≡ false → k .live ≡ zeros maxPositions
   pub wait-none : y .waits ≡ false → (k .held ≡ zeros maxPositions) × (k .pairs ≡ zeros maxRules)
 
@@ -267,6 +275,7 @@ pub record Byte (t : List ℕ) (gates : Gates) (s : Stream) (next : List ℕ) (w
   pub next-is : next ≡ nextLive (automaton t) s x
   pub held-is : waiting .held ≡ nextHeld (automaton t) s x
   pub pending-is : waiting .pending ≡ nextPending (automaton t) s x
+  pub only : OnlyIn (s .live) (k .live)
   pub live-none : some ≡ false → k .live ≡ zeros maxPositions
   pub wait-none : waits ≡ false → (k .held ≡ zeros maxPositions) × (k .pairs ≡ zeros maxRules)
 

@@ -104,6 +104,7 @@ impl Traced {
                 traced: self,
             };
         }
+        let mut spare = [0u64; 256];
         let r = run(
             stream,
             gates_of(words),
@@ -111,6 +112,7 @@ impl Traced {
             allowance,
             block,
             &mut live,
+            &mut spare,
             &mut held,
             &mut pairs,
             ids,

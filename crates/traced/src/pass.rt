@@ -4,18 +4,19 @@
 // before it need no look. The code that looks for such bytes is that of the crate `stream`, whose
 // loop would be slower if it had a second caller.
 use super::scan::Turn;
+use kinds::Side;
 use kinds::side_of;
 use steps::opens;
 use stream::Stream;
 use table::layout::TABLE_WORDS;
 ghost use mathlib.Core.Path.{_≡_};
-ghost use mathlib.Core.Bool.{true};
+ghost use mathlib.Core.Bool.{true, cond};
 ghost use Prim.Native.Nat.{_+_, _-_, _≤_, min};
 ghost use lib.ListN.{length, getD};
-ghost use Rattle.sets.specs.Set.{any};
+ghost use Rattle.sets.specs.Set.{any, emptySet};
 ghost use Rattle.table.specs.Automaton.{automaton};
 ghost use Rattle.stream.specs.Valid.{streamLimit};
-ghost use Rattle.stream.specs.Invariants.{NoOpener};
+ghost use Rattle.stream.specs.Invariants.{NoOpener, passedSide};
 ghost use Rattle.traced.specs.Invariants.{Quietly, BackOver, PassEnd, Passed};
 
 // The byte that ends a line.
@@ -132,7 +133,35 @@ fn is_quiet(some: bool, waits: bool, live: [u64; 4], taken: u64) -> bool
     !(some | waits) & (sets::is_empty(live) & (taken != 0))
 }
 
-// Passes over the bytes that change nothing, as far as they can be paid for.
+// The positions, and the pairs, that are held once bytes are passed over; those of before, if there
+// are none.
+fn passed_set(passed: bool, held: [u64; 4]) -> [u64; 4]
+    ensures { λ r. ⌜ r ≡ cond passed emptySet held ⌝ }
+{
+    if passed { sets::empty() } else { held }
+}
+
+fn passed_pairs(passed: bool, pending: u64) -> u64
+    ensures { λ r. ⌜ r ≡ cond passed 0 pending ⌝ }
+{
+    if passed { 0 } else { pending }
+}
+
+// What stands before the byte at `to`, once the bytes from `from` up to it are passed over; this
+// side, if there are none.
+fn passed_side(from: usize, to: usize, side: Side, block: &[u8]) -> Side
+    requires { ⌜ to ≤ length (now block) ⌝ }
+    ensures { λ r. ⌜ r ≡ passedSide from to side (now (block .entry)) ⌝ }
+{
+    if from < to {
+        side_of(block[to - 1])
+    } else {
+        side
+    }
+}
+
+// Passes over the bytes that change nothing, as far as they can be paid for. The turn is made field
+// by field, which is quicker than to give it back as it is where none is passed over.
 pub(super) fn pass_over(y: Turn, words: &[u64], block: &[u8]) -> Turn
     requires { ⌜ (y .at ≤ length (now block)) × (y .stream .taken + (length (now block) - y .at) ≤ streamLimit) ⌝ }
     ensures { λ r. ⌜ Passed (automaton (now (words .entry))) (now (block .entry)) y r ⌝ }
@@ -140,20 +169,20 @@ pub(super) fn pass_over(y: Turn, words: &[u64], block: &[u8]) -> Turn
     let at = y.at;
     let s = y.stream;
     let live = s.live;
+    let waited = s.held;
+    let before = s.last;
     let quiet = is_quiet(y.some, y.waits, live, s.taken);
     let to = pass_end(quiet, words, block, at, y.left);
-    if to <= at {
-        return y;
-    }
-    let held = sets::empty();
-    let last = side_of(block[to - 1]);
+    let held = passed_set(at < to, waited);
+    let pending = passed_pairs(at < to, s.pending);
+    let last = passed_side(at, to, before, block);
     let passed = (to - at) as u64;
     Turn {
         stream: Stream {
             live,
             held,
             reported: s.reported,
-            pending: 0,
+            pending,
             last,
             taken: s.taken + passed,
             rules: s.rules,
@@ -163,8 +192,8 @@ pub(super) fn pass_over(y: Turn, words: &[u64], block: &[u8]) -> Turn
         at: to,
         count: y.count,
         left: y.left - passed,
-        some: false,
-        waits: false,
+        some: y.some,
+        waits: y.waits,
         stopped: y.stopped,
     }
 }

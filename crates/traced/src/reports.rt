@@ -121,6 +121,47 @@ pub(super) fn write_run(
     }
 }
 
+// Works out the starts of one run, whose matches end at a gap with a position of the set, and writes
+// it into the lists from a place on.
+pub(super) fn give_run(
+    ending: u64,
+    reported: u64,
+    gap: usize,
+    set: [u64; 4],
+    live: &[u64; 256],
+    marks: Marks,
+    words: &[u64],
+    end: u64,
+    place: usize,
+    ids: &mut [u32],
+    offsets: &mut [u64],
+    starts: &mut [u64],
+    relatives: &mut [i64],
+) -> Run
+    requires { ⌜ (isTable (now words) ≡ true)
+        × MarksOf (now words) marks
+        × (end < 2 ^ 63)
+        × (ending ≡ rulesWhere (automaton (now words)) (on ending))
+        × (place + length (runReports (on ending) reported (given (automaton (now words)) end (startAt (automaton (now words)) gap set (now live) end))
+        (automaton (now words) .rules)) ≤ space (lists (now ids) (now offsets) (now starts) (now relatives))) ⌝ }
+    ensures { λ r. ⌜ Wrote (automaton (now (words .entry))) (on ending) reported (given (automaton (now (words .entry))) end (startAt (automaton (now (words .entry))) gap set (now (live .entry)) end)) (marks .first) place (lists (now (ids .entry)) (now (offsets .entry)) (now (starts .entry)) (now (relatives .entry))) (r .next) (r .reported) (lists (now (ids .exit)) (now (offsets .exit)) (now (starts .exit)) (now (relatives .exit))) ⌝ }
+{
+    let froms = starts_of(ending & marks.leftmost, gap, set, live, end, words);
+    write_run(
+        ending,
+        reported,
+        &froms,
+        marks,
+        words,
+        end,
+        place,
+        ids,
+        offsets,
+        starts,
+        relatives,
+    )
+}
+
 // Writes two runs at the front of the lists, with these end offsets, the marks brought up to date
 // between them.
 pub(super) fn write_two(

@@ -3,11 +3,13 @@
 use super::checks::shortest;
 use super::pass::pass_over;
 use super::reports::Marks;
+use super::reports::Run;
 use super::reports::due;
+use super::reports::give_run;
 use super::reports::starts_of;
-use super::reports::write_two;
 use kinds::Side;
 use kinds::side_of;
+use steps::carry_starts;
 use steps::ending;
 use steps::keepers;
 use steps::lasts;
@@ -24,20 +26,23 @@ use stream::Stream;
 use table::gaps::UNSETTLED;
 use table::layout::POSITIONS_AT;
 ghost use mathlib.Core.Path.{_≡_};
-ghost use mathlib.Core.Bool.{true, false};
+ghost use mathlib.Core.Bool.{true, false, not, _&&_};
 ghost use Prim.Native.Nat.{_+_, _-_, _^_, _<_, _≤_};
+ghost use lib.Bits.{bitAnd, bitOr};
+ghost use lib.Dec.{ltb};
 ghost use lib.ListN.{length};
+ghost use Rattle.sets.specs.Set.{on, count};
 ghost use Rattle.kinds.specs.Side.{sideOf};
 ghost use Rattle.table.specs.Layout.{tableWords, maxPositions, maxRules};
-ghost use Rattle.table.specs.Gaps.{unsettled};
+ghost use Rattle.table.specs.Gaps.{between, unsettled};
 ghost use Rattle.table.specs.Table.{isTable};
 ghost use Rattle.table.specs.Automaton.{automaton};
-ghost use Rattle.steps.specs.Step.{ends, rulesWhere};
+ghost use Rattle.steps.specs.Step.{ends, rulesWhere, startAt, OnlyIn};
 ghost use Rattle.stream.specs.Valid.{streamLimit};
-ghost use Rattle.stream.specs.Byte.{nextLive, nextHeld, nextPending, lateTest, ownTest};
-ghost use Rattle.traced.specs.Byte.{byteReports};
+ghost use Rattle.stream.specs.Byte.{nextLive, nextHeld, nextPending, lateTest, runReports};
+ghost use Rattle.traced.specs.Byte.{given};
 ghost use Rattle.traced.specs.Calls.{lists, space};
-ghost use Rattle.traced.specs.Invariants.{zeros, startsOf, stateOf, GatesOf, liveNext, heldNext, pairsNext, Byte, Carried, Gone, stopAt, Delivered, Offered, Ran};
+ghost use Rattle.traced.specs.Invariants.{zeros, startsOf, stateOf, GatesOf, liveNext, heldNext, pairsNext, InOrder, Wrote, Byte, Carried, stopAt, Delivered, Offered, Ran};
 
 // The byte that ends a line.
 const NEWLINE: u8 = 10;
@@ -132,8 +137,8 @@ fn own_rules(gates: Gates, next: [u64; 4], words: &[u64]) -> u64
     }
 }
 
-// Carries the starts of the live positions along a byte. `some` says whether one may not be 0, and
-// so does the answer; while none is, nothing is done.
+// Carries the starts of the live positions along a byte, with the help of spare ones, which are 0.
+// `some` says whether one may not be 0, and so does the answer; while none is, nothing is done.
 fn carry_live(
     gates: Gates,
     s: Stream,
@@ -142,11 +147,14 @@ fn carry_live(
     some: bool,
     words: &[u64],
     live: &mut [u64; 256],
+    spare: &mut [u64; 256],
 ) -> bool
     requires { ⌜ (isTable (now words) ≡ true) × GatesOf (now words) gates
-        × (next ≡ nextLive (automaton (now words)) s byte) × (some ≡ false → now live ≡ zeros maxPositions) ⌝ }
+        × (next ≡ nextLive (automaton (now words)) s byte) × (some ≡ false → now live ≡ zeros maxPositions)
+        × OnlyIn (s .live) (now live) × (now spare ≡ zeros maxPositions) ⌝ }
     ensures is { λ r. ⌜ now (live .exit) ≡ liveNext (automaton (now (words .entry))) s (now (live .entry)) byte ⌝ }
     ensures none { λ r. ⌜ (r ≡ false → now (live .exit) ≡ zeros maxPositions) ⌝ }
+    ensures spare { λ r. ⌜ now (spare .exit) ≡ now (spare .entry) ⌝ }
 {
     let keepers = gates.keepers;
     let alive = s.live;
@@ -157,17 +165,17 @@ fn carry_live(
         return false;
     }
     let was = sets::intersection(alive, keepers);
-    let stepped = step_starts(
-        false,
+    carry_starts(
         before,
         side_of(byte),
+        alive,
         was,
-        live,
         reached,
         s.taken,
         words,
+        live,
+        spare,
     );
-    *live = stepped;
     more
 }
 
@@ -267,101 +275,135 @@ fn carry(
     waits: bool,
     words: &[u64],
     live: &mut [u64; 256],
+    spare: &mut [u64; 256],
     held: &mut [u64; 256],
     pairs: &mut [u64; 64],
 ) -> Kept
-    requires { ⌜ Byte (now words) gates s next waiting byte some waits (startsOf (now live) (now held) (now pairs)) ⌝ }
-    ensures { λ r. ⌜ Carried (automaton (now (words .entry))) (stateOf s (now (live .entry)) (now (held .entry)) (now (pairs .entry))) byte (r .some) (r .waits) (startsOf (now (live .exit)) (now (held .exit)) (now (pairs .exit))) ⌝ }
+    requires { ⌜ Byte (now words) gates s next waiting byte some waits (startsOf (now live) (now held) (now pairs)) × (now spare ≡ zeros maxPositions) ⌝ }
+    ensures spare { λ r. ⌜ now (spare .exit) ≡ now (spare .entry) ⌝ }
+    ensures starts { λ r. ⌜ Carried (automaton (now (words .entry))) (stateOf s (now (live .entry)) (now (held .entry)) (now (pairs .entry))) byte (r .some) (r .waits) (startsOf (now (live .exit)) (now (held .exit)) (now (pairs .exit))) ⌝ }
 {
     let behind = carry_waiting(gates, s, waiting, byte, waits, words, live, held, pairs);
-    let ahead = carry_live(gates, s, next, byte, some, words, live);
+    let ahead = carry_live(gates, s, next, byte, some, words, live, spare);
     Kept {
         some: ahead,
         waits: behind,
     }
 }
 
-// Writes both runs of a byte at the front of the lists, which have space for them, and carries the
-// starts along.
-fn deliver(
+// Whether there is too little space for the reports of both runs of a byte. They are counted only if
+// some rule ends.
+fn too_many(late: u64, own: u64, reported: u64, single: u64, space: usize) -> bool
+    ensures { λ r. ⌜ r ≡ ltb space (count 64 (λ a. on late a && not (on reported a)) + count 64 (λ a. on own a && not (on (bitOr reported (bitAnd late single)) a))) ⌝ }
+{
+    if late | own == 0 {
+        return false;
+    }
+    let marks = reported | late & single;
+    space < due(late, reported) + due(own, marks)
+}
+
+// Writes the run of the rules of which a match ends before a byte, at the front of the lists.
+fn late_run(
     late: u64,
-    own: u64,
     gates: Gates,
     s: Stream,
-    next: [u64; 4],
-    waiting: Waiting,
     byte: u8,
-    some: bool,
-    waits: bool,
     first: u64,
     words: &[u64],
-    live: &mut [u64; 256],
-    held: &mut [u64; 256],
-    pairs: &mut [u64; 64],
+    live: &[u64; 256],
     ids: &mut [u32],
     offsets: &mut [u64],
     starts: &mut [u64],
     relatives: &mut [i64],
-) -> Delivery
-    requires { ⌜ Byte (now words) gates s next waiting byte some waits (startsOf (now live) (now held) (now pairs))
-        × (late ≡ rulesWhere (automaton (now words)) (lateTest (automaton (now words)) s byte))
-        × (own ≡ rulesWhere (automaton (now words)) (ownTest (automaton (now words)) s byte))
-        × (first < 2 ^ 63) × (s .taken + 1 < 2 ^ 63)
-        × (length (byteReports (automaton (now words)) (stateOf s (now live) (now held) (now pairs)) byte)
-        ≤ space (lists (now ids) (now offsets) (now starts) (now relatives))) ⌝ }
-    ensures full { λ r. ⌜ r .full ≡ false ⌝ }
-    ensures gone { λ r. ⌜ Gone (automaton (now (words .entry))) (stateOf s (now (live .entry)) (now (held .entry)) (now (pairs .entry))) byte first (lists (now (ids .entry)) (now (offsets .entry)) (now (starts .entry)) (now (relatives .entry))) (r .reports) (r .reported) (r .some) (r .waits) (startsOf (now (live .exit)) (now (held .exit)) (now (pairs .exit))) (lists (now (ids .exit)) (now (offsets .exit)) (now (starts .exit)) (now (relatives .exit))) ⌝ }
+) -> Run
+    requires { ⌜ (isTable (now words) ≡ true) × GatesOf (now words) gates × (first < 2 ^ 63) × (s .taken < 2 ^ 63)
+        × (late ≡ rulesWhere (automaton (now words)) (on late))
+        × (0 + length (runReports (on late) (s .reported) (given (automaton (now words)) (s .taken) (startAt (automaton (now words)) (between (s .last) (sideOf byte)) (s .live) (now live) (s .taken)))
+        (automaton (now words) .rules)) ≤ space (lists (now ids) (now offsets) (now starts) (now relatives))) ⌝ }
+    ensures { λ r. ⌜ Wrote (automaton (now (words .entry))) (on late) (s .reported) (given (automaton (now (words .entry))) (s .taken) (startAt (automaton (now (words .entry))) (between (s .last) (sideOf byte)) (s .live) (now (live .entry)) (s .taken))) first 0 (lists (now (ids .entry)) (now (offsets .entry)) (now (starts .entry)) (now (relatives .entry))) (r .next) (r .reported) (lists (now (ids .exit)) (now (offsets .exit)) (now (starts .exit)) (now (relatives .exit))) ⌝ }
 {
+    if late == 0 {
+        return Run {
+            next: 0,
+            reported: s.reported,
+        };
+    }
     let alive = s.live;
     let before = s.last;
-    let gap = table::gaps::between(before, side_of(byte));
-    let one = starts_of(late & gates.leftmost, gap, alive, live, s.taken, words);
-    let kept = carry(
-        gates,
-        s,
-        next,
-        waiting,
-        byte,
-        some,
-        waits,
-        words,
-        live,
-        held,
-        pairs,
-    );
-    let end = s.taken + 1;
-    let two = starts_of(own & gates.leftmost, UNSETTLED, next, live, end, words);
     let marks = Marks {
         single: gates.single,
         leftmost: gates.leftmost,
         first,
     };
-    let run = write_two(
+    give_run(
         late,
-        own,
         s.reported,
-        &one,
-        &two,
+        table::gaps::between(before, side_of(byte)),
+        alive,
+        live,
         marks,
         words,
         s.taken,
-        end,
+        0,
         ids,
         offsets,
         starts,
         relatives,
-    );
-    Delivery {
-        full: false,
-        reports: run.next,
-        reported: run.reported,
-        some: kept.some,
-        waits: kept.waits,
+    )
+}
+
+// Writes the run of the rules of which a match ends with a byte, behind the other: `next` is the set
+// that is live after it, and `end` its end offset.
+fn own_run(
+    own: u64,
+    late: Run,
+    gates: Gates,
+    next: [u64; 4],
+    end: u64,
+    first: u64,
+    words: &[u64],
+    live: &[u64; 256],
+    ids: &mut [u32],
+    offsets: &mut [u64],
+    starts: &mut [u64],
+    relatives: &mut [i64],
+) -> Run
+    requires { ⌜ (isTable (now words) ≡ true) × GatesOf (now words) gates × (first < 2 ^ 63) × (end < 2 ^ 63)
+        × (own ≡ rulesWhere (automaton (now words)) (on own))
+        × (late .next + length (runReports (on own) (late .reported) (given (automaton (now words)) end (startAt (automaton (now words)) unsettled next (now live) end))
+        (automaton (now words) .rules)) ≤ space (lists (now ids) (now offsets) (now starts) (now relatives))) ⌝ }
+    ensures { λ r. ⌜ Wrote (automaton (now (words .entry))) (on own) (late .reported) (given (automaton (now (words .entry))) end (startAt (automaton (now (words .entry))) unsettled next (now (live .entry)) end)) first (late .next) (lists (now (ids .entry)) (now (offsets .entry)) (now (starts .entry)) (now (relatives .entry))) (r .next) (r .reported) (lists (now (ids .exit)) (now (offsets .exit)) (now (starts .exit)) (now (relatives .exit))) ⌝ }
+{
+    if own == 0 {
+        return late;
     }
+    let marks = Marks {
+        single: gates.single,
+        leftmost: gates.leftmost,
+        first,
+    };
+    give_run(
+        own,
+        late.reported,
+        UNSETTLED,
+        next,
+        live,
+        marks,
+        words,
+        end,
+        late.next,
+        ids,
+        offsets,
+        starts,
+        relatives,
+    )
 }
 
 // Writes the reports of a byte into what is free of the lists, if they all fit there, and carries
-// the starts along. No start is looked for unless some rule reports.
+// the starts along: those of the late run are asked before that, and its own after it. Each run is
+// written by a function of its own, and the starts are carried at one place: so the compiler puts
+// all of it into the loop over the bytes but for the writing.
 fn report(
     gates: Gates,
     s: Stream,
@@ -373,6 +415,7 @@ fn report(
     first: u64,
     words: &[u64],
     live: &mut [u64; 256],
+    spare: &mut [u64; 256],
     held: &mut [u64; 256],
     pairs: &mut [u64; 64],
     ids: &mut [u32],
@@ -381,36 +424,14 @@ fn report(
     relatives: &mut [i64],
 ) -> Delivery
     requires { ⌜ Byte (now words) gates s next waiting byte some waits (startsOf (now live) (now held) (now pairs))
-        × (first < 2 ^ 63) × (s .taken + 1 < 2 ^ 63) ⌝ }
-    ensures { λ r. ⌜ Delivered (automaton (now (words .entry))) (stateOf s (now (live .entry)) (now (held .entry)) (now (pairs .entry))) byte first (lists (now (ids .entry)) (now (offsets .entry)) (now (starts .entry)) (now (relatives .entry))) (r .full) (r .reports) (r .reported) (r .some) (r .waits) (startsOf (now (live .exit)) (now (held .exit)) (now (pairs .exit))) (lists (now (ids .exit)) (now (offsets .exit)) (now (starts .exit)) (now (relatives .exit))) ⌝ }
+        × (first < 2 ^ 63) × (s .taken + 1 < 2 ^ 63) × (now spare ≡ zeros maxPositions) ⌝ }
+    ensures spare { λ r. ⌜ now (spare .exit) ≡ now (spare .entry) ⌝ }
+    ensures reports { λ r. ⌜ Delivered (automaton (now (words .entry))) (stateOf s (now (live .entry)) (now (held .entry)) (now (pairs .entry))) byte first (lists (now (ids .entry)) (now (offsets .entry)) (now (starts .entry)) (now (relatives .entry))) (r .full) (r .reports) (r .reported) (r .some) (r .waits) (startsOf (now (live .exit)) (now (held .exit)) (now (pairs .exit))) (lists (now (ids .exit)) (now (offsets .exit)) (now (starts .exit)) (now (relatives .exit))) ⌝ }
 {
     let late = late_rules(gates, s, byte, words);
     let own = own_rules(gates, next, words);
-    if late | own == 0 {
-        let kept = carry(
-            gates,
-            s,
-            next,
-            waiting,
-            byte,
-            some,
-            waits,
-            words,
-            live,
-            held,
-            pairs,
-        );
-        return Delivery {
-            full: false,
-            reports: 0,
-            reported: s.reported,
-            some: kept.some,
-            waits: kept.waits,
-        };
-    }
-    let marks = s.reported | late & gates.single;
     let space = shortest(ids.len(), offsets.len(), starts.len(), relatives.len());
-    if space < due(late, s.reported) + due(own, marks) {
+    if too_many(late, own, s.reported, gates.single, space) {
         return Delivery {
             full: true,
             reports: 0,
@@ -419,9 +440,20 @@ fn report(
             waits,
         };
     }
-    deliver(
+    let one = late_run(
         late,
-        own,
+        gates,
+        s,
+        byte,
+        first,
+        words,
+        live,
+        ids,
+        offsets,
+        starts,
+        relatives,
+    );
+    let kept = carry(
         gates,
         s,
         next,
@@ -429,16 +461,33 @@ fn report(
         byte,
         some,
         waits,
+        words,
+        live,
+        spare,
+        held,
+        pairs,
+    );
+    let two = own_run(
+        own,
+        one,
+        gates,
+        next,
+        s.taken + 1,
         first,
         words,
         live,
-        held,
-        pairs,
         ids,
         offsets,
         starts,
         relatives,
-    )
+    );
+    Delivery {
+        full: false,
+        reports: two.next,
+        reported: two.reported,
+        some: kept.some,
+        waits: kept.waits,
+    }
 }
 
 // A turn that stops.
@@ -458,6 +507,7 @@ fn take_byte(
     words: &[u64],
     block: &[u8],
     live: &mut [u64; 256],
+    spare: &mut [u64; 256],
     held: &mut [u64; 256],
     pairs: &mut [u64; 64],
     ids: &mut [u32],
@@ -468,8 +518,10 @@ fn take_byte(
     requires { ⌜ (isTable (now words) ≡ true) × GatesOf (now words) gates × (y .count ≤ space (lists (now ids) (now offsets) (now starts) (now relatives)))
         × (first < 2 ^ 63) × (y .stream .taken + (length (now block) - y .at) ≤ streamLimit)
         × (y .some ≡ false → now live ≡ zeros maxPositions)
-        × (y .waits ≡ false → (now held ≡ zeros maxPositions) × (now pairs ≡ zeros maxRules)) ⌝ }
-    ensures { λ r. ⌜ Offered (automaton (now (words .entry))) (stateOf (y .stream) (now (live .entry)) (now (held .entry)) (now (pairs .entry))) first (now (block .entry)) y (lists (now (ids .entry)) (now (offsets .entry)) (now (starts .entry)) (now (relatives .entry))) r (startsOf (now (live .exit)) (now (held .exit)) (now (pairs .exit))) (lists (now (ids .exit)) (now (offsets .exit)) (now (starts .exit)) (now (relatives .exit))) ⌝ }
+        × (y .waits ≡ false → (now held ≡ zeros maxPositions) × (now pairs ≡ zeros maxRules))
+        × OnlyIn (y .stream .live) (now live) × (now spare ≡ zeros maxPositions) ⌝ }
+    ensures spare { λ r. ⌜ now (spare .exit) ≡ now (spare .entry) ⌝ }
+    ensures turn { λ r. ⌜ Offered (automaton (now (words .entry))) (stateOf (y .stream) (now (live .entry)) (now (held .entry)) (now (pairs .entry))) first (now (block .entry)) y (lists (now (ids .entry)) (now (offsets .entry)) (now (starts .entry)) (now (relatives .entry))) r (startsOf (now (live .exit)) (now (held .exit)) (now (pairs .exit))) (lists (now (ids .exit)) (now (offsets .exit)) (now (starts .exit)) (now (relatives .exit))) ⌝ }
 {
     let at = y.at;
     if block.len() <= at {
@@ -500,6 +552,7 @@ fn take_byte(
         first,
         words,
         live,
+        spare,
         held,
         pairs,
         &mut ids[count..],
@@ -541,6 +594,7 @@ pub(super) fn run(
     allowance: u64,
     block: &[u8],
     live: &mut [u64; 256],
+    spare: &mut [u64; 256],
     held: &mut [u64; 256],
     pairs: &mut [u64; 64],
     ids: &mut [u32],
@@ -548,17 +602,20 @@ pub(super) fn run(
     starts: &mut [u64],
     relatives: &mut [i64],
 ) -> Turn
-    requires { ⌜ (isTable (now words) ≡ true) × GatesOf (now words) gates × (s .taken + length (now block) ≤ streamLimit) ⌝ }
+    requires { ⌜ (isTable (now words) ≡ true) × GatesOf (now words) gates × (s .taken + length (now block) ≤ streamLimit)
+        × InOrder s (startsOf (now live) (now held) (now pairs)) × (now spare ≡ zeros maxPositions) ⌝ }
     ensures { λ r. ⌜ Ran (automaton (now (words .entry))) (stateOf s (now (live .entry)) (now (held .entry)) (now (pairs .entry))) allowance (now (block .entry)) (lists (now (ids .entry)) (now (offsets .entry)) (now (starts .entry)) (now (relatives .entry))) r (startsOf (now (live .exit)) (now (held .exit)) (now (pairs .exit))) (lists (now (ids .exit)) (now (offsets .exit)) (now (starts .exit)) (now (relatives .exit))) ⌝ }
 {
     let first = s.taken;
+    let alive = s.live;
+    let waited = s.held;
     let mut y = Turn {
         stream: s,
         at: 0,
         count: 0,
         left: allowance,
-        some: true,
-        waits: true,
+        some: !sets::is_empty(alive),
+        waits: !sets::is_empty(waited) | (s.pending != 0),
         stopped: false,
     };
     let mut going = true;
@@ -571,6 +628,7 @@ pub(super) fn run(
             words,
             block,
             live,
+            spare,
             held,
             pairs,
             ids,

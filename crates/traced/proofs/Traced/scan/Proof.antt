@@ -4,11 +4,14 @@ use mathlib.Core.Path.{_≡_, sym, ap, _∙_}
 use Prim.Native.Nat.{ℕ, _+_, _-_, _≤_}
 use native.Mathlib.Omega.{arith}
 use denote.Ref.{now}
-use lib.ListN.{length}
+use lib.ListN.{length, length-map}
+use Rattle.table.specs.Layout.{maxRules, maxPositions}
 use Rattle.table.specs.Automaton.{automaton}
 use Rattle.table.proofs.Test.{passes}
+use Rattle.traced.specs.declared.Starts.{Starts}
 use Rattle.traced.specs.Calls.{Lists, Call, call, lists, space, scanNumber, callNumber}
-use Rattle.traced.proofs.Accepting.{Accepted, accepted}
+use Rattle.traced.proofs.Accepting.{Accepted, accepted, in-order}
+use Rattle.traced.proofs.Carrying.{all-zero}
 use Rattle.traced.proofs.Lists.{filled-long}
 use Rattle.traced.proofs.Closing.{refused-scan, accepted-scan}
 use Rattle.traced.proofs.Traced.scan.Statement.{statement}
@@ -52,30 +55,42 @@ returns c =
 gates-of-requires : tie.Need-gates-of-requires
 gates-of-requires c κs = passes (now (begun (c .before) .args .words)) (holds c .table) .long
 
+-- there is a start for each position, and for each rule
+module _ (s : tie.Start) where
+  abbrev kept : Starts
+  kept = s .args .self .starts
+
+  live-long : length (kept .live) ≡ maxPositions
+  live-long = sym (length-map (kept .live) (λ v. v)) ∙ s .good .0 .1 .1 .1 .0 .1 .1 .0 .1 .0 .1
+
+  held-long : length (kept .held) ≡ maxPositions
+  held-long = sym (length-map (kept .held) (λ v. v)) ∙ s .good .0 .1 .1 .1 .0 .1 .1 .1 .0 .1 .0 .1
+
+  pairs-long : length (kept .pairs) ≡ maxRules
+  pairs-long = sym (length-map (kept .pairs) (λ v. v)) ∙ s .good .0 .1 .1 .1 .0 .1 .1 .1 .1 .0 .1 .0 .1
+
 run-requires : tie.Need-run-requires
 run-requires c κs =
-    let back = c .before .before .before .before .before .before in
-    let c-gates-of = back .before .gates-of in
-    let c-else-place = back .before .before in
-    let o = c-else-place in
-    (holds o .table, c-gates-of .ensures, holds o .short)
+    let g = let i = c .before .before .before .before in i .before .before .before .before in
+    let o = g .before in
+    let s = begun (o .before) in (
+      holds o .table,
+      g .gates-of .ensures,
+      holds o .short,
+      in-order (s .args .self) (holds o .ordered) (live-long s) (held-long s) (pairs-long s),
+      all-zero maxPositions,
+    )
 
 -- how far the loop came
 abbrev other : tie.After-run → tie.Else1
 other c =
     let i = c .before .before .before .before .before .before in
-    i .before .before .before
+    i .before .before .before .before
 
-sub-t37 : tie.Need-sub-t37
-sub-t37 c =
-    let back = c .before .before .before .before .before .before in
-    let c-run = back .before .before .before .run in
-    let further = back .before .before .before .before .before .before in
-    let earlier = further .before .before .before .before .before .before in
-    let before = earlier .before .before .before .before .before .before in
-    let begun = before .before .before .before .before .before .before in
-    let c-start = begun .before .before .before in
-    paid (c-run .result .left) _ (c-start .args .allowance) (c-run .ensures .running .paid)
+sub-t39 : tie.Need-sub-t39
+sub-t39 c =
+    let r = let i = c .before .before .before .before .before .before in i .before .before .before in
+    paid (r .run .result .left) _ (begun (other r .before) .args .allowance) (r .run .ensures .running .paid)
 
 same-length : tie.Need-same-length
 same-length c =
@@ -116,7 +131,7 @@ scan-spec =
     returns
     gates-of-requires
     run-requires
-    sub-t37
+    sub-t39
     same-length
     same-length-2
     same-length-3

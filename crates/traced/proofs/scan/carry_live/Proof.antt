@@ -1,6 +1,6 @@
 -- `traced::scan::carry_live` meets its contract: nothing keeps a start before the byte nor after it,
 -- or the starts are stepped.
-use mathlib.Core.Path.{_≡_, sym, ap, ap₂, _∙_}
+use mathlib.Core.Path.{_≡_, refl, sym, ap, ap₂, _∙_}
 use mathlib.Core.Bool.{Bool, true, false, not}
 use mathlib.Core.List.{List}
 use Prim.Native.Nat.{ℕ}
@@ -45,7 +45,7 @@ returns c =
     let c-start = c .before .before .before .before .before .before in
     let both = neither (c-start .args .some) (not (c-is-empty .result)) (c-if1 .taken) in
     let was = c-start .pre .3 (both .0) in
-    (was ∙ sym (none (c .before) (empty-if (c-is-empty .result) (both .1))), λ e. was)
+    (was ∙ sym (none (c .before) (empty-if (c-is-empty .result) (both .1))), ((λ e. was), refl))
 
 intersection-requires-2 : tie.Need-intersection-requires-2
 intersection-requires-2 c κs = tt
@@ -53,29 +53,25 @@ intersection-requires-2 c κs = tt
 side-of-requires : tie.Need-side-of-requires
 side-of-requires c κs = tt
 
-step-starts-requires : tie.Need-step-starts-requires
-step-starts-requires c κs = tt
+carry-starts-requires : tie.Need-carry-starts-requires
+carry-starts-requires c κs = tt
 
 returns-2 : tie.Need-returns-2
 returns-2 c =
-    let c-step-starts = c .step-starts in
-    let c-side-of = c .before .before .side-of in
-    let c-intersection2 = c .before .before .before .intersection2 in
-    let c-is-empty = c .before .before .before .before .before .is-empty in
-    let c-intersection = c .before .before .before .before .before .before .intersection in
-    let back = c .before .before .before .before .before .before in
-    let c-start = back .before .before .before .before in
-    let a = c-start .args in
+    let side = c .before .before .before in
+    let kept = side .before in
+    let o = kept .before .before in
+    let start = o .before .before .before .before .before in
+    let a = start .args in
     let s = a .s in
     let t = now (a .words) in
     let w = automaton t in
-    let o = c .before .before .before .before .before in
-    let is = c-step-starts .ensures
-    ∙ sym (list-on t maxPositions (steppedStarts w false (s .last) (c-side-of .result) (c-intersection2 .result) (now (a .live)) (c-intersection .result) (s .taken)) (passes t (c-start .pre .0) .long))
-    ∙ (λ i. steppedStarts w false (s .last) (c-side-of .ensures i) ((c-intersection2 .ensures ∙ ap (intersectionOf (s .live)) (c-start .pre .1 .keepers-are)) i) (now (a .live)) (reached (o .before) i) (s .taken)) in
-    (is, λ e. is ∙ none o (empty-if (c-is-empty .result) e))
+    let is = c .carry-starts .ensures .starts-are (start .pre .5) (start .pre .4)
+    ∙ sym (list-on t maxPositions (steppedStarts w false (s .last) (side .side-of .result) (kept .intersection2 .result) (now (a .live)) (o .before .intersection .result) (s .taken)) (passes t (start .pre .0) .long))
+    ∙ (λ i. steppedStarts w false (s .last) (side .side-of .ensures i) ((kept .intersection2 .ensures ∙ ap (intersectionOf (s .live)) (start .pre .1 .keepers-are)) i) (now (a .live)) (reached (o .before) i) (s .taken)) in
+    (is, ((λ e. is ∙ none o (empty-if (o .is-empty .result) e)), c .carry-starts .ensures .spare-is (start .pre .5)))
 
 pub carry-live-spec : {M : Type 1} → statement M
 carry-live-spec =
     tie.close
-    (tie.spec intersection-requires is-empty-requires returns intersection-requires-2 side-of-requires step-starts-requires returns-2)
+    (tie.spec intersection-requires is-empty-requires returns intersection-requires-2 side-of-requires carry-starts-requires returns-2)

@@ -1,27 +1,29 @@
--- `traced::scan::report` meets its contract: no rule ends, the reports do not fit, or they are
--- delivered.
+-- `traced::scan::report` meets its contract: the reports do not fit, or the late run is written, the
+-- starts are carried along, and the byte's own run is written.
 use mathlib.Core.Path.{_≡_, refl, sym, ap, subst, _∙_}
-use mathlib.Core.Bool.{not, _&&_}
-use Prim.Native.Nat.{ℕ, _+_, _^_, _<_, _≤_}
-use borrow.Author.Needs.{needs}
+use mathlib.Core.Bool.{false, not, _&&_}
+use mathlib.Core.List.{List}
+use Prim.Native.Nat.{ℕ, suc, _+_, _^_, _<_, _≤_}
+use native.Mathlib.Numerals.{add-one}
 use native.Mathlib.Omega.{arith}
+use borrow.Author.Needs.{needs}
+use borrow.Author.Tests.{ltb-true, ltb-false}
 use denote.Ref.{now}
 use lib.Bits.{bitAnd, bitOr}
 use lib.ListN.{length}
 use Rattle.sets.specs.Set.{on, count}
-use Rattle.sets.proofs.Laws.{count-le}
 use Rattle.table.specs.Gaps.{unsettled}
-use Rattle.table.specs.Automaton.{automaton}
+use Rattle.table.specs.Automaton.{Automaton, automaton}
 use Rattle.table.proofs.Test.{passes}
-use Rattle.steps.specs.Step.{ends, rulesWhere}
-use mathlib.Core.List.{List}
-use Rattle.stream.specs.Byte.{lateTest, ownTest}
-use Rattle.stream.proofs.Bounds.{rules-few, dues-fit}
+use Rattle.steps.specs.Step.{ends, rulesWhere, startAt}
+use Rattle.stream.specs.Byte.{lateTest, ownTest, runReports}
+use Rattle.stream.proofs.Bounds.{rules-few}
+use Rattle.traced.specs.declared.Starts.{Starts}
 use Rattle.traced.specs.declared.Traced.{Traced}
-use Rattle.traced.specs.Byte.{byteReports}
+use Rattle.traced.specs.Byte.{Report, given, ownStart, nextStarts, byteReports}
 use Rattle.traced.specs.Calls.{Lists, lists, space}
-use Rattle.traced.specs.Invariants.{stateOf}
-use Rattle.traced.proofs.Delivering.{delivered-quiet, due-is, delivered-full, delivered-gone}
+use Rattle.traced.specs.Invariants.{stateOf, Wrote}
+use Rattle.traced.proofs.Delivering.{late-alone, own-alone, due-is, late-room, own-room, gone, delivered-full, delivered-gone}
 use Rattle.traced.proofs.scan.report.Statement.{statement}
 use Rattle.traced.proofs.scan.report.Tie as tie
 
@@ -56,109 +58,167 @@ own-rules-requires c κs =
     let c-start = c .before .before .before .before .before in
     (c-start .pre .0 .table, c-start .pre .0 .gates-are)
 
-carry-requires : tie.Need-carry-requires
-carry-requires c κs =
-    let back = c .before .before .before .before .before .before in
-    let c-start = back .before .before .before .before in
-    c-start .pre .0
-
 -- the marks of a state fit their word
 small : (c : tie.Start) → c .args .s .reported < 2 ^ 64
 small c = search needs
 
-returns : tie.Need-returns
-returns c =
-    let c-carry = c .carry in
-    let c-if1 = c .before .before .before .before .if1 in
-    let o = c .before .before .before .before .before in
-    let s = begun o in
-    let a = s .args in
-    delivered-quiet (automaton (now (a .words))) (few s) (state s) (a .byte) (o .before .late-rules .result) (o .own-rules .result) (late-is o) (own-is o)
-    (c-if1 .taken) (small s) (a .first) (lent s) (c-carry .result .some) (c-carry .result .waits) _ (c-carry .ensures)
-
 shortest-requires : tie.Need-shortest-requires
 shortest-requires c κs = tt
 
-due-requires : tie.Need-due-requires
-due-requires c κs = tt
+too-many-requires : tie.Need-too-many-requires
+too-many-requires c κs = tt
 
-due-requires-2 : tie.Need-due-requires-2
-due-requires-2 c κs = tt
+-- where the reports are counted
+module _ (c : tie.After-too-many) where
+  abbrev o : tie.After-own-rules
+  o = c .before .before
 
--- where the reports that are due are counted
-abbrev rules : tie.After-due2 → tie.After-own-rules
-rules c = c .before .before .before .before .before .before
+  abbrev s : tie.Start
+  s = begun o
 
-counted : (c : tie.After-due2) → c .before .due .result + c .due2 .result ≡ length (byteReports (automaton (now (begun (rules c) .args .words))) (state (begun (rules c))) (begun (rules c) .args .byte))
-counted c =
-    let o = rules c in
-    let s = begun o in
-    let a = s .args in
-    due-is (automaton (now (a .words))) (few s) (state s) (a .byte) (o .before .late-rules .result) (o .own-rules .result) (late-is o) (own-is o)
-    (small s) (a .gates .single) (s .pre .0 .gates-are .single-is) (c .before .due .ensures) (c .due2 .ensures)
+  abbrev w : Automaton
+  w = automaton (now (s .args .words))
 
-few-due : {n m : ℕ} → n ≡ m → m ≤ 64 → n ≤ 64
-few-due e h = omega arith
+  abbrev late : ℕ
+  late = o .before .late-rules .result
 
-add-if2 : tie.Need-add-if2
-add-if2 c =
-    let o = rules c in
-    let late = o .before .late-rules .result in
-    let own = o .own-rules .result in
-    let a = begun o .args in
-    dues-fit (c .before .due .result) (c .due2 .result)
-    (few-due (c .before .due .ensures) (count-le 64 (λ k. on late k && not (on (a .s .reported) k))))
-    (few-due (c .due2 .ensures) (count-le 64 (λ k. on own k && not (on (bitOr (a .s .reported) (bitAnd late (a .gates .single))) k))))
+  abbrev own : ℕ
+  own = o .own-rules .result
 
-returns-2 : tie.Need-returns-2
-returns-2 c =
+  abbrev due-now : ℕ
+  due-now =
+      count 64 (λ k. on late k && not (on (s .args .s .reported) k))
+      + count 64 (λ k. on own k && not (on (bitOr (s .args .s .reported) (bitAnd late (s .args .gates .single))) k))
+
+  counted : due-now ≡ length (byteReports w (state s) (s .args .byte))
+  counted =
+      due-is w (few s) (state s) (s .args .byte) late own (late-is o) (own-is o) (small s) (s .args .gates .single) (s .pre .0 .gates-are .single-is) refl refl
+
+  fit : c .too-many .result ≡ false → length (byteReports w (state s) (s .args .byte)) ≤ space (lent s)
+  fit e = within counted (c .before .shortest .ensures) (ltb-false (c .before .shortest .result) due-now (sym (c .too-many .ensures) ∙ e))
+    where
+      within : {n m room space : ℕ} → n ≡ m → room ≡ space → n ≤ room → m ≤ space
+      within e f h = omega arith
+
+returns : tie.Need-returns
+returns c =
     let d = c .before in
-    let a = begun (rules d) .args in
-    delivered-full (d .before .due .result + d .due2 .result) (d .before .before .shortest .result) (counted d) (d .before .before .shortest .ensures) (c .if2 .taken)
-    0 (a .s .reported) (a .some) (a .waits)
+    let a = s d .args in (
+      refl,
+      delivered-full (due-now d) (d .before .shortest .result) (counted d) (d .before .shortest .ensures)
+          (ltb-true (d .before .shortest .result) (due-now d) (sym (d .too-many .ensures) ∙ c .if1 .taken)) 0 (a .s .reported) (a .some) (a .waits),
+    )
 
-within : {n m room space : ℕ} → n ≡ m → room ≡ space → n ≤ room → m ≤ space
-within e f h = omega arith
+small-one : (n : ℕ) → n + 1 < 2 ^ 63 → n < 2 ^ 63
+small-one n h = omega arith
 
--- they fit
-fit : (c : tie.Else2) → length (byteReports (automaton (now (begun (rules (c .before)) .args .words))) (state (begun (rules (c .before)))) (begun (rules (c .before)) .args .byte)) ≤ space (lent (begun (rules (c .before))))
-fit c = within (counted (c .before)) (c .before .before .before .shortest .ensures) (c .if2 .left)
+late-run-requires : tie.Need-late-run-requires
+late-run-requires c κs =
+    let e = let i = c .before .before .before .before in i .before in
+    let d = e .before in
+    let b = s d in
+    let a = b .args in (
+      b .pre .0 .table,
+      b .pre .0 .gates-are,
+      b .pre .1,
+      small-one (a .s .taken) (b .pre .2),
+      late-alone (w d) (few b) (state b) (a .byte) (late d) (own d) (late-is (o d)) (own-is (o d)),
+      late-room (w d) (few b) (state b) (a .byte) (late d) (own d) (late-is (o d)) (own-is (o d)) (lent b) (fit d (e .if1 .left)),
+    )
 
-abbrev other : tie.After-deliver-arg7 → tie.Else2
-other c = let i = c .before .before .before .before in i .before .before .before
+-- the place of the late run, and of the test before it
+abbrev tested : tie.After-late-run → tie.Else1
+tested c = c .before .before .before .before .before .before
 
-deliver-requires : tie.Need-deliver-requires
-deliver-requires c κs =
-    let e = other c in
-    let o = rules (e .before) in
-    let s = begun o in
-    (s .pre .0, late-is o, own-is o, s .pre .1, s .pre .2, fit e)
+carry-requires : tie.Need-carry-requires
+carry-requires c κs =
+    let r = let i = c .before .before .before .before .before .before in i .before .before .before .before .before in
+    let b = s (tested r .before) in
+    (b .pre .0, b .pre .3)
+
+-- the late run, from where the starts are carried along
+abbrev written : tie.After-carry → tie.After-late-run
+written c = let i = c .before .before .before .before .before .before in i .before .before .before .before .before .before
+
+add-own-run : tie.Need-add-own-run
+add-own-run c =
+    let b = s (tested (written (c .before)) .before) in
+    omega (arith, b .pre .2)
+
+-- what the byte's own run gives
+module _ (c : tie.After-carry) where
+  abbrev d : tie.After-too-many
+  d = tested (written c) .before
+
+  abbrev b : tie.Start
+  b = s d
+
+  given-own : (live : List ℕ) → live ≡ nextStarts (w d) (state b) (b .args .byte) .live
+      → given (w d) (b .args .s .taken + 1) (startAt (w d) unsettled (b .args .next) live (b .args .s .taken + 1))
+      ≡ given (w d) (suc (b .args .s .taken)) (ownStart (w d) (state b) (b .args .byte))
+  given-own live e = λ i. given (w d) (add-one (b .args .s .taken) i) (startAt (w d) unsettled (b .pre .0 .next-is i) (e i) (add-one (b .args .s .taken) i))
+
+  own-fits : (next marks room : ℕ) (live : List ℕ) → live ≡ nextStarts (w d) (state b) (b .args .byte) .live
+      → next + length (runReports (on (own d)) marks (given (w d) (suc (b .args .s .taken)) (ownStart (w d) (state b) (b .args .byte))) (w d .rules)) ≤ room
+      → next + length (runReports (on (own d)) marks (given (w d) (b .args .s .taken + 1) (startAt (w d) unsettled (b .args .next) live (b .args .s .taken + 1))) (w d .rules)) ≤ room
+  own-fits next marks room live e =
+      subst (λ (g : ℕ → Report). next + length (runReports (on (own d)) marks g (w d .rules)) ≤ room) (sym (given-own live e))
+
+  own-wrote : {marks first n next marks′ : ℕ} {l l′ : Lists} (live : List ℕ) → live ≡ nextStarts (w d) (state b) (b .args .byte) .live
+      → Wrote (w d) (on (own d)) marks (given (w d) (b .args .s .taken + 1) (startAt (w d) unsettled (b .args .next) live (b .args .s .taken + 1))) first n l next marks′ l′
+      → Wrote (w d) (on (own d)) marks (given (w d) (suc (b .args .s .taken)) (ownStart (w d) (state b) (b .args .byte))) first n l next marks′ l′
+  own-wrote {marks} {first} {n} {next} {marks′} {l} {l′} live e =
+      subst (λ (g : ℕ → Report). Wrote (w d) (on (own d)) marks g first n l next marks′ l′) (given-own live e)
+
+own-run-requires : tie.Need-own-run-requires
+own-run-requires c κs =
+    let k = c .before .before .before .before .before .before in
+    let b = s (d k) in
+    let a = b .args in (
+      b .pre .0 .table,
+      b .pre .0 .gates-are,
+      b .pre .1,
+      b .pre .2,
+      own-alone (w (d k)) (few b) (state b) (a .byte) (late (d k)) (own (d k)) (late-is (o (d k))) (own-is (o (d k))),
+      own-fits k (written k .late-run .result .next) (written k .late-run .result .reported) _ _ (ap (λ (u : Starts). u .live) (k .carry .ensures .1 .starts-are))
+          (own-room (w (d k)) (few b) (state b) (a .byte) (late (d k)) (own (d k)) (late-is (o (d k))) (own-is (o (d k))) (fit (d k) (tested (written k) .if1 .left)) (written k .late-run .ensures)),
+    )
+
+-- where the starts are carried along, from the end
+abbrev own-given : tie.After-relatives2 → tie.After-own-run
+own-given c = let i = c .before .before .before .before .before .before in i .before
+
+abbrev carried-at : tie.After-own-run → tie.After-carry
+carried-at r = let i = r .before .before .before .before .before .before in i .before
+
+abbrev first-lists : tie.After-relatives2 → tie.After-relatives
+first-lists c = carried-at (own-given c) .before .before .before .before .before
 
 same-length : tie.Need-same-length
 same-length c =
-    let c-ids = c .before .before .before .before .before .before .ids in
-    c-ids .given
+    c .before .before .before .before .before .before .ids2 .given ∙ first-lists c .before .before .before .before .before .before .ids .given
 
 same-length-2 : tie.Need-same-length-2
-same-length-2 c =
-    let c-offsets = c .before .before .before .before .offsets in
-    c-offsets .given
+same-length-2 c = c .before .before .before .before .offsets2 .given ∙ first-lists c .before .before .before .before .offsets .given
 
 same-length-3 : tie.Need-same-length-3
-same-length-3 c =
-    let c-starts = c .before .before .starts in
-    c-starts .given
+same-length-3 c = c .before .before .starts2 .given ∙ first-lists c .before .before .starts .given
 
 same-length-4 : tie.Need-same-length-4
-same-length-4 c =
-    let c-relatives = c .relatives in
-    c-relatives .given
+same-length-4 c = c .relatives2 .given ∙ first-lists c .relatives .given
 
-returns-3 : tie.Need-returns-3
-returns-3 c =
-    let d = c .before .before .before .before .before .before in
-    let e = other (d .before .before) in
-    delivered-gone (d .before .deliver .result .full) (d .before .deliver .ensures .0) (fit e) (d .before .deliver .ensures .1)
+returns-2 : tie.Need-returns-2
+returns-2 c =
+    let r = own-given c in
+    let k = carried-at r in
+    let b = s (d k) in
+    let a = b .args in
+    let room = fit (d k) (tested (written k) .if1 .left) in (
+      k .carry .ensures .0,
+      delivered-gone false refl room
+          (gone (w (d k)) (few b) (state b) (a .byte) (late (d k)) (own (d k)) (late-is (o (d k))) (own-is (o (d k))) room (written k .late-run .ensures)
+          (own-wrote k _ (ap (λ (u : Starts). u .live) (k .carry .ensures .1 .starts-are)) (r .own-run .ensures)) (k .carry .ensures .1)),
+    )
 
 pub report-spec : {M : Type 1} → statement M
 report-spec =
@@ -166,16 +226,15 @@ report-spec =
     (tie.spec
     late-rules-requires
     own-rules-requires
-    carry-requires
-    returns
     shortest-requires
-    due-requires
-    due-requires-2
-    add-if2
-    returns-2
-    deliver-requires
+    too-many-requires
+    returns
+    late-run-requires
+    carry-requires
+    add-own-run
+    own-run-requires
     same-length
     same-length-2
     same-length-3
     same-length-4
-    returns-3)
+    returns-2)

@@ -1,30 +1,34 @@
 -- `traced::scan::run` meets its contract: each turn passes over the bytes that change nothing and
 -- offers one more (`Turned`).
-use mathlib.Core.Path.{_≡_, sym, ap, subst}
-use mathlib.Core.Bool.{cond}
+use mathlib.Core.Path.{_≡_, sym, _∙_}
+use mathlib.Core.Bool.{cond, not, _||_}
 use Prim.Native.Nat.{ℕ, _+_, _-_, _^_, _<_, _≤_}
 use native.Mathlib.Omega.{arith}
 use denote.Ref.{now}
+use lib.Dec.{eqb}
 use lib.ListN.{length}
+use Rattle.table.specs.Layout.{maxPositions}
 use Rattle.table.specs.Automaton.{automaton}
 use Rattle.stream.specs.Valid.{streamLimit}
 use Rattle.traced.specs.declared.Starts.{Starts}
 use Rattle.traced.specs.declared.scan.Turn.{Turn}
 use Rattle.traced.specs.Calls.{Lists, lists}
-use Rattle.traced.specs.Invariants.{startsOf, stateOf, Running}
+use Rattle.traced.specs.Invariants.{zeros, startsOf, stateOf, Running}
 use Rattle.traced.proofs.Lists.{filled-long, filled-inside}
+use Rattle.traced.proofs.Carrying.{empty-if, none-if}
 use Rattle.traced.proofs.Passing.{running-over, pass-rises}
 use Rattle.traced.proofs.Taking.{Turned, turned-start, turned, turn-less, ran, taken-now}
 use Rattle.traced.proofs.scan.run.Statement.{statement}
 use Rattle.traced.proofs.scan.run.Tie as tie
 
 abbrev Inv-loop : tie.InvT-loop
-Inv-loop gates words allowance block live₀ held₀ pairs₀ ids₀ offsets₀ starts₀ relatives₀ first y₀ going₀ live held pairs ids offsets starts relatives y going =
+Inv-loop gates words allowance block live₀ spare₀ held₀ pairs₀ ids₀ offsets₀ starts₀ relatives₀ first y₀ going₀ live spare held pairs ids offsets starts relatives y going =
     Turned (automaton words) (stateOf (y₀ .stream) live₀ held₀ pairs₀) allowance block (lists ids₀ offsets₀ starts₀ relatives₀) going y (startsOf live held pairs)
     (lists ids offsets starts relatives)
+    × (spare ≡ zeros maxPositions)
 
 abbrev μ-loop : tie.MeasureT-loop
-μ-loop gates words allowance block live₀ held₀ pairs₀ ids₀ offsets₀ starts₀ relatives₀ first y₀ going₀ live held pairs ids offsets starts relatives y going =
+μ-loop gates words allowance block live₀ spare₀ held₀ pairs₀ ids₀ offsets₀ starts₀ relatives₀ first y₀ going₀ live spare held pairs ids offsets starts relatives y going =
     cond going 1 0 + (length block - y .at)
 
 -- a stream within its limit
@@ -34,16 +38,33 @@ within now taken at n e h l = omega arith
 small : (taken n : ℕ) → taken + n ≤ streamLimit → taken < 2 ^ 63
 small taken n h = omega arith
 
+-- the start of the call, from where the live set is asked
+abbrev outset : tie.After-is-empty Inv-loop μ-loop → tie.Start Inv-loop μ-loop
+outset c = let i = c .before .before .before .before in i .before .before .before .before
+
+is-empty-requires : tie.Need-is-empty-requires Inv-loop μ-loop
+is-empty-requires c κs = tt
+
+is-empty-requires-2 : tie.Need-is-empty-requires-2 Inv-loop μ-loop
+is-empty-requires-2 c κs = tt
+
 loop-holds : tie.Need-loop-holds Inv-loop μ-loop
 loop-holds c =
-    let c-start = c .before .before .before .before .before in
-    let a = c-start .args in
-    turned-start (automaton (now (a .words))) (stateOf (a .s) (now (a .live)) (now (a .held)) (now (a .pairs))) (a .allowance) (now (a .block))
-    (lists (now (a .ids)) (now (a .offsets)) (now (a .starts)) (now (a .relatives)))
+    let live = c .before .before in
+    let held = c .before in
+    let start = outset live in
+    let a = start .args in (
+      turned-start (automaton (now (a .words))) (stateOf (a .s) (now (a .live)) (now (a .held)) (now (a .pairs))) (a .allowance) (now (a .block))
+          (lists (now (a .ids)) (now (a .offsets)) (now (a .starts)) (now (a .relatives)))
+          (not (live .is-empty .result)) (not (held .is-empty2 .result) || not (eqb (a .s .pending) 0))
+          (λ e. sym (live .is-empty .ensures) ∙ empty-if (live .is-empty .result) e)
+          (λ e. let both = none-if (held .is-empty2 .result) (a .s .pending) e in (sym (held .is-empty2 .ensures) ∙ both .0, both .1)) (start .pre .3),
+      start .pre .4,
+    )
 
 -- the start of the call, from inside the loop
 abbrev begun : tie.In-loop Inv-loop μ-loop → tie.Start Inv-loop μ-loop
-begun c = let l = c .before in l .before .before .before .before .before .before
+begun c = outset (c .before .before .before .before)
 
 -- the limit where a turn begins
 limit : (c : tie.In-loop Inv-loop μ-loop) → (y : Turn) (k : Starts) (l : Lists)
@@ -56,7 +77,7 @@ limit c y k l r =
 
 pass-over-requires : tie.Need-pass-over-requires Inv-loop μ-loop
 pass-over-requires c κs =
-    let r = c .before .loop .inv .running in
+    let r = c .before .loop .inv .0 .running in
     (r .inside, limit c _ _ _ r)
 
 -- what holds once bytes are passed over
@@ -65,12 +86,12 @@ over : (c : tie.After-pass-over Inv-loop μ-loop) → Running (automaton (now (b
     (begun (c .before) .args .allowance) (now (begun (c .before) .args .block))
     (lists (now (begun (c .before) .args .ids)) (now (begun (c .before) .args .offsets)) (now (begun (c .before) .args .starts)) (now (begun (c .before) .args .relatives)))
     (c .pass-over .result) (let l = c .before .before .loop in startsOf (l .live) (l .held) (l .pairs)) (let l = c .before .before .loop in lists (l .ids) (l .offsets) (l .starts) (l .relatives))
-over c = running-over (c .before .before .loop .inv .running) (c .pass-over .ensures)
+over c = running-over (c .before .before .loop .inv .0 .running) (c .pass-over .ensures)
 
 take-byte-requires : tie.Need-take-byte-requires Inv-loop μ-loop
 take-byte-requires c κs =
-    let six = c .before .before .before .before .before .before in
-    let o = six .before in
+    let seven = let i = c .before .before .before in i .before .before .before .before in
+    let o = seven .before in
     let s = begun (o .before) in
     let r = over o in (
       s .pre .0,
@@ -80,52 +101,55 @@ take-byte-requires c κs =
       limit (o .before) _ _ _ r,
       r .live-none,
       r .wait-none,
+      r .only,
+      o .before .before .loop .inv .1,
     )
 
 -- where the byte was offered, from the end of a turn
-abbrev offered : tie.After-struct-known Inv-loop μ-loop → tie.After-take-byte Inv-loop μ-loop
+abbrev offered : tie.After-struct-known2 Inv-loop μ-loop → tie.After-take-byte Inv-loop μ-loop
 offered c = let i = c .before .before .before .before in i .before .before .before .before
 
 abbrev passed : tie.After-take-byte Inv-loop μ-loop → tie.After-pass-over Inv-loop μ-loop
-passed c = let i = c .before .before .before .before in i .before .before .before .before
+passed c = let i = c .before .before .before .before in i .before .before .before .before .before
 
 loop-less : tie.Need-loop-less Inv-loop μ-loop
 loop-less c =
     let t = offered c in
     let o = passed t in
     let l = o .before .before .loop in
-    turn-less (over o) (t .take-byte .ensures) (l .going) (o .before .loop-test .taken) (l .y .at) (pass-rises (o .pass-over .ensures))
+    turn-less (over o) (t .take-byte .ensures .1) (l .going) (o .before .loop-test .taken) (l .y .at) (pass-rises (o .pass-over .ensures))
 
 loop-again : tie.Need-loop-again Inv-loop μ-loop
 loop-again c =
     let t = offered c in
-    turned (over (passed t)) (t .take-byte .ensures)
+    let o = passed t in
+    (turned (over o) (t .take-byte .ensures .1), t .take-byte .ensures .0 ∙ o .before .before .loop .inv .1)
 
 same-length : tie.Need-same-length Inv-loop μ-loop
 same-length c =
     let c-loop = c .before .loop in
-    filled-long (c-loop .inv .running .filled) .ids
+    filled-long (c-loop .inv .0 .running .filled) .ids
 
 same-length-2 : tie.Need-same-length-2 Inv-loop μ-loop
 same-length-2 c =
     let c-loop = c .before .loop in
-    filled-long (c-loop .inv .running .filled) .offsets
+    filled-long (c-loop .inv .0 .running .filled) .offsets
 
 same-length-3 : tie.Need-same-length-3 Inv-loop μ-loop
 same-length-3 c =
     let c-loop = c .before .loop in
-    filled-long (c-loop .inv .running .filled) .starts
+    filled-long (c-loop .inv .0 .running .filled) .starts
 
 same-length-4 : tie.Need-same-length-4 Inv-loop μ-loop
 same-length-4 c =
     let c-loop = c .before .loop in
-    filled-long (c-loop .inv .running .filled) .relatives
+    filled-long (c-loop .inv .0 .running .filled) .relatives
 
 returns : tie.Need-returns Inv-loop μ-loop
 returns c =
     let c-loop-test = c .loop-test in
     let c-loop = c .before .loop in
-    ran (c-loop-test .left) (c-loop .inv)
+    ran (c-loop-test .left) (c-loop .inv .0)
 
 pub run-spec : {M : Type 1} → statement M
 run-spec =
@@ -133,6 +157,8 @@ run-spec =
     (tie.spec
     Inv-loop
     μ-loop
+    is-empty-requires
+    is-empty-requires-2
     loop-holds
     pass-over-requires
     take-byte-requires

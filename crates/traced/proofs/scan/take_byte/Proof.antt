@@ -16,6 +16,7 @@ use Rattle.table.proofs.Test.{passes}
 use Rattle.steps.specs.Step.{setOn, stepped}
 use Rattle.steps.proofs.Steps.{stepped-among}
 use Rattle.steps.proofs.TableSets.{set-on, number-on}
+use Rattle.stream.specs.Byte.{nextLive}
 use Rattle.traced.specs.declared.Traced.{Traced}
 use Rattle.traced.specs.Calls.{Lists, lists}
 use Rattle.traced.specs.Invariants.{stateOf}
@@ -51,7 +52,7 @@ returns c =
     let back = c .before .before .before .before .before .before in
     let c-start = back .before in
     let a = c-start .args in
-    offered-end (automaton (now (a .words))) (state c-start) (a .first) (now (a .block)) (a .y) (lent c-start) (c-stop .result) (c-stop .ensures) (c-if1 .taken)
+    (refl, offered-end (automaton (now (a .words))) (state c-start) (a .first) (now (a .block)) (a .y) (lent c-start) (c-stop .result) (c-stop .ensures) (c-if1 .taken))
 
 shared-slice-read-byte : tie.Need-shared-slice-read-byte
 shared-slice-read-byte c =
@@ -98,8 +99,11 @@ returns-2 c =
     let c-start = further .before .before .before .before in
     let a = c-start .args in
     let o = c .before .before .before .before in
-    offered-unpaid (automaton (now (a .words))) (state c-start) (a .first) (now (a .block)) (a .y) (lent c-start) (c-stop2 .result) (c-stop2 .ensures)
-    (c-step .result .turns) (turns-are o) (c-if2 .taken)
+    (
+      refl,
+      offered-unpaid (automaton (now (a .words))) (state c-start) (a .first) (now (a .block)) (a .y) (lent c-start) (c-stop2 .result) (c-stop2 .ensures)
+          (c-step .result .turns) (turns-are o) (c-if2 .taken),
+    )
 
 left-waiting-requires : tie.Need-left-waiting-requires
 left-waiting-requires c κs =
@@ -108,160 +112,119 @@ left-waiting-requires c κs =
     let c-start = further .before .before .before .before in
     passes (now (c-start .args .words)) (c-start .pre .0) .long
 
+-- where the reports are about to be written
+module _ (c : tie.After-left-waiting) where
+  abbrev stepped-at : tie.After-step
+  stepped-at = c .before .before .before .before .before
+
+  abbrev start : tie.Start
+  start = begun stepped-at
+
+  -- how many are there already
+  abbrev count : ℕ
+  count = start .args .y .count
+
+  ids-there : count ≤ length (now (start .args .ids))
+  ids-there = enough-ids (lent start) (start .pre .2)
+
+  offsets-there : count ≤ length (now (start .args .offsets))
+  offsets-there = enough-offsets (lent start) (start .pre .2)
+
+  starts-there : count ≤ length (now (start .args .starts))
+  starts-there = enough-starts (lent start) (start .pre .2)
+
+  relatives-there : count ≤ length (now (start .args .relatives))
+  relatives-there = enough-relatives (lent start) (start .pre .2)
+
+  -- the byte, and that the block has it
+  inside : start .args .y .at < length (now (start .args .block))
+  inside = let i = stepped-at .before .before .before .before .before .before in i .if1 .left
+
+  abbrev side-is : tie.After-side-of
+  side-is = stepped-at .before .before .before
+
+  next-is : stepped-at .step .result .live ≡ nextLive (automaton (now (start .args .words))) (start .args .y .stream) (getD (now (start .args .block)) (start .args .y .at) 0)
+  next-is =
+      let a = start .args in
+      let s = a .y .stream in
+      let t = now (a .words) in
+      stepping t (s .live) (s .last) (side-is .side-of .result) (a .gates .positions) (stepped-at .step .result .live) (s .taken) (getD (now (a .block)) (a .y .at) 0)
+      (start .pre .1 .positions-is) (side-is .side-of .ensures) (passes t (start .pre .0) .long) (stepped-at .step .ensures .0)
+
 mul-report : tie.Need-mul-report
 mul-report c =
-    let back = c .before .before .before .before .before .before in
-    let further = back .before .before .before .before .before .before in
-    let earlier = further .before .before .before .before .before .before in
-    let c-start = earlier .before .before in
-    places-fit-4 (c-start .args .y .count) (length (now (c-start .args .ids))) (enough-ids (lent c-start) (c-start .pre .2)) (c-start .good .1 .1 .1 .1 .1 .1 .1 .1 .0 .1)
+    let o = c .before .before .before .before in
+    places-fit-4 (count o) (length (now (start o .args .ids))) (ids-there o) (start o .good .1 .1 .1 .1 .1 .1 .1 .1 .1 .0 .1)
 
 sub-report : tie.Need-sub-report
-sub-report c =
-    let back = c .before .before .before .before .before .before in
-    let further = back .before .before .before .before .before .before in
-    let earlier = further .before .before .before .before .before .before in
-    let c-start = earlier .before .before in
-    enough-ids (lent c-start) (c-start .pre .2)
+sub-report c = ids-there (c .before .before .before .before)
 
 part-report-start : tie.Need-part-report-start
-part-report-start c =
-    let back = c .before .before .before .before .before .before in
-    let further = back .before .before .before .before .before .before in
-    let earlier = further .before .before .before .before .before .before in
-    let c-start = earlier .before .before in
-    enough-ids (lent c-start) (c-start .pre .2)
+part-report-start c = ids-there (c .before .before .before .before)
 
 part-report-end : tie.Need-part-report-end
-part-report-end c =
-    let back = c .before .before .before .before .before .before in
-    let further = back .before .before .before .before .before .before in
-    let earlier = further .before .before .before .before .before .before in
-    let c-start = earlier .before .before in
-    le-refl (length (now (c-start .args .ids)))
+part-report-end c = le-refl (length (now (start (c .before .before .before .before) .args .ids)))
 
 mul-report-2 : tie.Need-mul-report-2
 mul-report-2 c =
-    let back = c .before .before .before .before .before .before in
-    let further = back .before .before .before .before .before .before in
-    let earlier = further .before .before .before .before .before .before in
-    let c-start = earlier .before .before .before in
-    places-fit-8 (c-start .args .y .count) (length (now (c-start .args .offsets))) (enough-offsets (lent c-start) (c-start .pre .2)) (c-start .good .1 .1 .1 .1 .1 .1 .1 .1 .1 .0 .1)
+    let o = c .before .before .before .before .before in
+    places-fit-8 (count o) (length (now (start o .args .offsets))) (offsets-there o) (start o .good .1 .1 .1 .1 .1 .1 .1 .1 .1 .1 .0 .1)
 
 sub-report-2 : tie.Need-sub-report-2
-sub-report-2 c =
-    let back = c .before .before .before .before .before .before in
-    let further = back .before .before .before .before .before .before in
-    let earlier = further .before .before .before .before .before .before in
-    let c-start = earlier .before .before .before in
-    enough-offsets (lent c-start) (c-start .pre .2)
+sub-report-2 c = offsets-there (c .before .before .before .before .before)
 
 part-report-start-2 : tie.Need-part-report-start-2
-part-report-start-2 c =
-    let back = c .before .before .before .before .before .before in
-    let further = back .before .before .before .before .before .before in
-    let earlier = further .before .before .before .before .before .before in
-    let c-start = earlier .before .before .before in
-    enough-offsets (lent c-start) (c-start .pre .2)
+part-report-start-2 c = offsets-there (c .before .before .before .before .before)
 
 part-report-end-2 : tie.Need-part-report-end-2
-part-report-end-2 c =
-    let back = c .before .before .before .before .before .before in
-    let further = back .before .before .before .before .before .before in
-    let earlier = further .before .before .before .before .before .before in
-    let c-start = earlier .before .before .before in
-    le-refl (length (now (c-start .args .offsets)))
+part-report-end-2 c = le-refl (length (now (start (c .before .before .before .before .before) .args .offsets)))
 
 mul-report-3 : tie.Need-mul-report-3
 mul-report-3 c =
-    let back = c .before .before .before .before .before .before in
-    let further = back .before .before .before .before .before .before in
-    let earlier = further .before .before .before .before .before .before in
-    let c-start = earlier .before .before .before .before in
-    places-fit-8 (c-start .args .y .count) (length (now (c-start .args .starts))) (enough-starts (lent c-start) (c-start .pre .2)) (c-start .good .1 .1 .1 .1 .1 .1 .1 .1 .1 .1 .0 .1)
+    let o = c .before .before .before .before .before .before in
+    places-fit-8 (count o) (length (now (start o .args .starts))) (starts-there o) (start o .good .1 .1 .1 .1 .1 .1 .1 .1 .1 .1 .1 .0 .1)
 
 sub-report-3 : tie.Need-sub-report-3
-sub-report-3 c =
-    let back = c .before .before .before .before .before .before in
-    let further = back .before .before .before .before .before .before in
-    let earlier = further .before .before .before .before .before .before in
-    let c-start = earlier .before .before .before .before in
-    enough-starts (lent c-start) (c-start .pre .2)
+sub-report-3 c = starts-there (c .before .before .before .before .before .before)
 
 part-report-start-3 : tie.Need-part-report-start-3
-part-report-start-3 c =
-    let back = c .before .before .before .before .before .before in
-    let further = back .before .before .before .before .before .before in
-    let earlier = further .before .before .before .before .before .before in
-    let c-start = earlier .before .before .before .before in
-    enough-starts (lent c-start) (c-start .pre .2)
+part-report-start-3 c = starts-there (c .before .before .before .before .before .before)
 
 part-report-end-3 : tie.Need-part-report-end-3
-part-report-end-3 c =
-    let back = c .before .before .before .before .before .before in
-    let further = back .before .before .before .before .before .before in
-    let earlier = further .before .before .before .before .before .before in
-    let c-start = earlier .before .before .before .before in
-    le-refl (length (now (c-start .args .starts)))
+part-report-end-3 c = le-refl (length (now (start (c .before .before .before .before .before .before) .args .starts)))
 
 mul-report-4 : tie.Need-mul-report-4
 mul-report-4 c =
-    let back = c .before .before .before .before .before .before in
-    let further = back .before .before .before .before .before .before in
-    let earlier = further .before .before .before .before .before .before in
-    let c-start = earlier .before .before .before .before .before in
-    places-fit-8 (c-start .args .y .count) (length (now (c-start .args .relatives))) (enough-relatives (lent c-start) (c-start .pre .2)) (c-start .good .1 .1 .1 .1 .1 .1 .1 .1 .1 .1 .1 .0 .1)
+    let o = c .before .before .before .before .before .before .before in
+    places-fit-8 (count o) (length (now (start o .args .relatives))) (relatives-there o) (start o .good .1 .1 .1 .1 .1 .1 .1 .1 .1 .1 .1 .1 .0 .1)
 
 sub-report-4 : tie.Need-sub-report-4
-sub-report-4 c =
-    let back = c .before .before .before .before .before .before in
-    let further = back .before .before .before .before .before .before in
-    let earlier = further .before .before .before .before .before .before in
-    let c-start = earlier .before .before .before .before .before in
-    enough-relatives (lent c-start) (c-start .pre .2)
+sub-report-4 c = relatives-there (c .before .before .before .before .before .before .before)
 
 part-report-start-4 : tie.Need-part-report-start-4
-part-report-start-4 c =
-    let back = c .before .before .before .before .before .before in
-    let further = back .before .before .before .before .before .before in
-    let earlier = further .before .before .before .before .before .before in
-    let c-start = earlier .before .before .before .before .before in
-    enough-relatives (lent c-start) (c-start .pre .2)
+part-report-start-4 c = relatives-there (c .before .before .before .before .before .before .before)
 
 part-report-end-4 : tie.Need-part-report-end-4
-part-report-end-4 c =
-    let back = c .before .before .before .before .before .before in
-    let further = back .before .before .before .before .before .before in
-    let earlier = further .before .before .before .before .before .before in
-    let c-start = earlier .before .before .before .before .before in
-    le-refl (length (now (c-start .args .relatives)))
+part-report-end-4 c = le-refl (length (now (start (c .before .before .before .before .before .before .before) .args .relatives)))
 
 report-requires : tie.Need-report-requires
 report-requires c κs =
-    let back = c .before .before .before .before .before .before in
-    let c-left-waiting = back .before .left-waiting in
-    let c-step = back .before .before .before .before .before .before .step in
-    let further = back .before .before .before .before .before .before in
-    let c-side-of = further .before .before .before .side-of in
-    let c-if1 = further .before .before .before .before .before .before .if1 in
-    let earlier = further .before .before .before .before .before .before in
-    let c-start = earlier .before .before .before .before .before .before in
-    let a = c-start .args in
-    let s = a .y .stream in
-    let t = now (a .words) in (
+    let o = let i = c .before .before .before .before in i .before .before .before .before in
+    let p = start o .pre in
+    let a = start o .args in (
       record {
-        table = c-start .pre .0;
-        gates-are = c-start .pre .1;
-        next-is =
-            stepping t (s .live) (s .last) (c-side-of .result) (a .gates .positions) (c-step .result .live) (s .taken) (getD (now (a .block)) (a .y .at) 0)
-            (c-start .pre .1 .positions-is) (c-side-of .ensures) (passes t (c-start .pre .0) .long) (c-step .ensures .0);
-        held-is = c-left-waiting .ensures .0;
-        pending-is = c-left-waiting .ensures .1;
-        live-none = c-start .pre .5;
-        wait-none = c-start .pre .6;
+        table = p .0;
+        gates-are = p .1;
+        next-is = next-is o;
+        held-is = o .left-waiting .ensures .0;
+        pending-is = o .left-waiting .ensures .1;
+        only = p .7;
+        live-none = p .5;
+        wait-none = p .6;
       },
-      c-start .pre .3,
-      next-small (s .taken) (length (now (a .block))) (a .y .at) (c-start .pre .4) (c-if1 .left),
+      p .3,
+      next-small (a .y .stream .taken) (length (now (a .block))) (a .y .at) (p .4) (inside o),
+      p .8,
     )
 
 stop-requires-3 : tie.Need-stop-requires-3
@@ -269,138 +232,105 @@ stop-requires-3 c κs = tt
 
 same-length : tie.Need-same-length
 same-length c =
-    let back = c .before .before .before .before .before .before in
-    let c-ids = back .before .before .ids in
-    c-ids .given .1
+    let i = c .before .before .before .before in
+    i .before .before .before .before .ids .given .1
 
 same-length-2 : tie.Need-same-length-2
-same-length-2 c =
-    let c-offsets = c .before .before .before .before .before .before .offsets in
-    c-offsets .given .1
+same-length-2 c = c .before .before .before .before .before .before .offsets .given .1
 
 same-length-3 : tie.Need-same-length-3
-same-length-3 c =
-    let c-starts = c .before .before .before .before .starts in
-    c-starts .given .1
+same-length-3 c = c .before .before .before .before .starts .given .1
 
 same-length-4 : tie.Need-same-length-4
-same-length-4 c =
-    let c-relatives = c .before .before .relatives in
-    c-relatives .given .1
+same-length-4 c = c .before .before .relatives .given .1
+
+-- where what waits was worked out, from where the reports are written
+abbrev waited : tie.After-report → tie.After-left-waiting
+waited r = let i = r .before .before .before .before in i .before .before .before .before .before
 
 returns-3 : tie.Need-returns-3
 returns-3 c =
-    let c-stop3 = c .stop3 in
-    let c-if3 = c .before .if3 in
-    let back = c .before .before .before .before .before .before in
-    let c-report = back .before .before .before .report in
-    let further = back .before .before .before .before .before .before in
-    let earlier = further .before .before .before .before .before .before in
-    let before = earlier .before .before .before .before .before .before in
-    let begun = before .before .before .before .before .before .before in
-    let c-start = begun .before .before .before .before in
-    let a = c-start .args in
-    offered-full (automaton (now (a .words))) (state c-start) (a .first) (now (a .block)) (a .y) (lent c-start) (c-start .pre .2)
-    (c-report .result .full) (c-report .result .reports) (c-report .result .reported) (c-report .result .some) (c-report .result .waits) _ _ (c-report .ensures)
-    (c-stop3 .result) (c-stop3 .ensures) (c-if3 .taken)
+    let r = let i = c .before .before .before .before in i .before .before .before .before .before in
+    let b = start (waited r) in
+    let a = b .args in (
+      r .report .ensures .0,
+      offered-full (automaton (now (a .words))) (state b) (a .first) (now (a .block)) (a .y) (lent b) (b .pre .2)
+          (r .report .result .full) (r .report .result .reports) (r .report .result .reported) (r .report .result .some) (r .report .result .waits) _ _ (r .report .ensures .1)
+          (c .stop3 .result) (c .stop3 .ensures) (c .before .if3 .taken),
+    )
 
-add-t31 : tie.Need-add-t31
-add-t31 c =
-    let back = c .before .before .before .before .before .before in
-    let further = back .before .before .before .before .before .before in
-    let earlier = further .before .before .before .before .before .before in
-    let before = earlier .before .before .before .before .before .before in
-    let c-if1 = before .before .before .before .before .before .if1 in
-    let begun = before .before .before .before .before .before .before in
-    let c-start = begun .before .before .before .before .before in
-    next-fits (c-start .args .y .stream .taken) (length (now (c-start .args .block))) (c-start .args .y .at) (c-start .pre .4) (c-if1 .left)
+-- the byte is taken
+abbrev given-at : tie.Else3 → tie.After-report
+given-at c = let i = c .before .before .before .before in i .before .before .before .before
+
+add-t32 : tie.Need-add-t32
+add-t32 c =
+    let o = waited (given-at (c .before .before)) in
+    let a = start o .args in
+    next-fits (a .y .stream .taken) (length (now (a .block))) (a .y .at) (start o .pre .4) (inside o)
+
+add-t53 : tie.Need-add-t53
+add-t53 c =
+    let o = waited (given-at (c .before .before)) in
+    let a = start o .args in
+    at-fits (a .y .at) (length (now (a .block))) (inside o) (block-short (length (now (a .block))) (start o .good .1 .1 .1 .1 .0 .1))
 
 add-t51 : tie.Need-add-t51
 add-t51 c =
-    let back = c .before .before .before .before .before .before in
-    let further = back .before .before .before .before .before .before in
-    let earlier = further .before .before .before .before .before .before in
-    let before = earlier .before .before .before .before .before .before in
-    let c-if1 = before .before .before .before .before .before .if1 in
-    let begun = before .before .before .before .before .before .before in
-    let c-start = begun .before .before .before .before .before in
-    at-fits (c-start .args .y .at) (length (now (c-start .args .block))) (c-if1 .left) (block-short (length (now (c-start .args .block))) (c-start .good .1 .1 .1 .1 .0 .1))
-
-add-t49 : tie.Need-add-t49
-add-t49 c =
-    let c-if3 = c .before .before .before .if3 in
-    let back = c .before .before .before .before .before .before in
-    let c-report = back .before .before .before .before .before .report in
-    let further = back .before .before .before .before .before .before in
-    let earlier = further .before .before .before .before .before .before in
-    let before = earlier .before .before .before .before .before .before in
-    let begun = before .before .before .before .before .before .before in
-    let c-start = begun .before .before .before .before .before .before in
-    let a = c-start .args in
-    count-fits (a .y .count + c-report .result .reports) (length (now (a .ids)))
-    (enough-ids (lent c-start) (enough-reports (automaton (now (a .words))) (state c-start) (a .first) (now (a .block)) (a .y) (lent c-start) (c-start .pre .2)
-    (c-report .result .full) (c-report .result .reports) (c-report .result .reported) (c-report .result .some) (c-report .result .waits) _ _ (c-report .ensures) (c-if3 .left)))
-    (c-start .good .1 .1 .1 .1 .1 .1 .1 .1 .0 .1)
+    let e = c .before .before .before in
+    let r = given-at e in
+    let b = start (waited r) in
+    let a = b .args in
+    count-fits (a .y .count + r .report .result .reports) (length (now (a .ids)))
+    (enough-ids (lent b) (enough-reports (automaton (now (a .words))) (state b) (a .first) (now (a .block)) (a .y) (lent b) (b .pre .2)
+    (r .report .result .full) (r .report .result .reports) (r .report .result .reported) (r .report .result .some) (r .report .result .waits) _ _ (r .report .ensures .1) (e .if3 .left)))
+    (b .good .1 .1 .1 .1 .1 .1 .1 .1 .1 .0 .1)
 
 same-length-5 : tie.Need-same-length-5
 same-length-5 c =
-    let back = c .before .before .before .before .before .before in
-    let c-ids = back .before .before .before .before .before .ids in
-    c-ids .given .1
+    let e = c .before .before .before .before in
+    let i = e .before .before .before .before in
+    i .before .before .before .ids .given .1
 
 same-length-6 : tie.Need-same-length-6
 same-length-6 c =
-    let back = c .before .before .before .before .before .before in
-    let c-offsets = back .before .before .before .offsets in
-    c-offsets .given .1
+    let e = c .before .before .before .before in
+    e .before .before .before .before .before .offsets .given .1
 
 same-length-7 : tie.Need-same-length-7
 same-length-7 c =
-    let back = c .before .before .before .before .before .before in
-    let c-starts = back .before .starts in
-    c-starts .given .1
+    let e = c .before .before .before .before in
+    e .before .before .before .starts .given .1
 
 same-length-8 : tie.Need-same-length-8
 same-length-8 c =
-    let c-relatives = c .before .before .before .before .before .relatives in
-    c-relatives .given .1
+    let e = c .before .before .before .before in
+    e .before .relatives .given .1
 
 returns-4 : tie.Need-returns-4
 returns-4 c =
-    let c-if3 = c .before .before .before .before .if3 in
-    let back = c .before .before .before .before .before .before in
-    let c-report = back .before .before .before .before .before .before .report in
-    let further = back .before .before .before .before .before .before in
-    let earlier = further .before .before .before .before .before .before in
-    let c-left-waiting = earlier .before .before .left-waiting in
-    let c-if2 = earlier .before .before .before .before .if2 in
-    let before = earlier .before .before .before .before .before .before in
-    let c-step = before .before .step in
-    let c-stepping-place = before .before in
-    let c-side-of = before .before .before .before .before .side-of in
-    let begun = before .before .before .before .before .before .before in
-    let c-if1 = begun .before .if1 in
-    let outset = begun .before .before .before .before .before .before in
-    let c-start = outset .before in
-    let a = c-start .args in
-    let s = a .y .stream in
-    let t = now (a .words) in
-    let x = getD (now (a .block)) (a .y .at) 0 in
-    offered-taken (automaton t) (state c-start) (a .first) (now (a .block)) (a .y) (lent c-start) (c-start .pre .2)
-    (c-report .result .full) (c-report .result .reports) (c-report .result .reported) (c-report .result .some) (c-report .result .waits) _ _ (c-report .ensures) (c-if3 .left)
-    (c-if1 .left) (c-step .result .turns) (turns-are c-stepping-place) (c-if2 .left) _
-    (λ i. record {
-      live = stepping t (s .live) (s .last) (c-side-of .result) (a .gates .positions) (c-step .result .live) (s .taken) x
-          (c-start .pre .1 .positions-is) (c-side-of .ensures) (passes t (c-start .pre .0) .long) (c-step .ensures .0) i;
-      held = c-left-waiting .ensures .0 i;
-      reported = c-report .result .reported;
-      pending = c-left-waiting .ensures .1 i;
-      last = c-side-of .ensures i;
-      taken = s .taken + 1;
-      rules = s .rules;
-      positions = s .positions;
-      closed = s .closed;
-    })
+    let e = c .before .before .before .before in
+    let r = given-at e in
+    let o = waited r in
+    let b = start o in
+    let a = b .args in
+    let s = a .y .stream in (
+      r .report .ensures .0,
+      offered-taken (automaton (now (a .words))) (state b) (a .first) (now (a .block)) (a .y) (lent b) (b .pre .2)
+          (r .report .result .full) (r .report .result .reports) (r .report .result .reported) (r .report .result .some) (r .report .result .waits) _ _ (r .report .ensures .1) (e .if3 .left)
+          (inside o) (stepped-at o .step .result .turns) (turns-are (stepped-at o)) (o .before .before .if2 .left) _
+          (λ i. record {
+            live = next-is o i;
+            held = o .left-waiting .ensures .0 i;
+            reported = r .report .result .reported;
+            pending = o .left-waiting .ensures .1 i;
+            last = side-is o .side-of .ensures i;
+            taken = s .taken + 1;
+            rules = s .rules;
+            positions = s .positions;
+            closed = s .closed;
+          }),
+    )
 
 pub take-byte-spec : {M : Type 1} → statement M
 take-byte-spec =
@@ -439,9 +369,9 @@ take-byte-spec =
     same-length-3
     same-length-4
     returns-3
-    add-t31
+    add-t32
+    add-t53
     add-t51
-    add-t49
     same-length-5
     same-length-6
     same-length-7
