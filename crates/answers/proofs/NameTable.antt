@@ -1,5 +1,6 @@
--- One rule over the whole table of names: each of its names is read, plain and negated, caseless or not, and a class of it alone has exactly the
--- bytes of its kind. What the table must have for that is computed over all its rows.
+-- One rule over the whole table of names: each of its names is read, plain and negated, caseless or
+-- not, and a class of it alone has exactly the bytes of its kind. What the table must have for that
+-- is computed over all its rows.
 use mathlib.Core.Path.{_≡_, refl, sym, ap}
 use mathlib.Core.Bool.{Bool, true, false, cond, not, _&&_, and-eq-true-iff, true≢false}
 use mathlib.Core.List.{List, [], _∷_, _++_}

@@ -1,4 +1,5 @@
--- Spaces and tabs at a place: none where the byte there is no blank, and else that byte and those after it.
+-- Spaces and tabs at a place: none where the byte there is no blank, and else that byte and those
+-- after it.
 use mathlib.Core.Path.{_≡_, refl, sym}
 use mathlib.Core.Bool.{Bool, true, false, cond, true≢false}
 use mathlib.Core.List.{List, [], _∷_}

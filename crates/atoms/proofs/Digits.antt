@@ -1,5 +1,6 @@
--- Digits and the number that they make. The digits at a place are none where the byte there is no digit, and else that byte's and those after it;
--- once the number has reached the cap, further digits do not change it.
+-- Digits and the number that they make. The digits at a place are none where the byte there is no
+-- digit, and else that byte's and those after it; once the number has reached the cap, further
+-- digits do not change it.
 use mathlib.Core.Path.{_≡_, refl, ap, _∙_}
 use mathlib.Core.Bool.{Bool, true, false, cond}
 use mathlib.Core.List.{List, [], _∷_}
@@ -85,7 +86,8 @@ module _ (base : ℕ) (s : List ℕ) (at : ℕ) where
           valued = rw ev (cut base (digits base (drop (i + 1) s)) (value * base + d) b ∙ rw here at (read .valued));
         }
 
-    -- at a byte that is no digit, after which the blanks end at `end`; those before the digits begin at `start`
+    -- at a byte that is no digit, after which the blanks end at `end`; those before the digits
+    -- begin at `start`
     pub read-done : (d start end : ℕ) → d ≡ digitOf (getD s i 0) → base ≤ d → at ≡ start + blanks (drop start s) → end ≡ i + blanks (drop i s)
         → record { value = value; some = ltb at i; size = end - start } ≡ numeralOf base (drop start s)
     unfolding numeralOf valueFrom

@@ -1,5 +1,6 @@
--- Escapes, as the functions read them: each law says a definition of specs/Escape.antt at the bytes from a place on by what the code has in hand
--- there, so that a return only has to rewrite by its tests.
+-- Escapes, as the functions read them: each law says a definition of specs/Escape.antt at the bytes
+-- from a place on by what the code has in hand there, so that a return only has to rewrite by its
+-- tests.
 use mathlib.Core.Path.{_≡_, refl, ap₂, _∙_}
 use mathlib.Core.Bool.{Bool, true, false, cond, _&&_, _||_}
 use mathlib.Core.List.{List, [], _∷_}

@@ -1,4 +1,5 @@
--- The marks of quotes, as the functions read them: none stand at a place, or two bytes and those after them.
+-- The marks of quotes, as the functions read them: none stand at a place, or two bytes and those
+-- after them.
 use mathlib.Core.Path.{_≡_, refl, ap, _∙_}
 use mathlib.Core.Bool.{Bool, true, false, cond, and-false}
 use mathlib.Core.List.{List, [], _∷_}

@@ -1,4 +1,5 @@
--- What the proofs of the functions share, and what callers cite of bytes from a place on, of numbers and of sizes.
+-- What the proofs of the functions share, and what callers cite of bytes from a place on, of
+-- numbers and of sizes.
 pub mod Suffixes
 pub mod Blanks
 pub mod Digits

@@ -1,4 +1,5 @@
--- Raw control bytes, as the function finds them: the bytes of a token are looked at one after the other, and the first raw one settles its fault.
+-- Raw control bytes, as the function finds them: the bytes of a token are looked at one after the
+-- other, and the first raw one settles its fault.
 use mathlib.Core.Path.{_≡_, refl, sym}
 use mathlib.Core.Bool.{Bool, true, false, cond}
 use mathlib.Core.List.{List, [], _∷_}

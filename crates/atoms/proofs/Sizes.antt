@@ -1,5 +1,6 @@
--- How many bytes an escape takes: never more than there are, so that no place runs past the pattern's end, and at least one
--- unless it is faulty, so that whoever goes on after it comes nearer to the end. By cases on what the definitions ask.
+-- How many bytes an escape takes: never more than there are, so that no place runs past the
+-- pattern's end, and at least one unless it is faulty, so that whoever goes on after it comes
+-- nearer to the end. By cases on what the definitions ask.
 use mathlib.Core.Path.{_≡_, refl, sym}
 use mathlib.Core.Bool.{Bool, true, false, cond, _&&_, and-eq-true-iff, true≢false}
 use mathlib.Core.List.{List, [], _∷_}
@@ -17,7 +18,8 @@ use Rattle.atoms.specs.declared.Part.{Part}
 use Rattle.atoms.proofs.Suffixes.{inside}
 use Rattle.atoms.proofs.Digits.{digits-fit}
 
--- what holds of both arms of a test, each by what the test says there, holds of the one that it picks
+-- what holds of both arms of a test, each by what the test says there, holds of the one that it
+-- picks
 pub either : {A : Type 0} (P : A → Type 0) (t : Bool) {a b : A} → (t ≡ true → P a) → (t ≡ false → P b) → P (cond t a b)
 either P true f g = f refl
 either P false f g = g refl

@@ -1,5 +1,5 @@
--- The bytes from a place on. A place inside the pattern has a byte and the bytes after it; a place past the end has none, and reads as 0. So a byte
--- other than 0 shows that its place is inside.
+-- The bytes from a place on. A place inside the pattern has a byte and the bytes after it; a place
+-- past the end has none, and reads as 0. So a byte other than 0 shows that its place is inside.
 use mathlib.Core.Path.{_≡_, ap, _∙_}
 use mathlib.Core.List.{List, _∷_}
 use Prim.Native.Nat.{ℕ, _+_, _<_}

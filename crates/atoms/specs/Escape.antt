@@ -1,4 +1,5 @@
--- Escapes. Assumes nothing: these are definitions. v is the pattern from the place that the comment names.
+-- Escapes. Assumes nothing: these are definitions. v is the pattern from the place that the comment
+-- names.
 use mathlib.Core.Bool.{Bool, true, false, cond, _&&_}
 use mathlib.Core.List.{List, [], _∷_}
 use Prim.Native.Nat.{ℕ, _+_, _-_}
@@ -17,12 +18,14 @@ use Rattle.atoms.specs.Number.{digits, valueFrom, numeralOf}
 abbrev pub good : ℕ → Atom → Part
 good size atom = record { fault = 0; size = size; atom = atom }
 
--- A faulty part. Its size, 0 for 6, says where a hyphen of a range would stand; its atom, `Byte 0`, stands for nothing.
+-- A faulty part. Its size, 0 for 6, says where a hyphen of a range would stand; its atom, `Byte 0`,
+-- stands for nothing.
 abbrev pub bad : ℕ → ℕ → Part
 bad fault size = record { fault = fault; size = size; atom = Byte 0 }
 
--- "`\x{..}` hex and `\o{..}` octal take one or more digits and the closing brace": 6 without digits and brace, 7 over 255. Here v is the
--- pattern from the opening brace on, and the escape has two bytes before it.
+-- "`\x{..}` hex and `\o{..}` octal take one or more digits and the closing brace": 6 without digits
+-- and brace, 7 over 255. Here v is the pattern from the opening brace on, and the escape has two
+-- bytes before it.
 unfoldable pub bracedOf : ℕ → List ℕ → Part
 bracedOf base v =
     let n : Numeral = numeralOf base (drop 1 v) in
@@ -30,8 +33,8 @@ bracedOf base v =
     (cond (leb (n .value) 255) (good (4 + n .size) (Byte (n .value))) (bad 7 (4 + n .size)))
     (bad 6 0)
 
--- "up to two" digits: those at the front of v, after two bytes of the escape. "`\x` takes up to two hex digits (none gives 0)"; "`\0` takes
--- up to two further octal digits".
+-- "up to two" digits: those at the front of v, after two bytes of the escape. "`\x` takes up to two
+-- hex digits (none gives 0)"; "`\0` takes up to two further octal digits".
 unfoldable pub shortOf : ℕ → List ℕ → Part
 shortOf base v =
     let ds : List ℕ = take 2 (digits base v) in
@@ -45,7 +48,8 @@ flipped64 x = cond (leb 64 x) (x - 64) (x + 64)
 unfoldable pub raised : ℕ → ℕ
 raised x = cond (isLower x) (otherCase x) x
 
--- "`\c` takes a byte from 32 to 126, raised to upper case, its 64 bit flipped." v is the pattern after `\c`.
+-- "`\c` takes a byte from 32 to 126, raised to upper case, its 64 bit flipped." v is the pattern
+-- after `\c`.
 unfoldable pub controlOf : List ℕ → Part
 controlOf [] = bad 6 0
 controlOf (c ∷ v) = cond (within 32 126 c) (good 3 (Byte (flipped64 (raised c)))) (bad 6 0)
@@ -76,10 +80,11 @@ namedOf c rest =
     (cond (eqb c 116) (good 2 (Byte 9))
     rest)))))
 
--- What differs in a class: "Inside, `\b` is 8", and `\N`, `\A`, `\z` are 14 there. "`\N` is any byte but 10 always." "PCRE also lets `$` hold just
--- before a newline that is the last byte. Mend it, and add `\Z` with the same meaning (14 in a class); `\z` stays." "Add `\b` and `\B` on `\w`": 14 lets
--- through "`\b` and, outside a class, `\B`". Else 14: "any other letter or digit escape". (`\Q` and `\E` are read as marks of quotes before, and never come
--- here.)
+-- What differs in a class: "Inside, `\b` is 8", and `\N`, `\A`, `\z` are 14 there. "`\N` is any
+-- byte but 10 always." "PCRE also lets `$` hold just before a newline that is the last byte. Mend
+-- it, and add `\Z` with the same meaning (14 in a class); `\z` stays." "Add `\b` and `\B` on `\w`":
+-- 14 lets through "`\b` and, outside a class, `\B`". Else 14: "any other letter or digit escape".
+-- (`\Q` and `\E` are read as marks of quotes before, and never come here.)
 unfoldable pub placedOf : Bool → ℕ → Part
 placedOf true c = cond (eqb c 98) (good 2 (Byte 8)) (bad 14 2)
 placedOf false c =
@@ -99,7 +104,8 @@ hexOf v = cond (eqb (getD v 0 0) 123) (bracedOf 16 v) (shortOf 16 v)
 unfoldable pub octalOf : List ℕ → Part
 octalOf v = cond (eqb (getD v 0 0) 123) (bracedOf 8 v) (bad 6 0)
 
--- The escape whose backslash stands before v. "`\` before a byte that is no ASCII letter or digit makes it literal"; "`\` at the end" is 6.
+-- The escape whose backslash stands before v. "`\` before a byte that is no ASCII letter or digit
+-- makes it literal"; "`\` at the end" is 6.
 unfoldable pub escapeOf : Bool → List ℕ → Part
 escapeOf inside [] = bad 6 0
 escapeOf inside (c ∷ v) =

@@ -1,4 +1,5 @@
--- The fault of a token, as a number of the table "When the watcher says no". Assumes nothing: these are definitions.
+-- The fault of a token, as a number of the table "When the watcher says no". Assumes nothing: these
+-- are definitions.
 use mathlib.Core.Bool.{cond}
 use Prim.Native.Nat.{ℕ, min}
 use lib.Dec.{eqb}

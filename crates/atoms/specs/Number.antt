@@ -35,8 +35,8 @@ unfoldable pub blanks : List ℕ → ℕ
 blanks [] = 0
 blanks (b ∷ v) = cond (isBlank b) (suc (blanks v)) 0
 
--- The number at the front, as it stands between braces, with the blanks around it: its value, whether it has a digit, its size in bytes. "Spaces alone make
--- no number".
+-- The number at the front, as it stands between braces, with the blanks around it: its value,
+-- whether it has a digit, its size in bytes. "Spaces alone make no number".
 unfoldable pub numeralOf : ℕ → List ℕ → Numeral
 numeralOf base v =
     let w : List ℕ = drop (blanks v) v in

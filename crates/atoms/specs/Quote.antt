@@ -5,7 +5,8 @@ use Prim.Native.Nat.{ℕ, _+_}
 use lib.Dec.{eqb}
 use Rattle.atoms.specs.declared.Gap.{Gap}
 
--- The two bytes that open or end a quote: `\Q` where none is open, and `\E`, which counts as a comment where none is open.
+-- The two bytes that open or end a quote: `\Q` where none is open, and `\E`, which counts as a
+-- comment where none is open.
 unfoldable pub isMark : (quoted : Bool) (c d : ℕ) → Bool
 isMark quoted c d = eqb c 92 && (eqb d 69 || (eqb d 81 && not quoted))
 
@@ -21,8 +22,9 @@ noGap quoted = record { size = 0; quoted = quoted }
 abbrev pub wider : Gap → Gap
 wider g = record { size = 2 + g .size; quoted = g .quoted }
 
--- The marks at the front of v: how many bytes they take, and whether a quote is open after them. An empty quote and a lone `\E` are "in a class as not there";
--- so are the marks around quoted members, since the bytes between them alone are literal.
+-- The marks at the front of v: how many bytes they take, and whether a quote is open after them. An
+-- empty quote and a lone `\E` are "in a class as not there"; so are the marks around quoted
+-- members, since the bytes between them alone are literal.
 unfoldable pub gapOf : Bool → List ℕ → Gap
 gapOf quoted [] = noGap quoted
 gapOf quoted (c ∷ []) = noGap quoted

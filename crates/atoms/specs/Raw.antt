@@ -11,6 +11,7 @@ unfoldable pub anyRaw : List ℕ → Bool
 anyRaw [] = false
 anyRaw (b ∷ v) = isCntrl b || anyRaw v
 
--- 23, "as a fault of the token it lies in": the fault of a token that takes the first `size` bytes of v. "Within that token 23 comes after the lower numbers."
+-- 23, "as a fault of the token it lies in": the fault of a token that takes the first `size` bytes
+-- of v. "Within that token 23 comes after the lower numbers."
 unfoldable pub withRaw : (fault size : ℕ) → List ℕ → ℕ
 withRaw fault size v = lower fault (cond (anyRaw (take size v)) 23 0)

@@ -1,5 +1,5 @@
-// Escapes, inside and outside a class: the byte or the type that one stands for, its size, its fault 6, 7 or 14. Each function is given the place of
-// the first byte that is left to read.
+// Escapes, inside and outside a class: the byte or the type that one stands for, its size, its
+// fault 6, 7 or 14. Each function is given the place of the first byte that is left to read.
 use crate::Atom;
 use crate::Part;
 use crate::number::digit_at;

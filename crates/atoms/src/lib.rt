@@ -1,6 +1,7 @@
-// What stands for one byte or for a kind of bytes, at a place of the pattern: numbers, escapes, the marks of quotes; and the faults that tokens share, the lower of two
-// and that of a raw control byte. A place past the pattern's end reads as its end, so nothing is required of a caller. specs/ says what each function gives, for the
-// bytes from the place on.
+// What stands for one byte or for a kind of bytes, at a place of the pattern: numbers, escapes, the
+// marks of quotes; and the faults that tokens share, the lower of two and that of a raw control
+// byte. A place past the pattern's end reads as its end, so nothing is required of a caller. specs/
+// says what each function gives, for the bytes from the place on.
 mod escape;
 mod fault;
 mod number;
@@ -56,8 +57,8 @@ pub enum Atom {
     NoWordEdge,
 }
 
-// An escape or a class member: its lowest fault or 0, the bytes it takes, what it stands for. A part with fault 6 has no end, and its size
-// is 0; a faulty part stands for byte 0.
+// An escape or a class member: its lowest fault or 0, the bytes it takes, what it stands for. A
+// part with fault 6 has no end, and its size is 0; a faulty part stands for byte 0.
 pub struct Part {
     pub fault: u32,
     pub size: usize,

@@ -1,5 +1,6 @@
-// Numbers written in digits. One function reads a number between braces, whatever its base: the bounds of a quantifier and the number escapes
-// come here. However many digits there are, the number stops at the cap.
+// Numbers written in digits. One function reads a number between braces, whatever its base: the
+// bounds of a quantifier and the number escapes come here. However many digits there are, the
+// number stops at the cap.
 use crate::Numeral;
 ghost use mathlib.Core.Path.{_≡_};
 ghost use Prim.Native.Nat.{_+_, _≤_, _<_, min};

@@ -15,7 +15,8 @@ fn is_raw(b: u8) -> bool
     kinds::kinds_of(b) & kinds::CNTRL != 0
 }
 
-// The fault of a token that takes so many bytes from a place on, where `fault` is its fault besides.
+// The fault of a token that takes so many bytes from a place on, where `fault` is its fault
+// besides.
 pub fn with_raw(s: &[u8], at: usize, size: usize, fault: u32) -> u32
     ensures { λ r. ⌜ r ≡ withRaw fault size (drop at (now (s .entry))) ⌝ }
 {

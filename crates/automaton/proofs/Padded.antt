@@ -1,5 +1,5 @@
--- The rows as they are handed out: those of the rule's positions moved to the front, and zeros. The rows of the other positions hold nothing, so what
--- stands behind is zeros already.
+-- The rows as they are handed out: those of the rule's positions moved to the front, and zeros. The
+-- rows of the other positions hold nothing, so what stands behind is zeros already.
 use mathlib.Core.Path.{_≡_, refl, sym, ap, ap₂, subst, _∙_}
 use mathlib.Core.Bool.{Bool, true, false, _||_}
 use mathlib.Core.List.{List, [], _∷_, _++_, append-assoc, append-nil}

@@ -1,5 +1,6 @@
--- The fragment of a form by the fragments of its parts. Sets are known by their members, so each equation is one between tests of positions; and a form
--- without positions has empty sets, so that only where it matches nothing is left to say of it.
+-- The fragment of a form by the fragments of its parts. Sets are known by their members, so each
+-- equation is one between tests of positions; and a form without positions has empty sets, so that
+-- only where it matches nothing is left to say of it.
 use mathlib.Core.Path.{_≡_, refl, sym, ap, _∙_}
 use mathlib.Core.Bool.{Bool, true, false, _&&_, _||_, or-false, or-comm, and-comm}
 use mathlib.Core.List.{List, [], _∷_}

@@ -1,4 +1,5 @@
--- What is built, part by part: the promises of the functions that walk the nodes, put together. A repeat is taken apart by its first copy.
+-- What is built, part by part: the promises of the functions that walk the nodes, put together. A
+-- repeat is taken apart by its first copy.
 use mathlib.Core.Path.{_≡_, refl, sym, ap, ap₂, _∙_}
 use mathlib.Core.Bool.{Bool, true, false, true≢false, _&&_, _||_, and-true, and-false, or-false, or-assoc}
 use mathlib.Core.List.{List, [], _∷_, _++_, append-assoc}

@@ -1,5 +1,5 @@
--- Rows of four words: what a row holds after a row was written, and what the loop that joins two sets adds. A row is read word by word, so each law is
--- one about a word at an index.
+-- Rows of four words: what a row holds after a row was written, and what the loop that joins two
+-- sets adds. A row is read word by word, so each law is one about a word at an index.
 use mathlib.Core.Path.{_≡_, refl, sym, ap, ap₂, _∙_}
 use mathlib.Core.Bool.{Bool, true, false, true≢false, _&&_, _||_, and-false, or-false}
 use mathlib.Core.Logic.{_⊎_, inl, inr}

@@ -1,5 +1,7 @@
--- A table's block passes the test of a block (`image-passes`), byte by byte, and what reading it leaves is what the table has (`image-read`); a block that
--- passes has the bytes of the words that it leaves (`accepted-image`). Both go by the bytes of each part: number, used count, words, filler, CRC.
+-- A table's block passes the test of a block (`image-passes`), byte by byte, and what reading it
+-- leaves is what the table has (`image-read`); a block that passes has the bytes of the words that
+-- it leaves (`accepted-image`). Both go by the bytes of each part: number, used count, words,
+-- filler, CRC.
 use mathlib.Core.Path.{_≡_, sym, ap, ap₂, _∙_, subst}
 use mathlib.Core.Bool.{Bool, true, false, cond}
 use mathlib.Core.List.{List, _++_}

@@ -1,5 +1,6 @@
--- What the test of a block gives, and the other way round. `isBlock` is a chain of tests, so bytes pass exactly where each link holds (`Passes`): a call that
--- refuses shows that one link fails (`refused`), and a proof about an accepted block takes the facts from `passes`.
+-- What the test of a block gives, and the other way round. `isBlock` is a chain of tests, so bytes
+-- pass exactly where each link holds (`Passes`): a call that refuses shows that one link fails
+-- (`refused`), and a proof about an accepted block takes the facts from `passes`.
 use mathlib.Core.Path.{_≡_, refl, _∙_}
 use mathlib.Core.Bool.{Bool, true, false, _&&_, and-eq-true-iff}
 use mathlib.Core.List.{List}

@@ -1,5 +1,6 @@
--- The CRC by a table is the CRC bit by bit (`by-table`): the bits above the lowest k come down unchanged, whatever the lowest k make. One changed byte changes
--- it (`crc-differs`): each bit's step is injective, since the polynomial has the highest bit, which a shifted number has not.
+-- The CRC by a table is the CRC bit by bit (`by-table`): the bits above the lowest k come down
+-- unchanged, whatever the lowest k make. One changed byte changes it (`crc-differs`): each bit's
+-- step is injective, since the polynomial has the highest bit, which a shifted number has not.
 use mathlib.Core.Path.{_≡_, refl, sym, ap, ap₂, _∙_}
 use mathlib.Core.Bool.{Bool, true, false, not, cond}
 use mathlib.Core.List.{List, [], _∷_, _++_}

@@ -1,5 +1,6 @@
--- The blocks of a table by their bytes: byte k of the part before the CRC (`front-is`), what the writes of a block make (`written-image`), and what the words
--- read make (`read-words`). A range of written elements stands between what was before and behind it (`over-between`).
+-- The blocks of a table by their bytes: byte k of the part before the CRC (`front-is`), what the
+-- writes of a block make (`written-image`), and what the words read make (`read-words`). A range of
+-- written elements stands between what was before and behind it (`over-between`).
 use mathlib.Core.Path.{_≡_, refl, sym, ap, ap₂, _∙_}
 use mathlib.Core.List.{List, _++_, append-nil}
 use Prim.Native.Nat.{ℕ, zero, suc, _+_, _-_, _*_, _/_, _%_, _≤_, _<_}

@@ -1,5 +1,6 @@
--- Numbers and their bytes, both ways: the bytes of a number read as that number (`number-of`), and a number that was read has the bytes that stand there
--- (`byte-number`). Each goes by the lowest byte and the number above it.
+-- Numbers and their bytes, both ways: the bytes of a number read as that number (`number-of`), and
+-- a number that was read has the bytes that stand there (`byte-number`). Each goes by the lowest
+-- byte and the number above it.
 use mathlib.Core.Path.{_≡_, refl, sym, ap, ap₂, _∙_}
 use mathlib.Core.List.{List, _∷_, _++_}
 use Prim.Native.Nat.{ℕ, zero, suc, _+_, _-_, _*_, _/_, _%_, _^_, _≤_, _<_, suc-le-suc}

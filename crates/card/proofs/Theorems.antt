@@ -238,7 +238,8 @@ changed-byte t u l i k b h m small other = sym (read-no-block u i (set s k b) l 
             subst (λ (x : ℕ). x < 256) (sym (ap (λ (n : ℕ). getD (set s k b) n 0) (sym e) ∙ getD-set-same s k b 0 (omega (arith, length-image t i)))) small
 
     go : numberAt (set s k b) crcAt 4 ≡ crc32 (take crcAt (set s k b)) → Dec (k < crcAt) → ⊥
-    -- before the CRC: the stored one is as it was, so the CRCs of both are equal, and so are the bytes
+    -- before the CRC: the stored one is as it was, so the CRCs of both are equal, and so are the
+    -- bytes
     go e (yes a) =
         let same : numberAt (set s k b) crcAt 4 ≡ numberAt s crcAt 4 =
         number-same (set s k b) s 4 crcAt (λ j n. getD-set-other s k (crcAt + j) b 0 (λ z. omega arith)) in
@@ -246,7 +247,8 @@ changed-byte t u l i k b h m small other = sym (read-no-block u i (set s k b) l 
         (crc-told (take crcAt s) k b (bytes-take crcAt s (image-bytes t i)) (omega (arith, length-take crcAt s, length-image t i)) small
         (ap crc32 (sym (take-set-lt crcAt s k b a)) ∙ sym e ∙ same ∙ image-sum t i)
         ∙ getD-take crcAt s k 0 a)
-    -- in the CRC: what it is over is as it was, so it is the same number, and its bytes are the same
+    -- in the CRC: what it is over is as it was, so it is the same number, and its bytes are the
+    -- same
     go e (no a) =
         let same : numberAt (set s k b) crcAt 4 ≡ numberAt s crcAt 4 =
         e ∙ ap crc32 (take-set-le crcAt s k b (omega arith)) ∙ sym (image-sum t i) in

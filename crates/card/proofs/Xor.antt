@@ -1,4 +1,5 @@
--- Laws of exclusive or that the library leaves out: it is associative, so what is added can be taken off again. By the lowest digits and the halves above them.
+-- Laws of exclusive or that the library leaves out: it is associative, so what is added can be
+-- taken off again. By the lowest digits and the halves above them.
 use mathlib.Core.Path.{_≡_, refl, sym, ap, ap₂, _∙_}
 use Prim.Native.Nat.{ℕ, zero, suc, _+_, _*_, _/_, _%_, _<_}
 use native.Mathlib.Nat.{mod-lt, zero-lt-suc}

@@ -1,5 +1,5 @@
--- The blocks of a table, byte by byte; docs/CARD.md has them as a table. How many there are and what each holds follows from the table's words. Assumes nothing:
--- these are definitions.
+-- The blocks of a table, byte by byte; docs/CARD.md has them as a table. How many there are and
+-- what each holds follows from the table's words. Assumes nothing: these are definitions.
 use mathlib.Core.List.{List, [], _++_}
 use Prim.Native.Nat.{ℕ, zero, suc, _+_, _-_, _*_, _/_, min}
 use lib.ListN.{getD, replicate}

@@ -1,4 +1,5 @@
--- Numbers as bytes: "All little-endian", the lowest byte first. Assumes nothing: these are definitions.
+-- Numbers as bytes: "All little-endian", the lowest byte first. Assumes nothing: these are
+-- definitions.
 use mathlib.Core.List.{List, [], _∷_}
 use Prim.Native.Nat.{ℕ, zero, suc, _+_, _*_, _/_, _%_, _^_}
 use lib.ListN.{getD}

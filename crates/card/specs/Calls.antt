@@ -1,4 +1,5 @@
--- The two calls: the answer of each, and every lent byte or word afterwards. Assumes nothing: these are definitions.
+-- The two calls: the answer of each, and every lent byte or word afterwards. Assumes nothing: these
+-- are definitions.
 use mathlib.Core.Bool.{Bool, cond, _&&_}
 use mathlib.Core.List.{List, _++_}
 use Prim.Native.Nat.{ℕ, _+_, _-_, _*_}

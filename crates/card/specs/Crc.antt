@@ -1,4 +1,5 @@
--- CRC-32, bit by bit: "reflected polynomial EDB88320 hex, all ones at start and end". Assumes nothing: these are definitions.
+-- CRC-32, bit by bit: "reflected polynomial EDB88320 hex, all ones at start and end". Assumes
+-- nothing: these are definitions.
 use mathlib.Core.Bool.{cond}
 use mathlib.Core.List.{List, [], _∷_}
 use Prim.Native.Nat.{ℕ, zero, suc, _/_, _%_}

@@ -1,4 +1,5 @@
--- What is proved of the card, a statement each; proofs/Theorems.antt has the proofs. The calls' own promises are in specs/Calls.antt.
+-- What is proved of the card, a statement each; proofs/Theorems.antt has the proofs. The calls' own
+-- promises are in specs/Calls.antt.
 use mathlib.Core.Path.{_≡_}
 use mathlib.Core.Bool.{true}
 use mathlib.Core.Logic.{_⊎_}
@@ -27,7 +28,8 @@ abbrev pub Written : Type 0
 Written = (t : List ℕ) → isTable t ≡ true → (i : ℕ) → i < blocks → (b : List ℕ) → length b ≡ blockBytes
     → (writeAnswer t i b ≡ answer 0 0) × (writtenBlock t i b ≡ imageOf t i)
 
--- Reading a table's block is accepted, and sets the words of that block to the table's and no other.
+-- Reading a table's block is accepted, and sets the words of that block to the table's and no
+-- other.
 abbrev pub ReadBack : Type 0
 ReadBack = (t u : List ℕ) → AreWords t → tableWords ≤ length t → tableWords ≤ length u → (i : ℕ) → i < blocks
     → (readAnswer u i (imageOf t i) ≡ answer 0 0)
@@ -38,7 +40,8 @@ unfoldable pub readAll : (t u order : List ℕ) → List ℕ
 readAll t u [] = u
 readAll t u (i ∷ order) = readAll t (readWords u i (imageOf t i)) order
 
--- "Reading back gives the table word for word": in any order that has each block, again and again too, and over any words.
+-- "Reading back gives the table word for word": in any order that has each block, again and again
+-- too, and over any words.
 abbrev pub ReadBackAll : Type 0
 ReadBackAll = (t u order : List ℕ) → AreWords t → tableWords ≤ length t → tableWords ≤ length u → ((i : ℕ) → i < blocks → List·Memᴰ i order)
     → readAll t u order ≡ take tableWords t ++ drop tableWords u
@@ -52,7 +55,8 @@ abbrev pub OneTable : Type 0
 OneTable = (t s : List ℕ) → AreWords t → AreWords s → tableWords ≤ length t → tableWords ≤ length s
     → ((i : ℕ) → i < blocks → imageOf t i ≡ imageOf s i) → take tableWords t ≡ take tableWords s
 
--- "a wrong number or used count or nonzero filler likewise": one wrong part is enough, whatever the CRC says
+-- "a wrong number or used count or nonzero filler likewise": one wrong part is enough, whatever the
+-- CRC says
 abbrev pub WrongPart : Type 0
 WrongPart = (u : List ℕ) (i : ℕ) (b : List ℕ) → tableWords ≤ length u
     → (numberAt b 0 2 ≡ i → ⊥)
@@ -72,7 +76,8 @@ WriteKept = (t : List ℕ) (i : ℕ) (b : List ℕ) → (writeAnswer t i b ≡ a
 abbrev pub ReadKept : Type 0
 ReadKept = (u : List ℕ) (i : ℕ) (b : List ℕ) → (readAnswer u i b ≡ answer 0 0 → ⊥) → readWords u i b ≡ u
 
--- "words beyond are never touched": what is written does not depend on them, and reading leaves them
+-- "words beyond are never touched": what is written does not depend on them, and reading leaves
+-- them
 abbrev pub WriteLocal : Type 0
 WriteLocal = (t s : List ℕ) → take tableWords t ≡ take tableWords s → (i : ℕ) (b : List ℕ)
     → (writeAnswer t i b ≡ writeAnswer s i b) × (writtenBlock t i b ≡ writtenBlock s i b)

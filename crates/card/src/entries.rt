@@ -1,4 +1,5 @@
-// What eight bits of the CRC make of each byte value, entry 0 first. Whoever reads it calls `crc::entries`.
+// What eight bits of the CRC make of each byte value, entry 0 first. Whoever reads it calls
+// `crc::entries`.
 pub const ENTRIES: [u32; 256] = [
     0x0000_0000,
     0x7707_3096,

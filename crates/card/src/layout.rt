@@ -1,4 +1,5 @@
-// The bytes of a block by name, as specs/Block.antt has them and docs/CARD.md lists them. How many blocks there are follows from the table's words.
+// The bytes of a block by name, as specs/Block.antt has them and docs/CARD.md lists them. How many
+// blocks there are follows from the table's words.
 use table::layout::TABLE_WORDS;
 ghost use mathlib.Core.Path.{_≡_};
 ghost use Prim.Native.Nat.{_<_};

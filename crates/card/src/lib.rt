@@ -1,5 +1,6 @@
-// The rule table on the card: blocks of 512 bytes, written and read one by one. Nothing is required of a caller. docs/CARD.md lists the bytes of a block;
-// specs/Block.antt is the image of a table, specs/Calls.antt what each call answers and leaves.
+// The rule table on the card: blocks of 512 bytes, written and read one by one. Nothing is required
+// of a caller. docs/CARD.md lists the bytes of a block; specs/Block.antt is the image of a table,
+// specs/Calls.antt what each call answers and leaves.
 mod bytes;
 mod crc;
 mod entries;
@@ -52,7 +53,8 @@ pub fn write_block(words: &[u64], number: u64, block: &mut [u8]) -> Stored
     }
 }
 
-// Reads block `number` of a table from the lent block into the words, or refuses and leaves every word as it was.
+// Reads block `number` of a table from the lent block into the words, or refuses and leaves every
+// word as it was.
 pub fn read_block(words: &mut [u64], number: u64, block: &[u8]) -> Stored
     ensures { λ r. ⌜ (r ≡ readAnswer (now (words .entry)) number (now (block .entry))) × (now (words .exit) ≡ readWords (now (words .entry)) number (now (block .entry))) ⌝ }
 {

@@ -1,4 +1,5 @@
-// Reading a block: every check first, then the words. specs/Calls.antt lists the checks in this order.
+// Reading a block: every check first, then the words. specs/Calls.antt lists the checks in this
+// order.
 use crate::bytes::number_at;
 use crate::crc::crc_of;
 use crate::layout::BLOCK_BYTES;
@@ -37,7 +38,8 @@ fn zeros_at(bytes: &[u8], at: usize, n: usize) -> bool
     true
 }
 
-// Whether these bytes are block `number` of some words: its size, number, used count, filler and CRC.
+// Whether these bytes are block `number` of some words: its size, number, used count, filler and
+// CRC.
 pub(crate) fn is_block(number: u64, block: &[u8]) -> bool
     ensures { λ r. ⌜ r ≡ isBlock number (now (block .entry)) ⌝ }
 {

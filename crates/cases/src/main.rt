@@ -1,5 +1,7 @@
-// The limits as cases, carried out on the library: full tables, positions, pattern bytes, groups, repeats of repeats, matched bytes. Each addition is a line with its
-// number and place, each stream a line with the reports of its scan and of its closing. The file `stdout` has the answers that the rules give.
+// The limits as cases, carried out on the library: full tables, positions, pattern bytes, groups,
+// repeats of repeats, matched bytes. Each addition is a line with its number and place, each stream
+// a line with the reports of its scan and of its closing. The file `stdout` has the answers that
+// the rules give.
 mod show;
 
 use show::add;
@@ -24,7 +26,8 @@ fn rules(words: &mut [u64]) {
     log(words, b"ba");
 }
 
-// A full table whose rules each have two pairs at the closing, before a last newline and at the end: as many reports as a call can need at once.
+// A full table whose rules each have two pairs at the closing, before a last newline and at the
+// end: as many reports as a call can need at once.
 fn closing(words: &mut [u64]) {
     fill(words, 64, b"a\\n?$");
     log(words, b"a\n");
@@ -80,7 +83,8 @@ fn groups(words: &mut [u64]) {
     log(words, b"aa");
 }
 
-// Repeats of repeats are counted before anything is written out, so the last two are answered at once.
+// Repeats of repeats are counted before anything is written out, so the last two are answered at
+// once.
 fn repeats(words: &mut [u64]) {
     empty(words);
     add(words, 1, b"a{65536}");
@@ -91,7 +95,8 @@ fn repeats(words: &mut [u64]) {
     log(words, b"aa");
 }
 
-// Matched bytes: from the block, from the tail, from neither; an empty range where both could; a tail longer than the stream before the block; the largest offset.
+// Matched bytes: from the block, from the tail, from neither; an empty range where both could; a
+// tail longer than the stream before the block; the largest offset.
 fn excerpts() {
     shown(b"fooxyz", b"barbar", 6, 6, 9);
     shown(b"fooxyz", b"barbar", 6, 0, 3);

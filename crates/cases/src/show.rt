@@ -7,7 +7,8 @@ use table::layout::MAX_RULES;
 // Report space: two slots for each rule that a table may have.
 const SLOTS: usize = 2 * MAX_RULES as usize;
 
-// Writes a text. A write that fails is not looked at: the comparison with the expected output finds it.
+// Writes a text. A write that fails is not looked at: the comparison with the expected output finds
+// it.
 fn say(text: &[u8]) {
     io::write_all(STDOUT_FILENO, text);
 }
@@ -57,7 +58,8 @@ fn reports(ids: &[u32], offsets: &[u64], count: usize) {
     }
 }
 
-// Scans a log as a stream of its own: its length, the bytes taken, and each report as id and end offset; then those of the closing.
+// Scans a log as a stream of its own: its length, the bytes taken, and each report as id and end
+// offset; then those of the closing.
 pub fn log(words: &[u64], bytes: &[u8]) {
     let mut ids = [0u32; SLOTS];
     let mut offsets = [0u64; SLOTS];
@@ -77,7 +79,8 @@ pub fn log(words: &[u64], bytes: &[u8]) {
     say(b"\n");
 }
 
-// What is shown of a match, with the number: the bytes that lie whole in the tail or in the block, which begins at `offset`.
+// What is shown of a match, with the number: the bytes that lie whole in the tail or in the block,
+// which begins at `offset`.
 pub fn shown<'a>(tail: &'a [u8], block: &'a [u8], offset: u64, start: u64, end: u64) {
     say(b"bytes ");
     io::print_decimal(STDOUT_FILENO, start);

@@ -1,5 +1,6 @@
--- Class members, as the functions read them. Each law says a definition of specs/Class.antt at the bytes from a place on by what the code has in
--- hand there. Bytes of a member that was read are skipped, so the members from one place on are those from the next member's place on.
+-- Class members, as the functions read them. Each law says a definition of specs/Class.antt at the
+-- bytes from a place on by what the code has in hand there. Bytes of a member that was read are
+-- skipped, so the members from one place on are those from the next member's place on.
 use mathlib.Core.Path.{_≡_, sym, ap, _∙_}
 use mathlib.Core.Bool.{Bool, true, false, cond, not, _&&_, _||_}
 use mathlib.Core.List.{List, [], _∷_}
@@ -33,7 +34,8 @@ unfolding rangeFault
 range-fault-is m n t u x y et eu ex ey = rw (← et, ← eu, ← ex, ← ey)
 
 module _ (s : List ℕ) (at : ℕ) where
-  -- what joins two members, told by the marks before and after its hyphen and the bytes p and q that follow them
+  -- what joins two members, told by the marks before and after its hyphen and the bytes p and q
+  -- that follow them
   pub joint-is : (quoted : Bool) (g h : Gap) (p q : ℕ) → g ≡ gapOf quoted (drop at s) → h ≡ gapOf false (drop (at + g .size + 1) s)
       → p ≡ getD s (at + g .size) 0 → q ≡ getD s (at + (g .size + (1 + h .size))) 0
       → jointOf quoted (drop at s)

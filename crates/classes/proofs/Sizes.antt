@@ -1,5 +1,6 @@
--- How many bytes a class member or a range takes: never more than there are, so that no place runs past the pattern's end, and at least one unless it is
--- faulty, so that whoever goes on after it comes nearer to the end. By cases on what the definitions ask.
+-- How many bytes a class member or a range takes: never more than there are, so that no place runs
+-- past the pattern's end, and at least one unless it is faulty, so that whoever goes on after it
+-- comes nearer to the end. By cases on what the definitions ask.
 use mathlib.Core.Path.{_≡_, sym}
 use mathlib.Core.Bool.{Bool, true, false, not, _&&_, _||_, and-eq-true-iff, true≢false}
 use mathlib.Core.List.{List, [], _∷_}

@@ -1,4 +1,5 @@
--- Names, as the functions read them: a text is compared byte by byte, and the table is gone through from its first name on.
+-- Names, as the functions read them: a text is compared byte by byte, and the table is gone through
+-- from its first name on.
 use mathlib.Core.Path.{_≡_, refl, _∙_}
 use mathlib.Core.Bool.{Bool, true, false, cond, _&&_, and-eq-true-iff}
 use mathlib.Core.List.{List, [], _∷_}
@@ -36,7 +37,8 @@ text-end text k e = go (decLt k (length text))
     go (no l) = let past : length text ≤ k = omega arith in rw (drop-of-length-le text past)
 
 module _ (s text : List ℕ) (at : ℕ) where
-  -- the size of the text where it stands at the place, when its bytes before k were seen there; else 0
+  -- the size of the text where it stands at the place, when its bytes before k were seen there;
+  -- else 0
   abbrev pub spell : ℕ → ℕ
   spell k = cond (begins (unpadded (drop k text)) (drop (at + k) s)) (k + length (unpadded (drop k text))) 0
 

@@ -20,15 +20,17 @@ use Rattle.atoms.specs.Escape.{good, bad, escapeOf}
 use Rattle.atoms.specs.Quote.{isMark, opensQuote, gapOf}
 use Rattle.classes.specs.Name.{nameOf}
 
--- What `[` begins in a class, with v after it: a class by name after `[:`, "`[.` and `[=` stay 14", else a byte that stands for itself.
+-- What `[` begins in a class, with v after it: a class by name after `[:`, "`[.` and `[=` stay 14",
+-- else a byte that stands for itself.
 unfoldable pub bracketOf : Bool → List ℕ → Part
 bracketOf caseless v =
     cond (eqb (getD v 0 0) 58) (nameOf caseless (drop 1 v))
     (cond (eqb (getD v 0 0) 46 || eqb (getD v 0 0) 61) (bad 14 2)
     (good 1 (Byte 91)))
 
--- The member at the front of v, or an end of a range: in a quote a byte that stands for itself; else an escape, a class by name, or such a byte. (At the
--- pattern's end there is none: nothing asks.)
+-- The member at the front of v, or an end of a range: in a quote a byte that stands for itself;
+-- else an escape, a class by name, or such a byte. (At the pattern's end there is none: nothing
+-- asks.)
 unfoldable pub memberOf : (caseless quoted : Bool) → List ℕ → Part
 memberOf caseless quoted [] = bad 6 0
 memberOf caseless quoted (c ∷ v) =
@@ -67,17 +69,18 @@ byteOf Dollar = 0
 byteOf WordEdge = 0
 byteOf NoWordEdge = 0
 
--- 9, "range falling, or with a type such as `\d` at either end": the fault of the two ends as a range. A faulty end is no type, and its byte is
--- not compared.
+-- 9, "range falling, or with a type such as `\d` at either end": the fault of the two ends as a
+-- range. A faulty end is no type, and its byte is not compared.
 unfoldable pub rangeFault : Part → Part → ℕ
 rangeFault m n =
     cond (isType (m .atom) || isType (n .atom)) 9
     (cond (eqb (m .fault) 0 && (eqb (n .fault) 0 && ltb (byteOf (n .atom)) (byteOf (m .atom)))) 9 0)
 
--- "Hyphen is literal first (or after `^`), last, or right after a range; any other hyphen makes a range from the member before it, a literal hyphen
--- included." Here v is what follows a member: a hyphen, and then something other than `]`, make a range. A hyphen that is first, or right after a range,
--- follows no member: it is read as a member itself. Quotes' marks around the hyphen are as not there; a quoted hyphen makes no range, and a quoted `]` is
--- the end of one.
+-- "Hyphen is literal first (or after `^`), last, or right after a range; any other hyphen makes a
+-- range from the member before it, a literal hyphen included." Here v is what follows a member: a
+-- hyphen, and then something other than `]`, make a range. A hyphen that is first, or right after a
+-- range, follows no member: it is read as a member itself. Quotes' marks around the hyphen are as
+-- not there; a quoted hyphen makes no range, and a quoted `]` is the end of one.
 unfoldable pub jointOf : Bool → List ℕ → Joint
 jointOf quoted v =
     let g : Gap = gapOf quoted v in
@@ -103,8 +106,9 @@ asRange m j n = record {
   quoted = j .quoted;
 }
 
--- The member or range at the front of v: "a class member, a range with both its ends". A member with fault 6 is all there is: it has no end after which a
--- hyphen could stand, and no fault of a second end would be lower.
+-- The member or range at the front of v: "a class member, a range with both its ends". A member
+-- with fault 6 is all there is: it has no end after which a hyphen could stand, and no fault of a
+-- second end would be lower.
 unfoldable pub spelledAt : (caseless quoted : Bool) → List ℕ → Member
 spelledAt caseless quoted v =
     let m : Part = memberOf caseless quoted v in
@@ -147,9 +151,10 @@ settled caseless negated set =
     let s : List ℕ = cond caseless (caseClosed set) set in
     cond negated (complementOf s) s
 
--- The members from left to right: v the bytes from place `at` on, of which `skip` belong to a member or a quote's mark that was read; `first` where no
--- member was read yet, "A `]` first (or after `^`) is literal"; `quoted` where a quote is open; `set` what was collected. 8, "class not closed", has the
--- pattern's length as its place.
+-- The members from left to right: v the bytes from place `at` on, of which `skip` belong to a
+-- member or a quote's mark that was read; `first` where no member was read yet, "A `]` first (or
+-- after `^`) is literal"; `quoted` where a quote is open; `set` what was collected. 8, "class not
+-- closed", has the pattern's length as its place.
 unfoldable pub membersOf : (caseless negated first quoted : Bool) (set : List ℕ) (skip : ℕ) (v : List ℕ) (at : ℕ) → Class
 membersOf caseless negated first quoted set skip [] at = refusedClass 8 at
 membersOf caseless negated first quoted set (suc k) (c ∷ v) at = membersOf caseless negated first quoted set k v (at + 1)
@@ -161,7 +166,8 @@ membersOf caseless negated first quoted set zero (c ∷ v) at =
     (cond (eqb c 93 && not (first || quoted)) (closedClass (at + 1) (settled caseless negated set))
     (cond (eqb (m .fault) 0) rest (refusedClass (m .fault) at)))
 
--- "Classes `[..]`, `[^..]`": v the bytes from place `at` on, after the `[`. Marks before the `^` are "as not there".
+-- "Classes `[..]`, `[^..]`": v the bytes from place `at` on, after the `[`. Marks before the `^`
+-- are "as not there".
 unfoldable pub classOf : Bool → List ℕ → ℕ → Class
 classOf caseless v at =
     let g : Gap = gapOf false v in

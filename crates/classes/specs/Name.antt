@@ -20,7 +20,8 @@ unfoldable pub bytes : String → List ℕ
 bytes Prim.Native.String.[] = []
 bytes (Prim.Native.String._∷_ c text) = code c ∷ bytes text
 
--- a name with the `:]` that closes it, as it stands in a class after `[:`; and the kind of its bytes
+-- a name with the `:]` that closes it, as it stands in a class after `[:`; and the kind of its
+-- bytes
 pub record Name : Type 0 where
   pub text : List ℕ
   pub kind : Kind

@@ -1,4 +1,5 @@
-// Classes: what each member adds to the set, the other case, negation, and the place after the closing bracket.
+// Classes: what each member adds to the set, the other case, negation, and the place after the
+// closing bracket.
 use crate::Class;
 use crate::members::byte_of;
 use crate::members::member_at;

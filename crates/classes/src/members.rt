@@ -1,4 +1,5 @@
-// Class members and ranges. A member, or a range with both its ends, is one token, so the lowest of its faults is given.
+// Class members and ranges. A member, or a range with both its ends, is one token, so the lowest of
+// its faults is given.
 use crate::Joint;
 use crate::Member;
 use crate::names::name_at;

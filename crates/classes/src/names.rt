@@ -1,4 +1,5 @@
-// Classes by name, `[:alpha:]` and `[:^alpha:]`: one table of names, each with the `:]` that closes it, and the kind of each.
+// Classes by name, `[:alpha:]` and `[:^alpha:]`: one table of names, each with the `:]` that closes
+// it, and the kind of each.
 use crate::Row;
 use atoms::Atom;
 use atoms::Part;

@@ -1,5 +1,6 @@
--- Two automata that agree about their rules and positions do the same with every byte. The calls ask an automaton about its own positions and rules only,
--- and what is live or held is no other. Assumes nothing.
+-- Two automata that agree about their rules and positions do the same with every byte. The calls
+-- ask an automaton about its own positions and rules only, and what is live or held is no other.
+-- Assumes nothing.
 use mathlib.Core.Path.{_≡_, refl, sym, ap, ap₂, _∙_}
 use mathlib.Core.Bool.{Bool, true, false, cond, not, _&&_, _||_}
 use mathlib.Core.List.{List, [], _∷_, _++_}

@@ -1,4 +1,5 @@
--- Both kinds of stream give the same, call by call, on a table in which no rule needs a start (`alike`).
+-- Both kinds of stream give the same, call by call, on a table in which no rule needs a start
+-- (`alike`).
 use mathlib.Core.Path.{_≡_, refl, sym, ap, ap₂, _∙_}
 use mathlib.Core.Bool.{Bool, true, false, true≢false, cond, not, _&&_, _||_, and-false}
 use mathlib.Core.List.{List, [], _∷_, _++_, map}

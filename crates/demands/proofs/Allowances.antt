@@ -1,5 +1,6 @@
--- The allowance of a scan: what is used is bounded, and more allowance carries the same lists further, since the reports of fewer bytes are the first of those of
--- more. It is said of any kind of stream whose scans write what a machine reports. Assumes nothing.
+-- The allowance of a scan: what is used is bounded, and more allowance carries the same lists
+-- further, since the reports of fewer bytes are the first of those of more. It is said of any kind
+-- of stream whose scans write what a machine reports. Assumes nothing.
 use mathlib.Core.Path.{_≡_, refl, sym, subst, ap, ap₂, _∙_}
 use mathlib.Core.List.{List, _++_, map, map-append, append-assoc}
 use Prim.Native.Nat.{ℕ, _+_, _-_, _*_, _≤_}
@@ -13,7 +14,8 @@ use Rattle.stream.proofs.Machines.{reports-grow, cost-grow, fits-within, fits-f
 use Rattle.demands.specs.Kinds.{Given, Kind}
 use Rattle.demands.specs.Demands.{Used, Further, MoreAllowance}
 
--- what an accepted scan takes, uses and writes, and a refused one; the number does not depend on the allowance
+-- what an accepted scan takes, uses and writes, and a refused one; the number does not depend on
+-- the allowance
 pub record Writes {S L C R : Type 0} (k : Kind S L C) (t : List ℕ) (m : Machine S R) (write : S → List R → L → L) : Type 0 where
   pub takes : (s : S) (c : C) → k .scan t s c .number ≡ 0 → k .scan t s c .taken ≡ fitsBy m s (k .allowance c) (k .block c) (k .space (k .slots c)) (length (k .block c))
   pub uses : (s : S) (c : C) → k .scan t s c .number ≡ 0 → k .scan t s c .used ≡ costBy m s (k .block c) (k .scan t s c .taken)

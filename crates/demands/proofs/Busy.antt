@@ -1,5 +1,5 @@
--- The busy figure of the state after some bytes is the number of live positions by meaning: the live words' ones, counted rule by rule in the order of their
--- addition. Assumes nothing.
+-- The busy figure of the state after some bytes is the number of live positions by meaning: the
+-- live words' ones, counted rule by rule in the order of their addition. Assumes nothing.
 use mathlib.Core.Path.{_≡_, refl, sym, subst, subst₂, ap, ap₂, _∙_}
 use mathlib.Core.Logic.{_↔_}
 use mathlib.Core.Bool.{Bool, true, false}

@@ -1,4 +1,5 @@
--- What a stream without starts reports for some bytes: what the lists then hold, and the same with the moments. Assumes nothing.
+-- What a stream without starts reports for some bytes: what the lists then hold, and the same with
+-- the moments. Assumes nothing.
 use mathlib.Core.Path.{_≡_, refl, sym, ap, ap₂, _∙_}
 use mathlib.Core.Bool.{Bool, true, false, cond}
 use mathlib.Core.List.{List, [], _∷_, _++_, map, map-append, zip}
@@ -16,7 +17,8 @@ use Rattle.demands.specs.Kinds.{withoutStart, reportsIn}
 use Rattle.demands.proofs.TwoRuns.{run, placed, Told, twoRuns}
 use Rattle.demands.proofs.Whole.{byteEntries, entriesOf, closingOf}
 
--- the reports of rules without starts: those of the first k bytes of a block, and those of the closing
+-- the reports of rules without starts: those of the first k bytes of a block, and those of the
+-- closing
 abbrev pub startless : Slot → Report
 startless r = (r .id, r .end, 0)
 
@@ -39,7 +41,8 @@ slots-hold new slots =
     (take-at (map (λ r. r .end) new) (drop (length new) (slots .offsets)) (length new) (length-map new (λ r. r .end)))
     ∙ columns-zip new
 
--- what a machine without starts goes by: at byte k of some bytes, from a state with nothing taken, and at the closing
+-- what a machine without starts goes by: at byte k of some bytes, from a state with nothing taken,
+-- and at the closing
 abbrev none : ℕ → ℕ
 none a = 0
 

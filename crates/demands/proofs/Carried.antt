@@ -1,5 +1,7 @@
--- The table that additions built, as the proofs about streams take it: an automaton that carries rules, each in its place by rising id, with its positions from
--- its own first one on. What rules proves of the built words (`Built`) gives it, each set through the relation that it computes. Assumes nothing.
+-- The table that additions built, as the proofs about streams take it: an automaton that carries
+-- rules, each in its place by rising id, with its positions from its own first one on. What rules
+-- proves of the built words (`Built`) gives it, each set through the relation that it computes.
+-- Assumes nothing.
 use mathlib.Core.Path.{_≡_, refl, sym, subst, ap, ap₂, _∙_}
 use mathlib.Core.Logic.{_↔_}
 use mathlib.Core.Bool.{Bool, true, false, true≢false, _&&_, _||_, and-false}
@@ -36,7 +38,8 @@ formOf r = write (r .tree)
 abbrev pub Within : (from : ℕ) → Rule → ℕ → Type 0
 Within from r q = (from ≤ q) × (q < from + positions (formOf r))
 
--- place a of the table holds the rule `rule a`, whose positions are numbered from `from a` on; position q takes the bytes of the set `tab q`
+-- place a of the table holds the rule `rule a`, whose positions are numbered from `from a` on;
+-- position q takes the bytes of the set `tab q`
 pub record Carries (w : Automaton) (rule : ℕ → Rule) (from : ℕ → ℕ) (tab : ℕ → ByteSet) : Type 0 where
   pub few-rules : w .rules ≤ maxRules
   pub few-positions : w .positions ≤ maxPositions

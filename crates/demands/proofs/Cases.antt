@@ -1,5 +1,6 @@
--- The worked cases come out as they must: the checker reads every pattern, adds every rule and follows every log by the definitions, with the automaton of
--- the accepted rules in place of 16,384 words, and what is proved of it (Logs) carries the answer to the calls. Assumes nothing.
+-- The worked cases come out as they must: the checker reads every pattern, adds every rule and
+-- follows every log by the definitions, with the automaton of the accepted rules in place of 16,384
+-- words, and what is proved of it (Logs) carries the answer to the calls. Assumes nothing.
 use mathlib.Core.Path.{_≡_, refl, sym, subst, ap₂, _∙_}
 use mathlib.Core.Bool.{Bool, true, false, cond, _&&_}
 use mathlib.Core.List.{List, [], _∷_, map, zip, List·Memᴰ, List·Memᴰ·head, List·Memᴰ·tail, List·Memᴰ·not-nil, cons-ne-nil}

@@ -1,5 +1,6 @@
--- The automaton of some rules without a word of a table: its sets are those of the rules' written-out forms, worked out when they are asked for. A table that
--- additions built agrees with it, so a checker can follow a stream by it. Assumes nothing.
+-- The automaton of some rules without a word of a table: its sets are those of the rules'
+-- written-out forms, worked out when they are asked for. A table that additions built agrees with
+-- it, so a checker can follow a stream by it. Assumes nothing.
 use mathlib.Core.Path.{_≡_, refl, sym, ap, ap₂, _∙_}
 use mathlib.Core.Bool.{Bool, true, false, cond, not, _&&_, _||_, and-true, and-false}
 use mathlib.Core.List.{List, [], _∷_}

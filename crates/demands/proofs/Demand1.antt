@@ -1,4 +1,5 @@
--- Demand 1: the theorem of each public function, and what the definitions that they cite give where the number is not 0. Assumes nothing.
+-- Demand 1: the theorem of each public function, and what the definitions that they cite give where
+-- the number is not 0. Assumes nothing.
 use mathlib.Core.Path.{_≡_, refl, ap, _∙_}
 use mathlib.Core.Bool.{Bool, true, false, cond}
 use mathlib.Core.List.{List, []}

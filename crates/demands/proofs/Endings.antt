@@ -1,5 +1,6 @@
--- Where the matches of one rule end in a stream, as the proofs about states take it: by positions numbered from any base; before a last newline; and at which
--- offsets a moment's pairs can lie. Assumes nothing.
+-- Where the matches of one rule end in a stream, as the proofs about states take it: by positions
+-- numbered from any base; before a last newline; and at which offsets a moment's pairs can lie.
+-- Assumes nothing.
 use mathlib.Core.Path.{_≡_, refl, sym, subst, subst₂, ap, _∙_}
 use mathlib.Core.Logic.{_⊎_, inl, inr, _↔_}
 use mathlib.Core.Bool.{Bool, true, false, true≢false, _&&_}
@@ -70,7 +71,8 @@ module _ (bytes : List ℕ) (r : Rule) where
 
   -- ---- the pairs before a last newline
 
-  -- after k bytes, the last of them a newline: a match ends before it if the last line ends there, and not otherwise
+  -- after k bytes, the last of them a newline: a match ends before it if the last line ends there,
+  -- and not otherwise
   abbrev pub Late : ℕ → Type 0
   Late k = (e : ℕ) × (k ≡ suc e) × (getD bytes e 0 ≡ 10) × EndsAt bytes r e (byte Newline) true × (¬ EndsAt bytes r e (byte Newline) false)
 

@@ -1,5 +1,6 @@
--- What ends a stream, on any table and any state. An accepted addition leaves words that pass the test again with one rule more, so the counts that a state carries
--- differ; an accepted closing hands back a valid state with the closed mark.
+-- What ends a stream, on any table and any state. An accepted addition leaves words that pass the
+-- test again with one rule more, so the counts that a state carries differ; an accepted closing
+-- hands back a valid state with the closed mark.
 use mathlib.Core.Path.{_≡_, refl, sym, ap, _∙_}
 use mathlib.Core.Bool.{Bool, true, false, cond}
 use mathlib.Core.List.{List}

@@ -1,5 +1,5 @@
--- The instance of demand 3: the other calls are refused by their definitions, the rest is followed by the automaton of the one accepted rule, which computes.
--- Assumes nothing.
+-- The instance of demand 3: the other calls are refused by their definitions, the rest is followed
+-- by the automaton of the one accepted rule, which computes. Assumes nothing.
 use mathlib.Core.Path.{_≡_, refl, sym, subst, subst₂, ap, _∙_}
 use mathlib.Core.List.{List, [], zip}
 use Prim.Native.Nat.{ℕ, _≤_}

@@ -1,6 +1,8 @@
--- Lists of calls on one table, of any kind of stream whose calls go by a machine: other calls change nothing, so the bytes and the reports of a list of calls with
--- an accepted closing are those of the joined bytes in one go and of the closing after them, and the state at the end is the one after those bytes, but for the
--- closed mark. By one induction each over the list. Assumes nothing.
+-- Lists of calls on one table, of any kind of stream whose calls go by a machine: other calls
+-- change nothing, so the bytes and the reports of a list of calls with an accepted closing are
+-- those of the joined bytes in one go and of the closing after them, and the state at the end is
+-- the one after those bytes, but for the closed mark. By one induction each over the list. Assumes
+-- nothing.
 use mathlib.Core.Path.{_≡_, refl, sym, subst, subst₂, ap, ap₂, _∙_}
 use mathlib.Core.Logic.{_⊎_, inl, inr}
 use mathlib.Core.Bool.{Bool, true, false, true≢false}
@@ -33,7 +35,8 @@ pub given-append : {S R : Type 0} (m : Machine S R) (out : R → Report) (s : S)
 given-append m out s a b =
     ap (map out) (two-parts m s a b .reports) ∙ map-append out (reportsBy m s a (length a)) (reportsBy m (after m s a (length a)) b (length b))
 
--- The calls of a kind on a table go by the machine m, whose reports are read by `out`; a closing reports `final`, and leaves the state as `ended` has it.
+-- The calls of a kind on a table go by the machine m, whose reports are read by `out`; a closing
+-- reports `final`, and leaves the state as `ended` has it.
 pub record Lawful {S L C R : Type 0} (k : Kind S L C) (t : List ℕ) (m : Machine S R) (out : R → Report) (final : S → List R) (ended : S → S) : Type 0 where
   -- an accepted scan, and a refused one
   pub scan-open : (s : S) (c : C) → k .scan t s c .number ≡ 0 → k .stream s .closed ≡ false
@@ -326,8 +329,9 @@ module _ {S L C R : Type 0} (k : Kind S L C) (t : List ℕ) (m : Machine S R) (o
 
 -- ---- states that fit the table
 
--- The calls keep a property of states by which a call is not refused with 1 or 18, and is accepted if the stream is open, the block within the limit, and the
--- space large enough; and an accepted scan takes a byte.
+-- The calls keep a property of states by which a call is not refused with 1 or 18, and is accepted
+-- if the stream is open, the block within the limit, and the space large enough; and an accepted
+-- scan takes a byte.
 pub record Serves {S L C : Type 0} (k : Kind S L C) (t : List ℕ) (Fits : S → Type 0) : Type 0 where
   pub scan-fit : (s : S) (c : C) → Fits s → Fit (k .scan t s c .number)
   pub close-fit : (s : S) (l : L) → Fits s → Fit (k .close t s l .number)

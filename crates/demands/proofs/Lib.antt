@@ -1,7 +1,9 @@
--- From words to meaning: Acceptance and Origins (which additions are accepted, and where a rule comes from), Carried (what additions built), TwoRuns (what one moment reports), Endings
--- (where matches end), Tracked and Whole (a stream follows the meaning), Others and Lawful (lists of calls), Bytewise, Short and Streams (streams without starts), Busy, Theorems; Ends,
--- Allowances, Demand1, Alone.
--- From words to values, for the worked cases: Agreeing, Computing and Outcomes (calls followed by an automaton that computes), Logs, Cases, Example.
+-- From words to meaning: Acceptance and Origins (which additions are accepted, and where a rule
+-- comes from), Carried (what additions built), TwoRuns (what one moment reports), Endings (where
+-- matches end), Tracked and Whole (a stream follows the meaning), Others and Lawful (lists of
+-- calls), Bytewise, Short and Streams (streams without starts), Busy, Theorems; Ends, Allowances,
+-- Demand1, Alone. From words to values, for the worked cases: Agreeing, Computing and Outcomes
+-- (calls followed by an automaton that computes), Logs, Cases, Example.
 pub mod Acceptance
 pub mod Origins
 pub mod Carried

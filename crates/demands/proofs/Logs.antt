@@ -1,5 +1,5 @@
--- A log whose reports fit the lent lists, scanned block by block on a table that additions built: each call gives what the automaton of the accepted rules
--- gives, which computes. Assumes nothing.
+-- A log whose reports fit the lent lists, scanned block by block on a table that additions built:
+-- each call gives what the automaton of the accepted rules gives, which computes. Assumes nothing.
 use mathlib.Core.Path.{_≡_, refl, sym, subst, ap, ap₂, _∙_}
 use mathlib.Core.Bool.{Bool, true, false, cond, not, true≢false, _&&_}
 use mathlib.Core.List.{List, [], _∷_, _++_, map, List·Memᴰ, List·Memᴰ·head, List·Memᴰ·tail, Memᴰ·of-map}

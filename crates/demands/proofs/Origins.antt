@@ -1,4 +1,5 @@
--- Where an accepted rule comes from: an addition of the list, which some table accepts and which gives this rule. Assumes nothing.
+-- Where an accepted rule comes from: an addition of the list, which some table accepts and which
+-- gives this rule. Assumes nothing.
 use mathlib.Core.Path.{_≡_, refl, sym, ap, _∙_}
 use mathlib.Core.Logic.{_⊎_, inl, inr}
 use mathlib.Core.Bool.{Bool, true, false, cond}

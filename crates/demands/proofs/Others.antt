@@ -1,4 +1,5 @@
--- Other calls of a list are refused, so they leave the table as it was, and it is the one of the additions alone. Assumes nothing.
+-- Other calls of a list are refused, so they leave the table as it was, and it is the one of the
+-- additions alone. Assumes nothing.
 use mathlib.Core.Path.{_≡_, refl, ap, _∙_}
 use mathlib.Core.Bool.{Bool, true, false, cond}
 use mathlib.Core.List.{List, [], _∷_, _++_}

@@ -1,5 +1,6 @@
--- What each call of a list gives, followed by an automaton alone: the table and the state fit, so of a call's number only 19, 21 and 20 are left to ask.
--- Two automata that agree give the same. The joined bytes and reports are read off what the calls gave. Assumes nothing.
+-- What each call of a list gives, followed by an automaton alone: the table and the state fit, so
+-- of a call's number only 19, 21 and 20 are left to ask. Two automata that agree give the same. The
+-- joined bytes and reports are read off what the calls gave. Assumes nothing.
 use mathlib.Core.Path.{_≡_, refl, sym, subst, ap, ap₂, _∙_}
 use mathlib.Core.Logic.{inl, inr}
 use mathlib.Core.Bool.{Bool, true, false, cond}

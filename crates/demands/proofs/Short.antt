@@ -1,5 +1,6 @@
--- Streams without starts: their calls go by the machine of one byte, and on a table in which no rule needs a start they are not refused for the state. Each is
--- read off what stream proves of one call. Assumes nothing.
+-- Streams without starts: their calls go by the machine of one byte, and on a table in which no
+-- rule needs a start they are not refused for the state. Each is read off what stream proves of one
+-- call. Assumes nothing.
 use mathlib.Core.Path.{_≡_, refl, sym, subst, ap, ap₂, _∙_}
 use mathlib.Core.Logic.{inl, inr}
 use mathlib.Core.Bool.{Bool, true, false, cond, true≢false}

@@ -1,6 +1,8 @@
--- The starts of a traced state say what the meaning says, for the rules that report them: beside each live position stands the smallest start of the ways that have
--- just taken it, beside each held one that of the ways that have, were the stream to end here, and beside each held pair its start. By one byte more. So the starts
--- that the two runs of a byte and of the closing give are those of their pairs. Assumes nothing.
+-- The starts of a traced state say what the meaning says, for the rules that report them: beside
+-- each live position stands the smallest start of the ways that have just taken it, beside each
+-- held one that of the ways that have, were the stream to end here, and beside each held pair its
+-- start. By one byte more. So the starts that the two runs of a byte and of the closing give are
+-- those of their pairs. Assumes nothing.
 use mathlib.Core.Path.{_≡_, refl, sym, subst, subst₂, ap, ap₂, _∙_, fun-ext}
 use mathlib.Core.Logic.{inl, inr, _↔_}
 use mathlib.Core.Bool.{Bool, true, false, cond, _&&_, and-true}
@@ -48,7 +50,8 @@ use Rattle.demands.proofs.TwoRuns.{Told, Turn}
 use Rattle.demands.proofs.Endings.{newline-side, Late, last-byte, late-falls}
 use Rattle.demands.proofs.Tracked.{Alive, Tracked, last-at, comes-is, tracks, byte-tested, closing-tested}
 
--- what a traced stream goes by at byte x, and at the closing: the starts of rules that report none are 0
+-- what a traced stream goes by at byte x, and at the closing: the starts of rules that report none
+-- are 0
 unfoldable pub told : Automaton → Traced → ℕ → Told
 told w z x = record {
   one = lateTest w (z .stream) x;
@@ -159,7 +162,8 @@ module _ (w : Automaton) (rule : ℕ → Rule) (from : ℕ → ℕ) (tab : ℕ �
               and-T (has (keeping w (s .live)) p) follows .1 (subst T (sym (kept-in a lt reports (s .live) p inside)) (d .0), d .1),
         )
 
-    -- so the start that the byte gives a position is the smallest, were the stream to end there or not
+    -- so the start that the byte gives a position is the smallest, were the stream to end there or
+    -- not
     step-least : (ended : Bool) (a : ℕ) (lt : a < w .rules) → T (rule a .starts) → (q : ℕ) → Reached (stream (take (suc k) bytes) ended) (formOf (rule a)) (from a) q (suc k)
         → Least (λ u. Reach (stream (take (suc k) bytes) ended) (formOf (rule a)) (from a) u q (suc k))
         (startAfter w (ended && eqb x 10) (s .last) (sideOf x) (keeping w (s .live)) (z .starts .live) (s .taken) q)

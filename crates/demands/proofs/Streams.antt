@@ -1,5 +1,6 @@
--- Demand 3 of one stream on one table whose automaton is that of some rules: the list of calls is the joined bytes in one go (Lawful), and those report the one
--- ordered list (Whole). First of any kind, then of streams without starts. Assumes nothing.
+-- Demand 3 of one stream on one table whose automaton is that of some rules: the list of calls is
+-- the joined bytes in one go (Lawful), and those report the one ordered list (Whole). First of any
+-- kind, then of streams without starts. Assumes nothing.
 use mathlib.Core.Path.{_≡_, refl, sym, ap₂, _∙_}
 use mathlib.Core.Logic.{_↔_}
 use mathlib.Core.Bool.{false}

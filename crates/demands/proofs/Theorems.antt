@@ -1,5 +1,6 @@
--- The theorems of specs/Demands.antt. What the additions built is known (`built`), so the stream that is opened on it starts at the automaton of the accepted
--- rules, and what is proved of lists of calls on such a table applies, for each kind of stream. Assumes nothing.
+-- The theorems of specs/Demands.antt. What the additions built is known (`built`), so the stream
+-- that is opened on it starts at the automaton of the accepted rules, and what is proved of lists
+-- of calls on such a table applies, for each kind of stream. Assumes nothing.
 use mathlib.Core.Path.{_≡_, refl, sym, subst, ap, _∙_}
 use mathlib.Core.Logic.{_⊎_, inl, inr}
 use mathlib.Core.Bool.{Bool, true, false}
@@ -87,7 +88,8 @@ apart c between = distinct (automaton (tableIn c)) (acceptedIn c) (built c betwe
 
 -- ---- of any kind of stream whose calls go by a machine
 
--- what is proved of a kind: its calls on any table, the stream that is opened, that its lists of calls give the ordered list, and which states fit
+-- what is proved of a kind: its calls on any table, the stream that is opened, that its lists of
+-- calls give the ordered list, and which states fit
 pub record Backed {S L C R : Type 0} (k : Kind S L C) (m : List ℕ → Machine S R) (out : R → Report) (final : List ℕ → S → List R) (ended : S → S)
     (Fits : List ℕ → S → Type 0) (write : S → List R → L → L) : Type 0 where
   pub law : (t : List ℕ) → Lawful k t (m t) out (final t) ended

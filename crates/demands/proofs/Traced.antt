@@ -1,5 +1,6 @@
--- Streams with starts: their calls go by the machine of one byte with starts, a valid state stays valid, and on any table it is not refused. So lists of calls on
--- such a stream give the ordered list, starts included. Assumes nothing.
+-- Streams with starts: their calls go by the machine of one byte with starts, a valid state stays
+-- valid, and on any table it is not refused. So lists of calls on such a stream give the ordered
+-- list, starts included. Assumes nothing.
 use mathlib.Core.Path.{_≡_, refl, sym, subst, ap, ap₂, _∙_}
 use mathlib.Core.Logic.{_⊎_, _↔_}
 use mathlib.Core.Bool.{Bool, true, false, cond}

@@ -1,7 +1,9 @@
--- The state after some bytes says what the rules' meaning says: a position is live exactly if some way has just taken it, live or held exactly if some way has,
--- were the stream to end here; a single-match rule is marked exactly if a pair of it has fallen, and a rule has a held pair exactly if a match of it ends before
--- the last byte, were the last line to end there, and not otherwise. By one byte more, with the automaton's step. So the tests of the two runs of a byte and of the
--- closing say which pairs fall. Assumes nothing.
+-- The state after some bytes says what the rules' meaning says: a position is live exactly if some
+-- way has just taken it, live or held exactly if some way has, were the stream to end here; a
+-- single-match rule is marked exactly if a pair of it has fallen, and a rule has a held pair
+-- exactly if a match of it ends before the last byte, were the last line to end there, and not
+-- otherwise. By one byte more, with the automaton's step. So the tests of the two runs of a byte
+-- and of the closing say which pairs fall. Assumes nothing.
 use mathlib.Core.Path.{_≡_, refl, sym, subst, subst₂, ap, ap₂, _∙_, fun-ext}
 use mathlib.Core.Logic.{_⊎_, inl, inr, _↔_}
 use mathlib.Core.Bool.{Bool, true, false, cond, not, _&&_, _||_}

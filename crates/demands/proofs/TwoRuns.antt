@@ -1,6 +1,8 @@
--- What one moment reports. Every byte and the closing has two runs of reports, the first at the smaller offset. If the first run's test says which pairs fall
--- there, the second's which fall at the larger offset, both with their starts, and the marks which single-match rules have had a pair before, then the two runs report
--- exactly the pairs of this moment that stay, in their order, and the marks afterwards say the same of the next moment. Assumes nothing.
+-- What one moment reports. Every byte and the closing has two runs of reports, the first at the
+-- smaller offset. If the first run's test says which pairs fall there, the second's which fall at
+-- the larger offset, both with their starts, and the marks which single-match rules have had a pair
+-- before, then the two runs report exactly the pairs of this moment that stay, in their order, and
+-- the marks afterwards say the same of the next moment. Assumes nothing.
 use mathlib.Core.Path.{_≡_, refl, sym, subst, subst₂, ap, _∙_}
 use mathlib.Core.Logic.{_⊎_, inl, inr, _↔_}
 use mathlib.Core.Bool.{Bool, true, false, cond, not, _&&_, _||_}
@@ -142,7 +144,8 @@ module _ (w : Automaton) (rising : (a b : ℕ) → a < b → b < w .rules → w 
 
 -- ---- the two runs of a moment
 
--- what a machine goes by at a moment: the tests of the two runs, the marks before them, and the starts that they give
+-- what a machine goes by at a moment: the tests of the two runs, the marks before them, and the
+-- starts that they give
 pub record Told : Type 0 where
   pub one : ℕ → Bool
   pub two : ℕ → Bool

@@ -1,5 +1,7 @@
--- A whole stream in one go: what its bytes and its closing report, with the moments and the starts, is the one ordered list. Each moment reports its own pairs that
--- stay, and every pair has its moment. It is said of any machine that goes by the right tests, marks and starts at each moment. Assumes nothing.
+-- A whole stream in one go: what its bytes and its closing report, with the moments and the starts,
+-- is the one ordered list. Each moment reports its own pairs that stay, and every pair has its
+-- moment. It is said of any machine that goes by the right tests, marks and starts at each moment.
+-- Assumes nothing.
 use mathlib.Core.Path.{_≡_, refl, sym, subst, subst₂, ap, _∙_}
 use mathlib.Core.Logic.{_⊎_, inl, inr, _↔_}
 use mathlib.Core.List.{List, [], _++_, List·Memᴰ, List·Memᴰ·not-nil, List·Memᴰ·append-cases, Memᴰ·append-left, Memᴰ·append-right}
@@ -14,7 +16,8 @@ use Rattle.regex.proofs.Enumerated.{append-rising}
 use Rattle.demands.proofs.Carried.{Carries}
 use Rattle.demands.proofs.TwoRuns.{Told, twoRuns, Turn, turn-out, turn-in, turn-rising}
 
--- all the reports of a stream with their moments: what a machine goes by at each byte, and at the closing
+-- all the reports of a stream with their moments: what a machine goes by at each byte, and at the
+-- closing
 module _ (w : Automaton) (at : ℕ → Told) where
   -- those of byte k
   abbrev pub byteEntries : ℕ → List Entry

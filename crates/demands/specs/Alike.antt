@@ -1,6 +1,6 @@
 -- Both kinds of stream give the same, call by call, on a table in which no rule needs a start: the
--- numbers, the state but for its starts, the ids and the offsets. The starts are all 0, in the state
--- and in the reports. Assumes nothing: these are definitions.
+-- numbers, the state but for its starts, the ids and the offsets. The starts are all 0, in the
+-- state and in the reports. Assumes nothing: these are definitions.
 use mathlib.Core.Path.{_≡_}
 use mathlib.Core.Bool.{false}
 use mathlib.Core.List.{List, [], _∷_, _++_}

@@ -3,7 +3,7 @@
 -- and its checks are those of an addition to an emptied table, in the same order. Assumes nothing.
 use mathlib.Core.Path.{_≡_, refl, sym, subst, ap, ap₂, _∙_}
 use mathlib.Core.Bool.{Bool, true, false, true≢false, cond, not, _&&_, and-comm}
-use mathlib.Core.List.{List, [], _∷_, _++_, map, zip, zipWith, List·Memᴰ, List·Memᴰ·head, List·Memᴰ·tail}
+use mathlib.Core.List.{List, [], _∷_, _++_, map, zip, zipWith, List·Memᴰ, List·Memᴰ·head, List·Memᴰ·tail, Memᴰ·map}
 use Prim.Native.Nat.{ℕ, _+_, _≤_, min}
 use native.Mathlib.Omega.{arith}
 use borrow.Author.Tests.{eq-eqb, eqb-true, le-ltb, ltb-false}
@@ -12,11 +12,13 @@ use lib.Dec.{eqb, ltb}
 use lib.ListN.{length, take, drop}
 use Rattle.regex.specs.Form.{write, positions}
 use Rattle.regex.specs.Rule.{Rule, Windows, no-windows}
-use Rattle.regex.specs.Ordered.{Report, Ordered}
+use Rattle.regex.specs.Ordered.{Report, Ordered, ofId}
 use Rattle.regex.specs.Count.{limit}
 use Rattle.regex.proofs.Counted.{within-limit}
+use Rattle.regex.proofs.Alone.{alone}
 use Rattle.regex.proofs.OneList.{one-answer}
 use Rattle.regex.proofs.Named.{reportBy, ordered-as}
+use Rattle.table.specs.Automaton.{automaton}
 use Rattle.nodes.specs.Nodes.{Syntax}
 use Rattle.tokens.specs.declared.Options.{Options}
 use Rattle.pattern.specs.Walk.{Read, tree, refused}
@@ -28,6 +30,7 @@ use Rattle.rules.specs.Add.{Addition, addition, answer, unknownFlag, singleStar
 use Rattle.rules.specs.Additions as additions
 use Rattle.rules.specs.Additions.{Accepted, used, nextAnswer, withNew, afterNext, acceptedAfter}
 use Rattle.rules.specs.declared.Added.{Added}
+use Rattle.rules.proofs.Encodes.{distinct}
 use Rattle.rules.proofs.Readings.{reads}
 use Rattle.rules.proofs.Additions.{built-none, answer-built}
 use Rattle.plain.specs.declared.Matched.{Matched}
@@ -35,9 +38,9 @@ use Rattle.plain.specs.Run.{Lent, lent}
 use Rattle.plain.specs.Answer.{Question, knownFlags, longestLog, leastSpace, hasSingle, hasLeftmost, verdict, ruleOf, Reports, refusal, Answered}
 use Rattle.plain.proofs.matches.Met.{met as matches-met}
 use Rattle.demands.specs.Kinds.{Kind, short, traces}
-use Rattle.demands.specs.Demands.{acceptedIn, taken, joined, Demand3}
-use Rattle.disputes.specs.Plain.{Asked, additionOf, listOf, SameList, SameRefusals, Never, OneAnswer, Plain}
-use Rattle.demands.proofs.Theorems.{short-streams, traced-streams}
+use Rattle.demands.specs.Demands.{tableIn, acceptedIn, rulesIn, taken, joined, Demand3}
+use Rattle.disputes.specs.Plain.{Asked, additionOf, listOf, SameList, SameAmong, SameRefusals, Never, OneAnswer, Plain}
+use Rattle.demands.proofs.Theorems.{built, short-streams, traced-streams}
 
 -- ---- the checks
 
@@ -246,12 +249,36 @@ same-list k demand q none ok id c only items calls closing same =
         (subst (λ (rs : List Accepted). Ordered (map additions.ruleOf rs) (taken k c items) (joined k c items)) (only ∙ only-rule q none id t e j) (demand c items calls closing)))
         (its-ordered q none id t (h .2))
 
+-- in a table of many rules
+first : Accepted → List Accepted → Accepted
+first r [] = r
+first r (x ∷ l) = x
+
+same-among : {S L C : Type 0} (k : Kind S L C) → Demand3 k → SameAmong k
+unfolding Answered Judged first
+same-among k demand q none ok c r there alone-is items calls closing same =
+    go (verdict (q .question) (spaceOf (q .old))) refl (judged (q .question) (spaceOf (q .old))) (q .answered)
+  where
+    go : (x : Read) → verdict (q .question) (spaceOf (q .old)) ≡ x → Judged (q .question) (spaceOf (q .old)) x → Answered (q .question) (q .old) (q .new) (q .answer) x
+        → ofId (r .id) (joined k c items) ≡ listOf (r .id) q
+    go (refused number place) e j h =
+        let zero : number ≡ 0 = sym (ap (λ (x : Matched). x .number) (h .0)) ∙ ok in
+        absurd (true≢false (sym (mem-among number barred (List·Memᴰ·head zero)) ∙ j))
+    go (tree t) e j h =
+        let is : ruleIn q none (r .id) t ≡ r = ap (first r) (sym (only-rule q none (r .id) t e j) ∙ alone-is) in
+        one-answer (additions.ruleOf r ∷ []) (q .question .log) (ofId (r .id) (joined k c items)) (listOf (r .id) q)
+        (subst (λ (l : List ℕ). Ordered (additions.ruleOf r ∷ []) l (ofId (r .id) (joined k c items))) same
+        (alone (rulesIn c) (distinct (automaton (tableIn c)) (acceptedIn c) (built c (calls .0) .encodes)) (additions.ruleOf r) (Memᴰ·map additions.ruleOf there) (taken k c items) (joined k c items) (demand c items calls closing)))
+        (subst (λ (x : Accepted). Ordered (additions.ruleOf x ∷ []) (q .question .log) (listOf (r .id) q)) is (its-ordered q none (r .id) t (h .2)))
+
 pub plain : Plain
 plain = record {
   answers = matches-met;
   one-answer = one-each;
   by-short = same-list short (short-streams .demand3);
   by-traces = same-list traces (traced-streams .demand3);
+  among-short = same-among short (short-streams .demand3);
+  among-traces = same-among traces (traced-streams .demand3);
   refusals = refusals;
   never = never;
 }

@@ -9,9 +9,9 @@ use lib.ListN.{length, take}
 use Rattle.table.specs.Layout.{tableWords}
 use Rattle.table.specs.Table.{emptied}
 use Rattle.regex.specs.Rule.{no-windows}
-use Rattle.regex.specs.Ordered.{Report}
+use Rattle.regex.specs.Ordered.{Report, ofId}
 use Rattle.rules.specs.Add.{Addition, addition, answer, addAnswer}
-use Rattle.rules.specs.Additions.{acceptedAfter}
+use Rattle.rules.specs.Additions.{Accepted, acceptedAfter}
 use Rattle.plain.specs.declared.Matched.{Matched}
 use Rattle.plain.specs.Run.{Lent}
 use Rattle.plain.specs.Answer.{Question, longestLog, leastSpace, Matches}
@@ -58,6 +58,16 @@ SameList {S} {L} {C} k =
     → (items : List (Item L C)) → Calls k c items → closes k c items
     → taken k c items ≡ q .question .log → joined k c items ≡ listOf id q
 
+-- The same in a table of many rules: its reports, kept to the id of that rule, are the matcher's
+-- list.
+abbrev pub SameAmong : {S L C : Type 0} → Kind S L C → Type 0
+SameAmong {S} {L} {C} k =
+    (q : Asked) → Unwindowed q → q .answer .number ≡ 0
+    → (c : Setting) (r : Accepted) → List·Memᴰ r (acceptedIn c)
+    → acceptedAfter [] (additionOf (r .id) q ∷ []) ≡ r ∷ []
+    → (items : List (Item L C)) → Calls k c items → closes k c items
+    → taken k c items ≡ q .question .log → ofId (r .id) (joined k c items) ≡ listOf (r .id) q
+
 -- "it refuses with the same numbers and places": for "a whole log of at most 1,024 bytes" and
 -- report space not "under 1,024" its number and place are those of the addition to an emptied table
 abbrev pub SameRefusals : Type 0
@@ -84,5 +94,7 @@ pub record Plain : Type 2 where
   pub one-answer : OneAnswer
   pub by-short : SameList short
   pub by-traces : SameList traces
+  pub among-short : SameAmong short
+  pub among-traces : SameAmong traces
   pub refusals : SameRefusals
   pub never : Never

@@ -1,5 +1,6 @@
--- An entry of the table has bit i where its byte is of kind number i. By going down the list of kinds: `& 1` asks for the lowest bit, and
--- `& 2 ^ (i + 1)` asks of a number what `& 2 ^ i` asks of its half.
+-- An entry of the table has bit i where its byte is of kind number i. By going down the list of
+-- kinds: `& 1` asks for the lowest bit, and `& 2 ^ (i + 1)` asks of a number what `& 2 ^ i` asks of
+-- its half.
 use mathlib.Core.Path.{_≡_, refl, sym, ap, ap₂, _∙_}
 use mathlib.Core.Bool.{Bool, true, false, not}
 use mathlib.Core.List.{List, [], _∷_}

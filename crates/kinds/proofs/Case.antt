@@ -1,4 +1,5 @@
--- The other case of a byte, by what its kinds say: each arm of the definition, and the ranges that keep the arms within a byte.
+-- The other case of a byte, by what its kinds say: each arm of the definition, and the ranges that
+-- keep the arms within a byte.
 use mathlib.Core.Path.{_≡_}
 use mathlib.Core.Bool.{true, false, and-eq-true-iff}
 use Prim.Native.Nat.{ℕ, _+_, _-_, _≤_}

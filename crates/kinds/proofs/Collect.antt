@@ -1,4 +1,5 @@
--- A set that a loop collects byte by byte: where the loop has come to n, the set has the members of f below n.
+-- A set that a loop collects byte by byte: where the loop has come to n, the set has the members of
+-- f below n.
 use mathlib.Core.Path.{_≡_, refl, sym, ap, _∙_}
 use mathlib.Core.Bool.{Bool, true, false, _&&_, _||_, and-true, and-false, or-false, and-or-distrib-left}
 use mathlib.Core.List.{List}

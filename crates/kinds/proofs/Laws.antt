@@ -1,5 +1,5 @@
--- What callers need of the types' sets and of case. What is said of every byte is one test, computed over all 256 of them; what is said of sets
--- follows member by member.
+-- What callers need of the types' sets and of case. What is said of every byte is one test,
+-- computed over all 256 of them; what is said of sets follows member by member.
 use mathlib.Core.Path.{_≡_, refl, sym, ap, ap₂, _∙_}
 use mathlib.Core.Bool.{Bool, true, false, not, _||_, or-self, or-comm}
 use mathlib.Core.List.{List}

@@ -1,4 +1,5 @@
--- The side of a byte, by the digit of the word bytes: the words of digits are computed from the rule, and their digit at a byte is what the rule says of it.
+-- The side of a byte, by the digit of the word bytes: the words of digits are computed from the
+-- rule, and their digit at a byte is what the rule says of it.
 use mathlib.Core.Path.{_≡_, refl, sym, ap, _∙_}
 use mathlib.Core.Bool.{Bool, true, false, cond}
 use Prim.Native.Nat.{ℕ, _+_, _*_, _/_, _%_, _<_, _≤_}

@@ -1,5 +1,6 @@
--- A buffer in which lines are placed: it keeps its length, its lines lie within it, and where there is room for every line of some reports, none is left out.
--- By one step for a line, then by induction on the number of reports.
+-- A buffer in which lines are placed: it keeps its length, its lines lie within it, and where there
+-- is room for every line of some reports, none is left out. By one step for a line, then by
+-- induction on the number of reports.
 use mathlib.Core.Path.{_≡_, refl, sym, ap, subst, _∙_}
 use mathlib.Core.List.{List, [], _++_, append-nil, append-assoc}
 use Prim.Native.Nat.{ℕ, zero, suc, _+_, _*_, _≤_}

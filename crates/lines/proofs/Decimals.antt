@@ -1,5 +1,6 @@
--- Numbers in decimal. Each law is proved for the digits of n within any room, by induction on the room: n / 10 has one digit less than n, and its digits
--- stand before n's last one. Room beyond the digits changes nothing, so that 20 places serve every 64-bit number.
+-- Numbers in decimal. Each law is proved for the digits of n within any room, by induction on the
+-- room: n / 10 has one digit less than n, and its digits stand before n's last one. Room beyond the
+-- digits changes nothing, so that 20 places serve every 64-bit number.
 use mathlib.Core.Path.{_≡_, refl, sym, ap, _∙_}
 use mathlib.Core.List.{List, [], _∷_, _++_, map, map-append, append-assoc}
 use Prim.Native.Nat.{ℕ, zero, suc, _+_, _-_, _*_, _/_, _%_, _^_, _≤_, _<_}

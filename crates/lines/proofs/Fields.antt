@@ -1,5 +1,6 @@
--- A number of a rule line is a field where it has four properties, each of which the code tests; the capped number and the end of the digits show them.
--- A field's space is a byte of the line, so that what is after it lies within the line.
+-- A number of a rule line is a field where it has four properties, each of which the code tests;
+-- the capped number and the end of the digits show them. A field's space is a byte of the line, so
+-- that what is after it lies within the line.
 use mathlib.Core.Path.{_≡_, refl, sym, ap, _∙_}
 use mathlib.Core.Bool.{Bool, true, false, cond, and-eq-true-iff}
 use mathlib.Core.List.{List}

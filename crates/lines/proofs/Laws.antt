@@ -1,5 +1,5 @@
--- What callers need of lines, rule lines, numbers in decimal and the bytes to ask for: where a line and a pattern lie, and that a number is written as
--- people write it.
+-- What callers need of lines, rule lines, numbers in decimal and the bytes to ask for: where a line
+-- and a pattern lie, and that a number is written as people write it.
 use mathlib.Core.Path.{_≡_, refl}
 use mathlib.Core.Bool.{Bool, true, false, cond, _&&_, and-eq-true-iff}
 use mathlib.Core.List.{List, [], _∷_, map}

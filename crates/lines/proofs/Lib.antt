@@ -1,4 +1,5 @@
--- `Laws` and `Buffers` have what callers cite; the others have what the proofs of the functions share.
+-- `Laws` and `Buffers` have what callers cite; the others have what the proofs of the functions
+-- share.
 pub mod Suffixes
 pub mod Reading
 pub mod Fields

@@ -1,5 +1,6 @@
--- A line placed in a buffer. The bytes that a copy has placed are a `paste`; a copy of all of them is the line placed. A text is a buffer of 80 bytes that
--- ends in zeros, so that what is placed after it stands in place of zeros.
+-- A line placed in a buffer. The bytes that a copy has placed are a `paste`; a copy of all of them
+-- is the line placed. A text is a buffer of 80 bytes that ends in zeros, so that what is placed
+-- after it stands in place of zeros.
 use mathlib.Core.Path.{_≡_, ap, _∙_}
 use mathlib.Core.List.{List, [], _++_}
 use Prim.Native.Nat.{ℕ, zero, suc, _+_, _-_, _≤_, _<_}

@@ -1,5 +1,6 @@
--- Reading digits at a place, in a number that stops growing at 2^32. A number that has reached the cap stays at least there whatever digits follow, so
--- that the capped number is the cap of the whole one.
+-- Reading digits at a place, in a number that stops growing at 2^32. A number that has reached the
+-- cap stays at least there whatever digits follow, so that the capped number is the cap of the
+-- whole one.
 use mathlib.Core.Path.{_≡_, refl, ap, _∙_}
 use mathlib.Core.Bool.{Bool, true, false, _&&_, and-eq-true-iff}
 use mathlib.Core.List.{List, [], _∷_}

@@ -1,5 +1,6 @@
--- The suffix of a list at a place is what a loop over a slice has still to read. A definition that goes by a list's first element takes one step there
--- at each turn of the loop; so it is with the end of a line.
+-- The suffix of a list at a place is what a loop over a slice has still to read. A definition that
+-- goes by a list's first element takes one step there at each turn of the loop; so it is with the
+-- end of a line.
 use mathlib.Core.Path.{_≡_}
 use mathlib.Core.List.{List, _∷_}
 use Prim.Native.Nat.{ℕ, _+_, _≤_, _<_}
@@ -14,7 +15,8 @@ use Rattle.lines.specs.Lines.{lineLength, lineEnd}
 pub drop-next : (s : List ℕ) (at : ℕ) → at < length s → drop at s ≡ getD s at 0 ∷ drop (at + 1) s
 drop-next s at h = rw (add-one, drop-cons s at 0)
 
--- where the line read from `at` on ends: here past the text's end and at a newline, and else where the line from the next place does
+-- where the line read from `at` on ends: here past the text's end and at a newline, and else where
+-- the line from the next place does
 module _ (s : List ℕ) (at : ℕ) where
   pub end-past : length s ≤ at → at ≡ lineEnd s at
   unfolding lineLength

@@ -43,7 +43,8 @@ fieldSize v = length (digitsOf v) + 1
 abbrev pub malformed : RuleLine
 malformed = record { good = false; id = 0; flags = 0; pattern = 0 }
 
--- "per line a decimal id, a space, decimal flags, a space, the pattern"; "anything else, an empty line included, is malformed"
+-- "per line a decimal id, a space, decimal flags, a space, the pattern"; "anything else, an empty
+-- line included, is malformed"
 unfoldable pub ruleLineOf : List ℕ → RuleLine
 ruleLineOf v =
     let rest : List ℕ = drop (fieldSize v) v in

@@ -1,4 +1,5 @@
--- Numbers in decimal, and how many bytes may still be asked for. Assumes nothing: these are definitions.
+-- Numbers in decimal, and how many bytes may still be asked for. Assumes nothing: these are
+-- definitions.
 use mathlib.Core.Bool.{cond}
 use mathlib.Core.List.{List, [], _∷_, _++_}
 use Prim.Native.Nat.{ℕ, zero, suc, _+_, _-_, _/_, _%_, min}
@@ -20,6 +21,7 @@ decimalOf n = decimalWithin 20 n
 unfoldable pub written : ℕ → Decimal
 written n = record { digits = decimalOf n ++ replicate (20 - length (decimalOf n)) 0; size = length (decimalOf n) }
 
--- "Input past the stream limit isn't read": with so many bytes taken and so much room, how many may be asked for
+-- "Input past the stream limit isn't read": with so many bytes taken and so much room, how many may
+-- be asked for
 unfoldable pub askable : (taken room : ℕ) → ℕ
 askable taken room = min room (streamLimit - taken)

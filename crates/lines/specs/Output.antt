@@ -1,4 +1,5 @@
--- The lines that the program writes, and how lines are placed in a buffer. Assumes nothing: these are definitions.
+-- The lines that the program writes, and how lines are placed in a buffer. Assumes nothing: these
+-- are definitions.
 use mathlib.Core.Bool.{cond}
 use mathlib.Core.List.{List, [], _∷_, _++_}
 use Prim.Native.Nat.{ℕ, zero, suc, _+_}
@@ -30,7 +31,8 @@ end- = 101 ∷ 110 ∷ 100 ∷ space
 unfoldable pub reportLine : (id offset : ℕ) → List ℕ
 reportLine id offset = decimalOf id ++ space ++ decimalOf offset ++ newline
 
--- the line of a refused rule, "rule 2 refused 10 at 2": the rule's line in the file, the refusal's number, its place
+-- the line of a refused rule, "rule 2 refused 10 at 2": the rule's line in the file, the refusal's
+-- number, its place
 unfoldable pub refusedLine : (line number place : ℕ) → List ℕ
 refusedLine line number place = rule- ++ decimalOf line ++ -refused- ++ decimalOf number ++ -at- ++ decimalOf place ++ newline
 

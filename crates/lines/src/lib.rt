@@ -1,6 +1,7 @@
-// The program's text: cutting the rules file into lines, reading a rule line, writing a number, how many bytes may still be asked for, and the lines of
-// output. All are plain functions over bytes, so that the program itself stays thin. Nothing is required of a caller: specs/Lines.antt, specs/Numbers.antt
-// and specs/Output.antt say what each function gives.
+// The program's text: cutting the rules file into lines, reading a rule line, writing a number, how
+// many bytes may still be asked for, and the lines of output. All are plain functions over bytes,
+// so that the program itself stays thin. Nothing is required of a caller: specs/Lines.antt,
+// specs/Numbers.antt and specs/Output.antt say what each function gives.
 mod output;
 
 pub use output::put_end;
@@ -55,7 +56,8 @@ struct Digits {
     end: usize,
 }
 
-// A number of a rule line with the space after it: its value, and where the rest of the line begins; or malformed, and zeros.
+// A number of a rule line with the space after it: its value, and where the rest of the line
+// begins; or malformed, and zeros.
 struct Field {
     good: bool,
     value: u32,

@@ -1,5 +1,6 @@
-// The lines that the program writes. A line is first put together as a text of its own, then placed whole in a lent buffer, or not at all where it does not
-// fit. specs/Output.antt says what each line is and where it stands.
+// The lines that the program writes. A line is first put together as a text of its own, then placed
+// whole in a lent buffer, or not at all where it does not fit. specs/Output.antt says what each
+// line is and where it stands.
 use crate::decimal_of;
 ghost use mathlib.Core.Path.{_≡_};
 ghost use mathlib.Core.List.{[]};

@@ -1,6 +1,6 @@
--- A form by its part. What takes no byte only lets pass or not at a gap, so it narrows a door; one or
--- more of a form opens the way round. Each law says so for one way to put forms together. Assumes
--- nothing.
+-- A form by its part. What takes no byte only lets pass or not at a gap, so it narrows a door; one
+-- or more of a form opens the way round. Each law says so for one way to put forms together.
+-- Assumes nothing.
 use mathlib.Core.Path.{_≡_, refl, sym, ap, ap₂, _∙_}
 use mathlib.Core.Logic.{_⊎_, inl, inr}
 use mathlib.Core.Bool.{Bool, true, false, cond, _&&_, _||_}

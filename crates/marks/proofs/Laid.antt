@@ -1,5 +1,5 @@
--- Parts in rows: a part depends on its own rows alone, and a new word in its last row gives it other
--- doors. Assumes nothing.
+-- Parts in rows: a part depends on its own rows alone, and a new word in its last row gives it
+-- other doors. Assumes nothing.
 use mathlib.Core.Path.{_≡_, refl, sym, ap, ap₂, _∙_}
 use mathlib.Core.Logic.{_⊎_, inl, inr}
 use mathlib.Core.List.{List, [], _∷_}

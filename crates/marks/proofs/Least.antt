@@ -1,4 +1,5 @@
--- The least number of a kind, as a mark says it: `none` where no number below `none` is of the kind. Assumes nothing.
+-- The least number of a kind, as a mark says it: `none` where no number below `none` is of the
+-- kind. Assumes nothing.
 use mathlib.Core.Path.{_≡_, refl, sym, subst}
 use mathlib.Core.Logic.{_⊎_, inl, inr, _↔_}
 use mathlib.Core.Bool.{Bool, true, false}

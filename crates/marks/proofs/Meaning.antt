@@ -1,7 +1,9 @@
--- The marks are least starts. E s m says that a start s may come to the form at gap m; the marks hold at gap k if each position has the least s with a way from some
--- such m that has just taken the byte before k there. Then what can end, what is behind the form and what the next byte leaves are least starts too. By the form's
--- structure: what comes to the second part of a sequence is what the first lets pass, what comes to a repeated part is what comes through any number of copies.
--- Assumes nothing.
+-- The marks are least starts. E s m says that a start s may come to the form at gap m; the marks
+-- hold at gap k if each position has the least s with a way from some such m that has just taken
+-- the byte before k there. Then what can end, what is behind the form and what the next byte leaves
+-- are least starts too. By the form's structure: what comes to the second part of a sequence is
+-- what the first lets pass, what comes to a repeated part is what comes through any number of
+-- copies. Assumes nothing.
 use mathlib.Core.Path.{_≡_, refl, sym, subst, ap, _∙_}
 use mathlib.Core.Logic.{_⊎_, inl, inr, _↔_}
 use mathlib.Core.Bool.{Bool}

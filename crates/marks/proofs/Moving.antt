@@ -1,4 +1,5 @@
--- A move writes the marks of the form's own positions and no others, and what can end in a form is read from those alone. Assumes nothing.
+-- A move writes the marks of the form's own positions and no others, and what can end in a form is
+-- read from those alone. Assumes nothing.
 use mathlib.Core.Path.{_≡_, refl, sym, ap, ap₂, _∙_}
 use mathlib.Core.Bool.{Bool}
 use mathlib.Core.List.{List}

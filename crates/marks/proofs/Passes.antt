@@ -1,6 +1,6 @@
--- A gap over the rows. Going up, each row's value is that of the part that stands there; going down,
--- what is left to do makes the same of the present marks as all of it makes of the first ones. Assumes
--- nothing.
+-- A gap over the rows. Going up, each row's value is that of the part that stands there; going
+-- down, what is left to do makes the same of the present marks as all of it makes of the first
+-- ones. Assumes nothing.
 use mathlib.Core.Path.{_≡_, refl, sym, subst, ap, ap₂, _∙_}
 use mathlib.Core.Logic.{_⊎_, inl, inr}
 use mathlib.Core.Bool.{Bool, true, false, cond}

@@ -1,5 +1,5 @@
--- The gaps of a log by number: at each of them the assertions hold that the meaning says. Finite tests,
--- computed.
+-- The gaps of a log by number: at each of them the assertions hold that the meaning says. Finite
+-- tests, computed.
 use mathlib.Core.Path.{_≡_, refl, sym, subst, ap, ap₂, _∙_, fun-ext}
 use mathlib.Core.Bool.{Bool, true, false, true≢false, cond, _&&_}
 use mathlib.Core.List.{List, [], _∷_}

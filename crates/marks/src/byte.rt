@@ -64,8 +64,8 @@ fn pass(
     Ends { late, own }
 }
 
-// Takes the byte at offset k; `last` says that the log is known to end with it. Nothing ends at a byte
-// that the log has not.
+// Takes the byte at offset k; `last` says that the log is known to end with it. Nothing ends at a
+// byte that the log has not.
 pub fn take_byte(
     a: &[u64],
     root: usize,

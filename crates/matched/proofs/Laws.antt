@@ -1,5 +1,6 @@
--- The tests of the code are those of the definitions, whose sums cannot wrap there; what passes one lies inside; and what is shown, where the two lists are pieces of
--- one stream, are its bytes. Assumes nothing.
+-- The tests of the code are those of the definitions, whose sums cannot wrap there; what passes one
+-- lies inside; and what is shown, where the two lists are pieces of one stream, are its bytes.
+-- Assumes nothing.
 use mathlib.Core.Path.{_≡_, refl, sym, ap, ap₂, _∙_}
 use mathlib.Core.Bool.{Bool, true, false, true≢false, cond, _&&_, and-eq-true-iff}
 use mathlib.Core.List.{List, [], _++_, append-assoc}
@@ -175,7 +176,8 @@ part-of front list rest i n h =
     ap (take n) (drop-append-add front (list ++ rest) i ∙ drop-append-le i list rest (omega arith))
     ∙ take-append-le n (drop i list) rest (omega (arith, length-drop i list))
 
--- Where tail and block stand one after the other in a stream, what is shown are its bytes from `start` up to `end`.
+-- Where tail and block stand one after the other in a stream, what is shown are its bytes from
+-- `start` up to `end`.
 pub shows : (front tail block rest : List ℕ) (start end : ℕ) → matchedNumber tail block (length front + length tail) start end ≡ 0
     → matchedBytes tail block (length front + length tail) start end ≡ take (end - start) (drop start (front ++ (tail ++ (block ++ rest))))
 unfolding matchedBytes matchedNumber

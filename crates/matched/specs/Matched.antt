@@ -1,4 +1,5 @@
--- The matched bytes, from a kept tail or from the block right after it. Offsets are those of the stream. Assumes nothing: these are definitions.
+-- The matched bytes, from a kept tail or from the block right after it. Offsets are those of the
+-- stream. Assumes nothing: these are definitions.
 use mathlib.Core.Bool.{Bool, true, false, cond, _&&_}
 use mathlib.Core.List.{List, []}
 use Prim.Native.Nat.{ℕ, _+_, _-_}
@@ -14,8 +15,9 @@ inBlock block offset start end = leb offset start && (leb start end && leb end (
 unfoldable pub inTail : List ℕ → (offset start end : ℕ) → Bool
 inTail tail offset start end = leb offset (start + length tail) && (leb start end && leb end offset)
 
--- "show the matched bytes from the tail or from the block, whichever holds them all, the block first if both could (only an empty range at the block's offset)";
--- "On a refusal the first none of the block are shown"
+-- "show the matched bytes from the tail or from the block, whichever holds them all, the block
+-- first if both could (only an empty range at the block's offset)"; "On a refusal the first none of
+-- the block are shown"
 unfoldable pub matchedBytes : (tail block : List ℕ) → (offset start end : ℕ) → List ℕ
 matchedBytes tail block offset start end =
     cond (inBlock block offset start end) (take (end - start) (drop (start - offset) block))
@@ -33,6 +35,7 @@ matchedPart tail block offset start end =
 unfoldable pub partBytes : (tail block : List ℕ) → Part → List ℕ
 partBytes tail block p = take (p .size) (drop (p .place) (cond (p .tail) tail block))
 
--- "refused with 25 if neither does, or if start is above end"; "a second question on the same inputs gives the number"
+-- "refused with 25 if neither does, or if start is above end"; "a second question on the same
+-- inputs gives the number"
 unfoldable pub matchedNumber : (tail block : List ℕ) → (offset start end : ℕ) → ℕ
 matchedNumber tail block offset start end = cond (inBlock block offset start end) 0 (cond (inTail tail offset start end) 0 25)

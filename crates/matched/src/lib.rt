@@ -1,9 +1,12 @@
-// The bytes of a match, from what a caller has kept of the stream: a tail, and the block right after it, which begins at `offset` of the stream. A match from
-// `start` up to `end` is shown from the block or from the tail, whichever holds it whole, the block first if both could. Nothing is required of a caller.
+// The bytes of a match, from what a caller has kept of the stream: a tail, and the block right
+// after it, which begins at `offset` of the stream. A match from `start` up to `end` is shown from
+// the block or from the tail, whichever holds it whole, the block first if both could. Nothing is
+// required of a caller.
 ghost use mathlib.Core.Path.{_≡_};
 ghost use Rattle.matched.specs.Matched.{inBlock, inTail, matchedBytes, matchedPart, matchedNumber};
 
-// Whether the block holds the offsets from `start` up to `end`. The difference is taken where it cannot wrap.
+// Whether the block holds the offsets from `start` up to `end`. The difference is taken where it
+// cannot wrap.
 fn in_block(block: &[u8], offset: u64, start: u64, end: u64) -> bool
     ensures { λ r. ⌜ r ≡ inBlock (now (block .entry)) offset start end ⌝ }
 {

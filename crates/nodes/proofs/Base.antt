@@ -1,4 +1,5 @@
--- Small laws that the other files share: tests taken apart, and one run of stores after another. Assumes nothing.
+-- Small laws that the other files share: tests taken apart, and one run of stores after another.
+-- Assumes nothing.
 use mathlib.Core.Path.{_≡_, refl, ap, _∙_}
 use mathlib.Core.Bool.{Bool, true, false}
 use mathlib.Core.List.{List, [], _∷_, _++_}

@@ -1,5 +1,6 @@
--- A node by its word: what kind of node the word names, its tree and its written-out form by its children; the numbers of the assertions; and the form of a
--- repeat by its first copy. For the crates that walk the nodes. Assumes nothing.
+-- A node by its word: what kind of node the word names, its tree and its written-out form by its
+-- children; the numbers of the assertions; and the form of a repeat by its first copy. For the
+-- crates that walk the nodes. Assumes nothing.
 use mathlib.Core.Path.{_≡_, refl, sym, ap, _∙_}
 use mathlib.Core.Bool.{Bool, true, false, true≢false, _&&_, _||_}
 use mathlib.Core.List.{List}

@@ -1,5 +1,6 @@
--- Trees in words. A tidy tree that is laid out from word n on is read back by `treeAt` from its last word: by induction on the tree, the words in
--- front of a node's own word being those of its children. And the tree of any node, in any words, by its children. Assumes nothing.
+-- Trees in words. A tidy tree that is laid out from word n on is read back by `treeAt` from its
+-- last word: by induction on the tree, the words in front of a node's own word being those of its
+-- children. And the tree of any node, in any words, by its children. Assumes nothing.
 use mathlib.Core.Path.{_≡_, refl, sym, ap, fun-ext, _∙_}
 use mathlib.Core.Bool.{Bool, true, false, cond}
 use mathlib.Core.List.{List, [], _∷_, _++_, append-assoc}

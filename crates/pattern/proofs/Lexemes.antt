@@ -1,5 +1,7 @@
--- What the token at a place can be, from its definition: only a bad token or a quantifier has a fault, a quantifier's numbers are small, `|` and `)` are
--- told by their bytes. Each branch of the definition is looked at once; how many bytes a token takes is known of the tokens already. Assumes nothing.
+-- What the token at a place can be, from its definition: only a bad token or a quantifier has a
+-- fault, a quantifier's numbers are small, `|` and `)` are told by their bytes. Each branch of the
+-- definition is looked at once; how many bytes a token takes is known of the tokens already.
+-- Assumes nothing.
 use mathlib.Core.Path.{_≡_, refl}
 use mathlib.Core.Bool.{Bool, true, false, cond, _&&_, and-eq-true-iff}
 use mathlib.Core.List.{List, [], _∷_}

@@ -1,5 +1,6 @@
--- The lowest number among the rows of the table that hold of one token. The lower of two such numbers is that of the rows of both, since each row's number
--- is below those after it. Assumes nothing.
+-- The lowest number among the rows of the table that hold of one token. The lower of two such
+-- numbers is that of the rows of both, since each row's number is below those after it. Assumes
+-- nothing.
 use mathlib.Core.Path.{_≡_, refl, ap, _∙_}
 use mathlib.Core.Bool.{Bool, true, false, cond, _||_, or-false}
 use Prim.Native.Nat.{ℕ, _≤_, _<_, min}
@@ -9,7 +10,8 @@ use lib.Dec.{eqb}
 use Rattle.atoms.specs.Fault.{lower}
 use Rattle.pattern.proofs.Base.{either, split, true-not-false}
 
--- the rows 6, 7, 9, 10, 11, 14 and 23, which are those of a token: the number of the first that holds, 0 where none does
+-- the rows 6, 7, 9, 10, 11, 14 and 23, which are those of a token: the number of the first that
+-- holds, 0 where none does
 abbrev pub lowest : (r6 r7 r9 r10 r11 r14 r23 : Bool) → ℕ
 lowest r6 r7 r9 r10 r11 r14 r23 = cond r6 6 (cond r7 7 (cond r9 9 (cond r10 10 (cond r11 11 (cond r14 14 (cond r23 23 0))))))
 

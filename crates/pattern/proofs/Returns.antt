@@ -1,5 +1,5 @@
--- What each return of a reader owes, over plain lists and numbers: one law for each return. The walk's steps are chained; the words are one run of
--- stores after another. Assumes nothing.
+-- What each return of a reader owes, over plain lists and numbers: one law for each return. The
+-- walk's steps are chained; the words are one run of stores after another. Assumes nothing.
 use mathlib.Core.Path.{_≡_, refl, sym, ap, subst, _∙_}
 use mathlib.Core.Bool.{false}
 use mathlib.Core.List.{List, [], _∷_, _++_}

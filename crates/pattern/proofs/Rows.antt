@@ -1,5 +1,6 @@
--- A token's fault is the lowest row of the table that holds of its bytes: the definition's tests and the rows' are brought side by side, test by test, and
--- what is left is about truth values. Assumes nothing.
+-- A token's fault is the lowest row of the table that holds of its bytes: the definition's tests
+-- and the rows' are brought side by side, test by test, and what is left is about truth values.
+-- Assumes nothing.
 use mathlib.Core.Path.{_≡_, refl, sym, ap, ap₂, subst, _∙_}
 use mathlib.Core.Bool.{Bool, true, false, cond, not, _&&_, _||_, or-true, or-false, and-false, and-eq-true-iff}
 use mathlib.Core.List.{List, [], _∷_}

@@ -1,5 +1,5 @@
--- The sets of items: four 64-bit words each, since every operation makes its result by `setOf`; and where a class ends, by induction on the bytes
--- after its bracket. Assumes nothing.
+-- The sets of items: four 64-bit words each, since every operation makes its result by `setOf`; and
+-- where a class ends, by induction on the bytes after its bracket. Assumes nothing.
 use mathlib.Core.Path.{_≡_}
 use mathlib.Core.Bool.{Bool, true, false, cond, not, _&&_, _||_, and-eq-true-iff}
 use mathlib.Core.List.{List, [], _∷_}

@@ -1,5 +1,6 @@
--- Where tokens and members stand: the walk from the pattern's start is the walk from there, a class is what its members from there on make of it, no place
--- is past the pattern's end, and a token that opens or closes something has no fault of its own. Assumes nothing.
+-- Where tokens and members stand: the walk from the pattern's start is the walk from there, a class
+-- is what its members from there on make of it, no place is past the pattern's end, and a token
+-- that opens or closes something has no fault of its own. Assumes nothing.
 use mathlib.Core.Path.{_≡_, refl, sym, ap, _∙_}
 use mathlib.Core.Bool.{Bool, true, false, cond, not, _&&_, and-eq-true-iff}
 use mathlib.Core.List.{List, [], _∷_}

@@ -1,4 +1,5 @@
--- The walk, one token at a time: what stands at a place decides where the walk goes on, and with which state. Assumes nothing.
+-- The walk, one token at a time: what stands at a place decides where the walk goes on, and with
+-- which state. Assumes nothing.
 use mathlib.Core.Path.{_≡_, refl, sym, ap, _∙_}
 use mathlib.Core.Bool.{Bool, true, false, cond}
 use mathlib.Core.List.{List, [], _∷_}
@@ -168,7 +169,8 @@ module _ (at : ℕ) (v : List ℕ) (st : List Frame) (al it : List Syntax) (o : 
   free-next (Repeat n j) x y e d h = absurd h
   free-next Bad x y e d h = both Bad x y e (rw (lower-none f, ne-eqb f 0 (d .right)))
 
-  -- two walks that differ in what a quantifier would repeat, after one token: they differ no more, or in that alone, past a note
+  -- two walks that differ in what a quantifier would repeat, after one token: they differ no more,
+  -- or in that alone, past a note
   data Alike (x y : Target) : Next → Next → Type 0 where
     same : (n : Next) → Alike x y n n
     past-note : (j : ℕ) (i : Options) → Alike x y (go j (state st al it i x)) (go j (state st al it i y))

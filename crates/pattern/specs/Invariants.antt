@@ -51,7 +51,8 @@ abbrev pub ended : ℕ → Syntax → List Frame → Read
 ended e t [] = tree t
 ended e t (f ∷ fs) = refused 12 e
 
--- the walk where the innermost group's inside, t, has ended at place e: at a `)` or at the pattern's end
+-- the walk where the innermost group's inside, t, has ended at place e: at a `)` or at the
+-- pattern's end
 unfoldable pub groupEnds : List ℕ → List Frame → Syntax → ℕ → Read
 groupEnds s st t e = cond (ltb e (length s)) (follow s e (closing e st t)) (ended e t st)
 
@@ -78,7 +79,8 @@ got at n root o = record { fault = 0; at = at; n = n; root = root; options = o }
 unfoldable pub onward : Got → Read → Read
 onward g w = cond (eqb (g .fault) 0) w (refused (g .fault) (g .at))
 
--- an accepted answer: the words b are a with t's nodes from n on; the place is `lo` or later, and the words left are enough for what is unread
+-- an accepted answer: the words b are a with t's nodes from n on; the place is `lo` or later, and
+-- the words left are enough for what is unread
 pub record Read-up (s a b : List ℕ) (lo n room : ℕ) (t : Syntax) (g : Got) : Type 0 where
   pub words : b ≡ sets a n (lay n t)
   pub tidy : Tidy t
@@ -93,7 +95,8 @@ pub record Said (P : Syntax → Type 0) (s a b : List ℕ) (lo n room : ℕ) (g 
   pub says : P (treeAt b (g .root))
   pub reads : g .fault ≡ 0 → Read-up s a b lo n room (treeAt b (g .root)) g
 
--- For every stack and all finished branches and items below: the walk from here is the walk from where the answer says, with the tree it names.
+-- For every stack and all finished branches and items below: the walk from here is the walk from
+-- where the answer says, with the tree it names.
 abbrev pub SaysBranches : List ℕ → ℕ → ℕ → Options → Got → Syntax → Type 0
 SaysBranches s at d o g t =
     (st : List Frame) (al : List Syntax) → length st ≡ d → from s at (state st al [] o nothing) ≡ onward g (groupEnds s st (chosen al t) (g .at))

@@ -1,9 +1,13 @@
--- Why a pattern is refused: the rows of the table "When the watcher says no" from 6 to 16, and 23, each as a predicate of its own: on the bytes of one token
--- and what stands before it, on the finished tree, or on the pattern's end. Taken over from the reading: where the tokens and members stand, each after one
--- that is not refused (`Stands`, `InClass`), whether a quote is open there and what its marks are, what stands before a token (the open groups, and what a
--- quantifier would repeat), which token it is, how many bytes a token, a member or a range takes, what a member stands for, which hyphen joins two members,
--- which braces are a quantifier, the table of names, digits and their value, and the finished tree. Said anew: everything that makes one of them faulty.
--- The theorems are `decided` and `accepted` of proofs/Accepted.antt. Assumes nothing: these are definitions.
+-- Why a pattern is refused: the rows of the table "When the watcher says no" from 6 to 16, and 23,
+-- each as a predicate of its own: on the bytes of one token and what stands before it, on the
+-- finished tree, or on the pattern's end. Taken over from the reading: where the tokens and members
+-- stand, each after one that is not refused (`Stands`, `InClass`), whether a quote is open there
+-- and what its marks are, what stands before a token (the open groups, and what a quantifier would
+-- repeat), which token it is, how many bytes a token, a member or a range takes, what a member
+-- stands for, which hyphen joins two members, which braces are a quantifier, the table of names,
+-- digits and their value, and the finished tree. Said anew: everything that makes one of them
+-- faulty. The theorems are `decided` and `accepted` of proofs/Accepted.antt. Assumes nothing: these
+-- are definitions.
 use mathlib.Core.Path.{_≡_}
 use mathlib.Core.Bool.{Bool, true, false, cond, not, _&&_, _||_}
 use mathlib.Core.List.{List, [], _∷_}
@@ -47,7 +51,8 @@ beyond base v = bare (drop (length (number base v)) (bare v))
 abbrev pub braced : ℕ → List ℕ → Bool
 braced base v = some (number base v) && eqb (getD (beyond base v) 0 0) 125
 
--- 6: "`\` at the end; `\c` not followed by a byte 32 to 126; `\x{` or `\o` without digits and brace"
+-- 6: "`\` at the end; `\c` not followed by a byte 32 to 126; `\x{` or `\o` without digits and
+-- brace"
 unfoldable pub cutShort : List ℕ → Bool
 cutShort v =
     not (some v)
@@ -63,8 +68,8 @@ unfoldable pub tooLarge : List ℕ → Bool
 tooLarge v =
     eqb (getD v 1 0) 123 && ((eqb (getD v 0 0) 120 && over255 16 (drop 2 v)) || (eqb (getD v 0 0) 111 && over255 8 (drop 2 v)))
 
--- the letters and digits that mean something after a `\`: x o 0 c, a e f n r t, d w s h v and their capitals, by where they stand b or N A Z z b B, and the
--- marks of quotes, Q E
+-- the letters and digits that mean something after a `\`: x o 0 c, a e f n r t, d w s h v and their
+-- capitals, by where they stand b or N A Z z b B, and the marks of quotes, Q E
 abbrev pub letters : Bool → List ℕ
 letters true = 120 ∷ 111 ∷ 48 ∷ 99 ∷ 97 ∷ 101 ∷ 102 ∷ 110 ∷ 114 ∷ 116 ∷ 100 ∷ 119 ∷ 115 ∷ 104 ∷ 118 ∷ 68 ∷ 87 ∷ 83 ∷ 72 ∷ 86 ∷ 98 ∷ 81 ∷ 69 ∷ []
 letters false = 120 ∷ 111 ∷ 48 ∷ 99 ∷ 97 ∷ 101 ∷ 102 ∷ 110 ∷ 114 ∷ 116 ∷ 100 ∷ 119 ∷ 115 ∷ 104 ∷ 118 ∷ 68 ∷ 87 ∷ 83 ∷ 72 ∷ 86 ∷ 78 ∷ 65 ∷ 90 ∷ 122 ∷ 98 ∷ 66 ∷ 81 ∷ 69 ∷ []
@@ -73,8 +78,8 @@ abbrev pub among : ℕ → List ℕ → Bool
 among c [] = false
 among c (k ∷ ks) = cond (eqb c k) true (among c ks)
 
--- 14: "any other letter or digit escape"; "`\N`, `\A`, `\z` in a class"; "add `\Z` with the same meaning (14 in a class)"; it lets through "`\b` and, outside
--- a class, `\B`"
+-- 14: "any other letter or digit escape"; "`\N`, `\A`, `\z` in a class"; "add `\Z` with the same
+-- meaning (14 in a class)"; it lets through "`\b` and, outside a class, `\B`"
 unfoldable pub unknown : (inside : Bool) → List ℕ → Bool
 unknown inside v = isAlnum (getD v 0 0) && not (among (getD v 0 0) (letters inside))
 
@@ -105,15 +110,17 @@ openComment v = eqb (getD v 0 0) 63 && (eqb (getD v 1 0) 35 && not (among 41 (dr
 
 -- ---- quantifiers: v is the pattern from the quantifier on
 
--- the number in decimal digits at the front, 0 where there are none; and what follows it and one byte more
+-- the number in decimal digits at the front, 0 where there are none; and what follows it and one
+-- byte more
 abbrev pub decimalOf : List ℕ → ℕ
 decimalOf v = valueFrom 10 0 (number 10 v)
 
 unfoldable pub second : List ℕ → List ℕ
 second v = drop 1 (beyond 10 v)
 
--- 11: "lower repeat above upper, or a number above 65,535": v is the pattern after the brace of `{n}`, `{n,}`, `{n,m}` or `{,m}`. `{n}` has no second
--- number and `{n,}` no upper one; the lower one of `{,m}` is 0.
+-- 11: "lower repeat above upper, or a number above 65,535": v is the pattern after the brace of
+-- `{n}`, `{n,}`, `{n,m}` or `{,m}`. `{n}` has no second number and `{n,}` no upper one; the lower
+-- one of `{,m}` is 0.
 unfoldable pub badBounds : List ℕ → Bool
 badBounds v =
     ltb 65535 (decimalOf v)
@@ -121,7 +128,8 @@ badBounds v =
 
 -- ---- one token outside a class: v is the pattern from its first byte on
 
--- In a quote a byte stands for itself, so that no row on the bytes of a token or of a member holds there, but for 23.
+-- In a quote a byte stands for itself, so that no row on the bytes of a token or of a member holds
+-- there, but for 23.
 abbrev pub plainly : (quoted row : Bool) → Bool
 plainly quoted row = not quoted && row
 
@@ -144,9 +152,11 @@ row14 v =
     (eqb (getD v 0 0) 92 && unknown false (drop 1 v))
     || ((eqb (getD v 0 0) 40 && badOpening (drop 1 v)) || (formOf v .is && eqb (getD v (formOf v .size) 0) 43))
 
--- 10: "quantifier at the start of a pattern, group or branch, or after an assertion, an option setting or another quantifier". What stands before is the
--- walk's: `nothing` at a start, after an assertion and after a setting, `repeated` after a quantifier, `single` after an item or a group. "A quantifier after a
--- comment applies to the item before, and is 10 if that has one already, a `?` or `+` too."
+-- 10: "quantifier at the start of a pattern, group or branch, or after an assertion, an option
+-- setting or another quantifier". What stands before is the walk's: `nothing` at a start, after an
+-- assertion and after a setting, `repeated` after a quantifier, `single` after an item or a group.
+-- "A quantifier after a comment applies to the item before, and is 10 if that has one already, a
+-- `?` or `+` too."
 abbrev pub row10 : Target → Token → Bool
 row10 t Finish = false
 row10 t Bar = false
@@ -182,7 +192,8 @@ unfoldable pub isNamed : List Name → List ℕ → Bool
 isNamed [] v = false
 isNamed (n ∷ ns) v = beginsWith (n .text) v || isNamed ns v
 
--- "An unknown name, `[.` and `[=` stay 14": v is the pattern after a `[` in a class. A name stands after `[:`, or after `[:^`, and `:]` after it.
+-- "An unknown name, `[.` and `[=` stay 14": v is the pattern after a `[` in a class. A name stands
+-- after `[:`, or after `[:^`, and `:]` after it.
 unfoldable pub unknownName : List ℕ → Bool
 unknownName v =
     cond (eqb (getD v 0 0) 58) (not (isNamed names (cond (eqb (getD v 1 0) 94) (drop 2 v) (drop 1 v)))) (eqb (getD v 0 0) 46 || eqb (getD v 0 0) 61)
@@ -195,7 +206,8 @@ memberRow14 v = (eqb (getD v 0 0) 92 && unknown true (drop 1 v)) || (eqb (getD v
 abbrev pub faultyEnd : Bool → List ℕ → Bool
 faultyEnd quoted v = plainly quoted (row6 v) || (plainly quoted (row7 v) || plainly quoted (memberRow14 v))
 
--- 9: "range falling, or with a type such as `\d` at either end"; "a known name at either end of a range is 9"
+-- 9: "range falling, or with a type such as `\d` at either end"; "a known name at either end of a
+-- range is 9"
 unfoldable pub row9 : (caseless quoted : Bool) → List ℕ → Bool
 row9 caseless quoted v =
     let j : Joint = jointAt caseless quoted v in
@@ -211,14 +223,15 @@ unfoldable pub rawAmong : List ℕ → Bool
 rawAmong [] = false
 rawAmong (b ∷ v) = ltb b 32 || (eqb b 127 || rawAmong v)
 
--- 23: "A raw byte below 32, or 127, anywhere in a pattern, quotes and comments too, is refused with 23, as a fault of the token it lies in". The token or
--- member takes the first `size` bytes of v.
+-- 23: "A raw byte below 32, or 127, anywhere in a pattern, quotes and comments too, is refused with
+-- 23, as a fault of the token it lies in". The token or member takes the first `size` bytes of v.
 unfoldable pub row23 : (size : ℕ) → List ℕ → Bool
 row23 size v = rawAmong (take size v)
 
 -- ---- where tokens stand
 
--- A token, or the pattern's end, stands at place `at` with m before it: the first at 0, and each next one after a token that is not refused.
+-- A token, or the pattern's end, stands at place `at` with m before it: the first at 0, and each
+-- next one after a token that is not refused.
 pub data Stands (s : List ℕ) (o : Options) : ℕ → State → Type 0 where
   begins : Stands s o 0 (begin o)
   onward : (at k : ℕ) (m n : State) → Stands s o at m → at < length s → next at (drop at s) m ≡ go k n → Stands s o (at + 1 + k) n
@@ -237,8 +250,8 @@ markAt s at quoted = isMark quoted (getD s at 0) (getD s (at + 1) 0)
 abbrev pub closes : List ℕ → ℕ → (isFirst quoted : Bool) → Bool
 closes s at isFirst quoted = eqb (getD s at 0) 93 && not (isFirst || quoted)
 
--- A member, a range, a quote's mark, the closing bracket or the pattern's end stands at a place of the class whose `[` is before `from`, the first member
--- or a later one, in a quote or not.
+-- A member, a range, a quote's mark, the closing bracket or the pattern's end stands at a place of
+-- the class whose `[` is before `from`, the first member or a later one, in a quote or not.
 pub data InClass (s : List ℕ) (caseless : Bool) (from : ℕ) : (at : ℕ) (isFirst quoted : Bool) → Type 0 where
   begins : InClass s caseless from (membersAt s from) true false
   mark : (at : ℕ) (isFirst quoted : Bool)
@@ -283,7 +296,8 @@ pub record Finished (s : List ℕ) (o : Options) (t : Syntax) : Type 0 where
   pub tree : t ≡ groupOf state
 
 -- ---- the reasons, each with its number and place: "The place is the token's first byte. Faults known only at the end (8, 12 for an open group, 15, 16, ..)
--- have the pattern's length as place"; "An open comment is 12 at the pattern's length", so it comes after 23, a fault of the comment's own
+-- have the pattern's length as place"; "An open comment is 12 at the pattern's length", so it comes
+-- after 23, a fault of the comment's own
 
 pub data Reason (s : List ℕ) (o : Options) : (number place : ℕ) → Type 0 where
   escape-cut : (at : ℕ) (m : State) → Stands s o at m → T (plainly (m .options .quoted) (row6 (drop at s))) → Reason s o 6 at
@@ -312,8 +326,9 @@ pub data Reason (s : List ℕ) (o : Options) : (number place : ℕ) → Type 0 w
   -- "over 256 positions in this rule"
   too-many : (t : Syntax) → Finished s o t → limit < positions (write t) → Reason s o 16 (length s)
 
--- "the first faulty token decides, the lower number first within it": a reason with this number and place is there, and every reason that is there has this
--- place and no lower number. (Tokens stand up to the first faulty one, so no other place has a reason.)
+-- "the first faulty token decides, the lower number first within it": a reason with this number and
+-- place is there, and every reason that is there has this place and no lower number. (Tokens stand
+-- up to the first faulty one, so no other place has a reason.)
 pub record Decides (s : List ℕ) (o : Options) (number place : ℕ) : Type 0 where
   pub reason : Reason s o number place
   pub lowest : (n p : ℕ) → Reason s o n p → (number ≤ n) × (p ≡ place)

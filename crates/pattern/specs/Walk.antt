@@ -1,5 +1,5 @@
--- Reading a pattern: a walk over its bytes from left to right with the open groups on a stack, where "the first faulty token decides". Assumes nothing:
--- these are definitions.
+-- Reading a pattern: a walk over its bytes from left to right with the open groups on a stack,
+-- where "the first faulty token decides". Assumes nothing: these are definitions.
 use mathlib.Core.Bool.{cond}
 use mathlib.Core.List.{List, [], _∷_}
 use Prim.Native.Nat.{ℕ, zero, suc, pred, _+_, _-_}
@@ -18,20 +18,23 @@ use Rattle.regex.specs.Tree.{empty, item, assertion, then, or, repeat}
 use Rattle.regex.specs.Rule.{Assertion, at-start, at-last-line, at-end, line-start, line-end, word-edge, no-word-edge}
 use Rattle.nodes.specs.Nodes.{Syntax, extraOf}
 
--- what a quantifier at this place would repeat: nothing, an item or a group, or one that has a quantifier already
+-- what a quantifier at this place would repeat: nothing, an item or a group, or one that has a
+-- quantifier already
 pub data Target : Type 0 where
   nothing : Target
   single : Target
   repeated : Target
 
--- an open group: the finished branches and the items before it in the group around it, last first, and the options there
+-- an open group: the finished branches and the items before it in the group around it, last first,
+-- and the options there
 pub record Frame : Type 0 where
   pub branches : List Syntax
   pub items : List Syntax
   pub options : Options
 
--- where the walk is: the open groups, innermost first; of the innermost one the finished branches and the items of the branch that is being read, last
--- first; the options; what a quantifier would repeat
+-- where the walk is: the open groups, innermost first; of the innermost one the finished branches
+-- and the items of the branch that is being read, last first; the options; what a quantifier would
+-- repeat
 pub record State : Type 0 where
   pub stack : List Frame
   pub branches : List Syntax
@@ -71,19 +74,23 @@ with-item m x t = record { stack = m .stack; branches = m .branches; items = x �
 abbrev pub with-options : State → Options → State
 with-options m o = record { stack = m .stack; branches = m .branches; items = m .items; options = o; target = nothing }
 
--- "A quantifier after a comment applies to the item before, and is 10 if that has one already": what it would repeat stays
+-- "A quantifier after a comment applies to the item before, and is 10 if that has one already":
+-- what it would repeat stays
 abbrev pub noted : State → Options → State
 noted m o = record { stack = m .stack; branches = m .branches; items = m .items; options = o; target = m .target }
 
--- What `^` and `$` stand for where the options are these: "`^` and `\A` hold at offset 0 only", "PCRE also lets `$` hold just before a newline that is the last
--- byte. Mend it"; and "Add flag 4 and option `m`: `^` also holds after a byte 10 that isn't the stream's last byte, `$` also before any byte 10."
+-- What `^` and `$` stand for where the options are these: "`^` and `\A` hold at offset 0 only",
+-- "PCRE also lets `$` hold just before a newline that is the last byte. Mend it"; and "Add flag 4
+-- and option `m`: `^` also holds after a byte 10 that isn't the stream's last byte, `$` also before
+-- any byte 10."
 abbrev pub caret : Options → Assertion
 caret o = cond (o .lines) line-start at-start
 
 abbrev pub dollar : Options → Assertion
 dollar o = cond (o .lines) line-end at-last-line
 
--- An item takes a quantifier, an assertion does not. "Add `\Z` with the same meaning" as `$` without `m`, "`\z` stays"; "Add `\b` and `\B`".
+-- An item takes a quantifier, an assertion does not. "Add `\Z` with the same meaning" as `$`
+-- without `m`, "`\z` stays"; "Add `\b` and `\B`".
 unfoldable pub one : State → Atom → State
 one m (Byte b) = with-item m (item (itemSet (m .options) (Byte b))) single
 one m (OfKind k) = with-item m (item (itemSet (m .options) (OfKind k))) single
@@ -107,14 +114,15 @@ unfoldable pub repeating : List Syntax → ℕ → ℕ → List Syntax
 repeating [] least extra = []
 repeating (x ∷ xs) least extra = repeat x least (extraOf extra) ∷ xs
 
--- 10: "quantifier at the start of a pattern, group or branch, or after an assertion, an option setting or another quantifier"
+-- 10: "quantifier at the start of a pattern, group or branch, or after an assertion, an option
+-- setting or another quantifier"
 abbrev pub targetFault : Target → ℕ
 targetFault nothing = 10
 targetFault single = 0
 targetFault repeated = 10
 
--- 12: "`)` without one". Else the group becomes an item of the one around it, whose options hold again: "A setting lasts to the end of its group, later
--- branches included."
+-- 12: "`)` without one". Else the group becomes an item of the one around it, whose options hold
+-- again: "A setting lasts to the end of its group, later branches included."
 unfoldable pub closing : ℕ → List Frame → Syntax → Next
 closing at [] t = stop 12 at
 closing at (f ∷ fs) t = go 0 (record { stack = fs; branches = f .branches; items = t ∷ f .items; options = f .options; target = single })
@@ -125,8 +133,9 @@ opening at skip m o =
     cond (leb deepest (length (m .stack))) (stop 13 at)
     (go skip (record { stack = record { branches = m .branches; items = m .items; options = m .options } ∷ m .stack; branches = []; items = []; options = o; target = nothing }))
 
--- What a token without a fault does, at place `at` with v from there on. A `|` keeps the options: "later branches included". "An open comment is 12 at the
--- pattern's length". `Finish` is no token of a byte and `Bad` has a fault, so these two do not occur.
+-- What a token without a fault does, at place `at` with v from there on. A `|` keeps the options:
+-- "later branches included". "An open comment is 12 at the pattern's length". `Finish` is no token
+-- of a byte and `Bad` has a fault, so these two do not occur.
 unfoldable pub act : (at : ℕ) → List ℕ → State → (size : ℕ) → Token → Next
 act at v m size Finish = go 0 m
 act at v m size Bar = go 0 (record { stack = m .stack; branches = branchOf m ∷ m .branches; items = []; options = m .options; target = nothing })
@@ -157,7 +166,8 @@ context m Unclosed = 0
 context m (Repeat least extra) = targetFault (m .target)
 context m Bad = 0
 
--- the token at the front of v, at place `at`: "the lower number first within it", "The place is the token's first byte"
+-- the token at the front of v, at place `at`: "the lower number first within it", "The place is the
+-- token's first byte"
 unfoldable pub next : (at : ℕ) → List ℕ → State → Next
 next at v m =
     let l : Lexeme = lexemeOf (m .options) v in

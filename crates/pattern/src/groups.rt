@@ -1,5 +1,5 @@
-// Groups are read by recursion: branches, a sequence and an item call one another with the unread length falling. Each writes the nodes of what it has
-// read, children first.
+// Groups are read by recursion: branches, a sequence and an item call one another with the unread
+// length falling. Each writes the nodes of what it has read, children first.
 use crate::NODE_WORDS;
 use crate::items::Got;
 use crate::items::class;
@@ -51,7 +51,8 @@ pub(super) fn branches(
     join(a, OR, g, h)
 }
 
-// One branch, up to its end: items one after the other, option settings, comments and quotes' marks.
+// One branch, up to its end: items one after the other, option settings, comments and quotes'
+// marks.
 fn sequence(
     s: &[u8],
     at: usize,

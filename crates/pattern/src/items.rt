@@ -1,4 +1,5 @@
-// What the readers share: their answer, nodes without children and with two, and an item with the quantifier that may follow it.
+// What the readers share: their answer, nodes without children and with two, and an item with the
+// quantifier that may follow it.
 use crate::NODE_WORDS;
 use crate::writer::put;
 use crate::writer::put_item;
@@ -25,8 +26,9 @@ ghost use Rattle.nodes.specs.Nodes.{word, codeOf};
 ghost use Rattle.pattern.specs.Walk.{caret, dollar};
 ghost use Rattle.pattern.specs.Invariants.{lent, Room, refusal, got, faultOf, SaidOne, SaidClass, SaidQuantified};
 
-// What a reader hands back. Fault 0: it has read up to place `at`, the words below n are written, root is the tree's node, and `options` hold from
-// there on. Else the refusal's number, and its place in `at`.
+// What a reader hands back. Fault 0: it has read up to place `at`, the words below n are written,
+// root is the tree's node, and `options` hold from there on. Else the refusal's number, and its
+// place in `at`.
 pub struct Got {
     pub fault: u32,
     pub at: usize,
@@ -92,7 +94,8 @@ pub(super) fn join(a: &mut [u64; NODE_WORDS], op: u64, g: Got, h: Got) -> Got
     }
 }
 
-// The quantifier that may follow an item or a group, which was read up to `at`: comments and quotes' marks may stand between them.
+// The quantifier that may follow an item or a group, which was read up to `at`: comments and
+// quotes' marks may stand between them.
 pub(super) fn quantified(
     s: &[u8],
     at: usize,
@@ -152,7 +155,8 @@ fn dollar(options: Options) -> u64
     AT_LAST_LINE
 }
 
-// What one atom stands for, which was read up to `at`: an assertion, or an item with the quantifier that may follow it.
+// What one atom stands for, which was read up to `at`: an assertion, or an item with the quantifier
+// that may follow it.
 pub(super) fn single(
     s: &[u8],
     at: usize,

@@ -1,4 +1,5 @@
-// Writing nodes into words, as specs/Nodes.antt says: a node is one word, an item's set stands in the four words before it.
+// Writing nodes into words, as specs/Nodes.antt says: a node is one word, an item's set stands in
+// the four words before it.
 use crate::NODE_WORDS;
 use nodes::layout::ITEM;
 ghost use mathlib.Core.Path.{_≡_};

@@ -1,5 +1,5 @@
--- What is reported, with its moments, is the one ordered list of the rule alone: moments in turn, each
--- with its one or two offsets; and of a single-match rule the first. Assumes nothing.
+-- What is reported, with its moments, is the one ordered list of the rule alone: moments in turn,
+-- each with its one or two offsets; and of a single-match rule the first. Assumes nothing.
 use mathlib.Core.Path.{_≡_, refl, sym, subst, subst₂, ap, ap₂, _∙_}
 use mathlib.Core.Logic.{_⊎_, inl, inr, _↔_}
 use mathlib.Core.Bool.{Bool, true, false, cond, not, _&&_}

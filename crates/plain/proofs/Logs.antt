@@ -1,7 +1,7 @@
--- What the starts of a log mean: the windows let the least one through exactly if the pair is settled
--- at its moment, and then it is the report's start. The marks over the definitions of specs/Run.antt
--- are those of the text that is seen at a moment, since what is known at the gaps before is the same.
--- Assumes nothing.
+-- What the starts of a log mean: the windows let the least one through exactly if the pair is
+-- settled at its moment, and then it is the report's start. The marks over the definitions of
+-- specs/Run.antt are those of the text that is seen at a moment, since what is known at the gaps
+-- before is the same. Assumes nothing.
 use mathlib.Core.Path.{_≡_, refl, sym, subst, subst₂, ap, ap₂, _∙_, fun-ext}
 use mathlib.Core.Logic.{_⊎_, inl, inr, _↔_}
 use mathlib.Core.Bool.{Bool, true, false, cond, _&&_}

@@ -1,5 +1,5 @@
--- The lent lists, report by report: what is written next joins what stands at their front, and there
--- is room for it.
+-- The lent lists, report by report: what is written next joins what stands at their front, and
+-- there is room for it.
 use mathlib.Core.Path.{_≡_, refl, sym, ap, ap₂, _∙_}
 use mathlib.Core.Bool.{Bool, true, false, true≢false, cond, not, _&&_}
 use mathlib.Core.List.{List, [], _∷_, _++_, append-nil, map}

@@ -1,5 +1,6 @@
--- The ordered list, kept to the id of one rule, is the ordered list of that rule alone: whether an entry is owed looks at one rule, ids tell the rules apart,
--- and a rising list stays so when entries are left out. Assumes nothing.
+-- The ordered list, kept to the id of one rule, is the ordered list of that rule alone: whether an
+-- entry is owed looks at one rule, ids tell the rules apart, and a rising list stays so when
+-- entries are left out. Assumes nothing.
 use mathlib.Core.Path.{_≡_, refl, sym, subst, ap, _∙_}
 use mathlib.Core.Logic.{_⊎_, inl, inr, _↔_}
 use mathlib.Core.Bool.{Bool, true, false, true≢false, cond}

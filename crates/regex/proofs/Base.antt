@@ -1,5 +1,7 @@
--- The worlds of the product's assertions. A gap with a byte after it is known on both sides and stays as it was, except that once the stream has ended `$` looks
--- at a last newline; so the gap before the last byte has its own world, and so has the end. What is known only grows. Assumes nothing.
+-- The worlds of the product's assertions. A gap with a byte after it is known on both sides and
+-- stays as it was, except that once the stream has ended `$` looks at a last newline; so the gap
+-- before the last byte has its own world, and so has the end. What is known only grows. Assumes
+-- nothing.
 use mathlib.Core.Path.{_≡_, refl, sym, subst, ap, ap₂, _∙_, fun-ext}
 use mathlib.Core.Logic.{_⊎_, _↔_}
 use mathlib.Core.Bool.{Bool, true, false, _&&_}

@@ -1,4 +1,5 @@
--- There is exactly one busy figure: whether a position is live is decided, and a count is one number. Assumes nothing.
+-- There is exactly one busy figure: whether a position is live is decided, and a count is one
+-- number. Assumes nothing.
 use mathlib.Core.Path.{_≡_, refl, sym, ap, _∙_}
 use mathlib.Core.Bool.{false}
 use mathlib.Core.List.{List, [], _∷_}

@@ -1,4 +1,5 @@
--- The Bool functions of the automaton are its relations; and the list of items gives each position its byte set. Assumes nothing.
+-- The Bool functions of the automaton are its relations; and the list of items gives each position
+-- its byte set. Assumes nothing.
 use mathlib.Core.Path.{_≡_, refl, sym, subst, subst₂, ap, _∙_}
 use mathlib.Core.Logic.{_⊎_, _↔_}
 use mathlib.Core.Bool.{Bool, _&&_, _||_}

@@ -1,5 +1,6 @@
--- The count worked out from the tree is the number of positions of the written-out form; the saturating one is it, capped; and the test
--- for matching no bytes says what it is to say. A repeat is counted by its copies. Assumes nothing.
+-- The count worked out from the tree is the number of positions of the written-out form; the
+-- saturating one is it, capped; and the test for matching no bytes says what it is to say. A repeat
+-- is counted by its copies. Assumes nothing.
 use mathlib.Core.Path.{_≡_, refl, sym, ap, ap₂, subst, _∙_}
 use mathlib.Core.Logic.{_↔_}
 use mathlib.Core.Bool.{Bool, true, _&&_, _||_, and-true, and-self, and-self-left}
@@ -82,8 +83,8 @@ pub above-limit : {C A : Type 0} (x : Tree C A) → (limit < saturating x) ↔ (
 unfolding capped
 above-limit x = (λ h. omega (arith, saturated x), λ h. omega (arith, saturated x))
 
--- Matching nothing in a world: a repeat of at least one copy does where its inside does, however many copies it has, and a repeat that
--- may take none always does.
+-- Matching nothing in a world: a repeat of at least one copy does where its inside does, however
+-- many copies it has, and a repeat that may take none always does.
 module _ {C A : Type 0} (w : A → Bool) where
   copies-null : (n : ℕ) (f g : Form C A) → null w (copies (suc n) f g) ≡ (null w f && null w g)
   unfolding null copies

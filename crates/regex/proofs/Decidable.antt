@@ -1,5 +1,5 @@
--- Whether a form matches a span, and whether a way reaches a position, is decided: every part of a match lies within its span, so all
--- there is to try is finite. Assumes nothing.
+-- Whether a form matches a span, and whether a way reaches a position, is decided: every part of a
+-- match lies within its span, so all there is to try is finite. Assumes nothing.
 use mathlib.Core.Path.{_≡_, refl, subst}
 use mathlib.Core.Logic.{_⊎_, inl, inr}
 use Prim.Native.Nat.{ℕ, zero, suc, _+_, _≤_, _<_}

@@ -1,5 +1,7 @@
--- A decided property of entries whose moment, offset, id and start are bounded, with one start at most for each of the others, has a rising list of exactly the
--- entries that have it: ids within an offset, offsets within a moment, moments in turn, each level by one lemma over a key. Assumes nothing.
+-- A decided property of entries whose moment, offset, id and start are bounded, with one start at
+-- most for each of the others, has a rising list of exactly the entries that have it: ids within an
+-- offset, offsets within a moment, moments in turn, each level by one lemma over a key. Assumes
+-- nothing.
 use mathlib.Core.Path.{_≡_, refl, sym, subst, ap, _∙_}
 use mathlib.Core.Logic.{_⊎_, inl, inr, _↔_}
 use mathlib.Core.List.{List, [], _∷_, _++_, List·Memᴰ, List·Memᴰ·head, List·Memᴰ·tail, List·Memᴰ·cases-cons, List·Memᴰ·not-nil, List·Memᴰ·append-cases, Memᴰ·append-left, Memᴰ·append-right}

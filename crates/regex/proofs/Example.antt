@@ -1,9 +1,13 @@
--- Worked cases. A busy figure: after the bytes `ba`, the rule `ba{0,2}` has one live position. Its optional copies are nested, so the second `a`
--- can only follow the first; side by side either could have taken the byte, and two would be live. Pairs that wait: of `a(?:\b|\B)` and `ba\b|a\B` one way or
--- the other holds whatever comes, and yet neither is known to hold before the next byte or the end. And `^` in line mode after a newline, the last byte or not.
--- Starts: `a|ba\z` on `ba` gives offset 2 with start 1, since that match alone is settled with the byte; `a|ba\b` with smallest length 2 gives it on `ba-` one byte
--- late, with start 0; `(?:xa$)?\n$` on `xa` and a newline gives offset 3 with start 0, a way through a position that no live one leads to; `$\n` on
--- `x` and a newline gives 2 with start 1, at the closing. And a window that a single-match rule's first match lies before. Assumes nothing.
+-- Worked cases. A busy figure: after the bytes `ba`, the rule `ba{0,2}` has one live position. Its
+-- optional copies are nested, so the second `a` can only follow the first; side by side either
+-- could have taken the byte, and two would be live. Pairs that wait: of `a(?:\b|\B)` and `ba\b|a\B`
+-- one way or the other holds whatever comes, and yet neither is known to hold before the next byte
+-- or the end. And `^` in line mode after a newline, the last byte or not. Starts: `a|ba\z` on `ba`
+-- gives offset 2 with start 1, since that match alone is settled with the byte; `a|ba\b` with
+-- smallest length 2 gives it on `ba-` one byte late, with start 0; `(?:xa$)?\n$` on `xa` and a
+-- newline gives offset 3 with start 0, a way through a position that no live one leads to; `$\n` on
+-- `x` and a newline gives 2 with start 1, at the closing. And a window that a single-match rule's
+-- first match lies before. Assumes nothing.
 use mathlib.Core.Path.{_≡_, refl, subst}
 use mathlib.Core.Logic.{inl, inr}
 use mathlib.Core.Bool.{true, false}
@@ -251,7 +255,8 @@ starts-held = (
   },
 )
 
--- `a`, single match, smallest end offset 2: on `aa` it reports 2, since the match that ends at 1 does not count
+-- `a`, single match, smallest end offset 2: on `aa` it reports 2, since the match that ends at 1
+-- does not count
 abbrev windowed : Rule
 windowed = record { id = 1; single = true; starts = false; windows = record { smallest-end = 2; largest-end = 2; smallest-length = 0 }; tree = item a }
 

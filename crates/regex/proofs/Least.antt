@@ -1,6 +1,8 @@
--- The smallest number that has a property: there is one if the property is decided and some number has it, and one only; and of the starts of a match the smallest
--- one is the longest, so the windows of a rule let some start through exactly if they let that one through. And the smallest of a number and of those that have a
--- property, which is what a machine keeps: it is put together part by part. Assumes nothing.
+-- The smallest number that has a property: there is one if the property is decided and some number
+-- has it, and one only; and of the starts of a match the smallest one is the longest, so the
+-- windows of a rule let some start through exactly if they let that one through. And the smallest
+-- of a number and of those that have a property, which is what a machine keeps: it is put together
+-- part by part. Assumes nothing.
 use mathlib.Core.Path.{_≡_, sym, subst}
 use mathlib.Core.Bool.{Bool, true}
 use mathlib.Core.Logic.{_⊎_, inl, inr, _↔_}
@@ -54,7 +56,8 @@ least-same P Q iff s = (
   λ h. record { there = iff s .1 (h .there); least = λ u p. h .least u (iff u .0 p) },
 )
 
--- A start further left is longer: the windows let some start through exactly if they let the smallest one through.
+-- A start further left is longer: the windows let some start through exactly if they let the
+-- smallest one through.
 pub least-longest : (P : ℕ → Type 0) (w : Windows) (e s : ℕ) → Least P s → ((u : ℕ) × P u × InWindows w u e) ↔ InWindows w s e
 least-longest P w e s h = (
   λ x. (x .2 .0, x .2 .1, omega (arith, x .2 .2, h .least (x .0) (x .1))),

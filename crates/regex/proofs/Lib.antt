@@ -1,4 +1,5 @@
--- The theorems about the definitions of specs/, for the crates that build on them. Relations has definitions that these theorems alone need.
+-- The theorems about the definitions of specs/, for the crates that build on them. Relations has
+-- definitions that these theorems alone need.
 pub mod Logic
 pub mod Example
 pub mod Relations

@@ -1,5 +1,6 @@
--- A match from s to e looks at the bytes before e and the assertions up to e; a way that has just taken the byte before k looks at the
--- bytes and the assertions before k. So what a longer text adds changes neither. Assumes nothing.
+-- A match from s to e looks at the bytes before e and the assertions up to e; a way that has just
+-- taken the byte before k looks at the bytes and the assertions before k. So what a longer text
+-- adds changes neither. Assumes nothing.
 use mathlib.Core.Logic.{inl, inr}
 use Prim.Native.Nat.{ℕ, _≤_, _<_}
 use native.Mathlib.Omega.{arith}

@@ -1,4 +1,5 @@
--- Small laws of logic for the other files: Bool tests as propositions, equivalences, and what is decidable. Assumes nothing.
+-- Small laws of logic for the other files: Bool tests as propositions, equivalences, and what is
+-- decidable. Assumes nothing.
 use mathlib.Core.Path.{_≡_, refl, sym, subst}
 use mathlib.Core.Logic.{_⊎_, inl, inr, _↔_}
 use mathlib.Core.Bool.{Bool, true, false, _&&_, _||_}

@@ -1,6 +1,8 @@
--- When a pair falls: with its last byte if some way of it is known to hold before the next byte is; else with the next byte, which tells all but whether the last
--- line ends there; else at the closing, where the last offset can, and the one before a last newline. What is settled at a moment is read off the positions
--- reached by the pair's own bytes, and the world that follows them. Assumes nothing.
+-- When a pair falls: with its last byte if some way of it is known to hold before the next byte is;
+-- else with the next byte, which tells all but whether the last line ends there; else at the
+-- closing, where the last offset can, and the one before a last newline. What is settled at a
+-- moment is read off the positions reached by the pair's own bytes, and the world that follows
+-- them. Assumes nothing.
 use mathlib.Core.Path.{_≡_, refl, sym, subst, subst₂, ap, ap₂, _∙_}
 use mathlib.Core.Logic.{_⊎_, inl, inr, _↔_}
 use mathlib.Core.Bool.{Bool, true, false, _&&_}
@@ -41,7 +43,8 @@ module _ (bytes : List ℕ) (r : Rule) where
   abbrev f : Form ByteSet Assertion
   f = write (r .tree)
 
-  -- some way through the rule from start s ends with the byte before offset e, where this is known of the next byte, and the last line ends if z says so
+  -- some way through the rule from start s ends with the byte before offset e, where this is known
+  -- of the next byte, and the last line ends if z says so
   abbrev pub EndsFrom : ℕ → Known → Bool → ℕ → Type 0
   EndsFrom e after z s = (p : ℕ) × Reach (stream (take e bytes) false) f 0 s p e × Last (world (known-before (take e bytes)) after z) f 0 p
 
@@ -71,7 +74,8 @@ module _ (bytes : List ℕ) (r : Rule) where
   split : (m e : ℕ) → e ≤ m → take e bytes ++ drop e (take m bytes) ≡ take m bytes
   split m e le = ap (λ (l : List ℕ). l ++ drop e (take m bytes)) (sym (take-take e m bytes le)) ∙ take-append-drop e (take m bytes)
 
-  -- what is settled at moment m, where the bytes known after the pair's own tell nothing new of the gaps before
+  -- what is settled at moment m, where the bytes known after the pair's own tell nothing new of the
+  -- gaps before
   from-is : (m e : ℕ) → e ≤ m → e ≤ n → Same has holds (take e bytes) (drop e (take m bytes)) false (end-known bytes m)
       → (k : Known) (z : Bool) → known-after (drop e (take m bytes)) (end-known bytes m) ≡ k → (end-known bytes m && last-line (drop e (take m bytes))) ≡ z
       → (s : ℕ) → SettledFrom bytes r m e s ↔ EndsFrom e k z s
@@ -265,7 +269,8 @@ module _ (bytes : List ℕ) (r : Rule) where
   Moment m e =
       ((m ≡ e) × (e ≤ n)) ⊎ ((m ≡ suc e) × (e < n)) ⊎ ((m ≡ closing-moment bytes) × ((e ≡ n) ⊎ ((e < n) × (last-line (drop e bytes) ≡ true))))
 
-  -- A pair falls with its last byte, with the next one, or at the closing, and there only at the stream's end or before a last newline.
+  -- A pair falls with its last byte, with the next one, or at the closing, and there only at the
+  -- stream's end or before a last newline.
   pub falls-when : (m e : ℕ) → Falls bytes r m e → Moment m e
   falls-when m e h = go (within m e (h .settled)) (decLt e m) (decLt (suc e) m) (decLe m n) (decLt e n)
     where
@@ -318,7 +323,8 @@ module _ (bytes : List ℕ) (r : Rule) where
         λ h. record { start = h .0; earlier = h .1; matched = subst (λ t. Means t (r .tree) (h .0) e) (sym known) (h .2); inside = h .3 },
       )
 
-  -- A pair falls at the closing exactly if it matches, and does not match while the end is not known.
+  -- A pair falls at the closing exactly if it matches, and does not match while the end is not
+  -- known.
   pub falls-at-closing : (e : ℕ) → Falls bytes r (closing-moment bytes) e
       ↔ (MatchEnds r bytes e × (¬ ((s : ℕ) × (s < e) × Means (stream bytes false) (r .tree) s e × InWindows (r .windows) s e)))
   falls-at-closing e = (

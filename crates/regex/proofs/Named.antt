@@ -1,5 +1,6 @@
--- A rule's id is only a name: the ordered list of one rule alone, by another id, is the same list with that id in its entries. What falls, stays and starts
--- looks at the rule's flags, windows and tree; and the entries of one rule are told apart by moment and offset. Assumes nothing.
+-- A rule's id is only a name: the ordered list of one rule alone, by another id, is the same list
+-- with that id in its entries. What falls, stays and starts looks at the rule's flags, windows and
+-- tree; and the entries of one rule are told apart by moment and offset. Assumes nothing.
 use mathlib.Core.Path.{_≡_, refl, sym, subst, ap, _∙_}
 use mathlib.Core.Logic.{_⊎_, inl, inr, _↔_}
 use mathlib.Core.List.{List, [], _∷_, map, List·Memᴰ, List·Memᴰ·head, List·Memᴰ·tail, List·Memᴰ·eq-of-singleton, Memᴰ·map, Memᴰ·of-map, map-map}

@@ -1,6 +1,7 @@
--- Exactly one list meets the definition of the ordered list. At most one, since it rises strictly and its members are given; at least
--- one, where ids tell the rules apart, since whether an entry is owed is decided, its moment, offset, id and start are bounded, and a pair has one start. Assumes
--- nothing.
+-- Exactly one list meets the definition of the ordered list. At most one, since it rises strictly
+-- and its members are given; at least one, where ids tell the rules apart, since whether an entry
+-- is owed is decided, its moment, offset, id and start are bounded, and a pair has one start.
+-- Assumes nothing.
 use mathlib.Core.Path.{_≡_, refl, sym, subst, ap, _∙_}
 use mathlib.Core.Logic.{_⊎_, inl, inr, _↔_}
 use mathlib.Core.List.{List, [], _∷_, map, List·Memᴰ, List·Memᴰ·head, List·Memᴰ·tail, List·Memᴰ·cases-cons, List·Memᴰ·not-nil}

@@ -1,4 +1,5 @@
--- Positions lie in their form's range: from its base up to its base and the number of its positions. Assumes nothing.
+-- Positions lie in their form's range: from its base up to its base and the number of its
+-- positions. Assumes nothing.
 use mathlib.Core.Logic.{inl, inr}
 use mathlib.Core.Bool.{Bool}
 use Prim.Native.Nat.{ℕ, _+_, _≤_, _<_}

@@ -1,5 +1,6 @@
--- Null, first, last and follow of a form as relations, and the byte sets of its positions as one: what the theorems argue with. `Computed` has that the functions
--- of specs/Automaton.antt compute them.
+-- Null, first, last and follow of a form as relations, and the byte sets of its positions as one:
+-- what the theorems argue with. `Computed` has that the functions of specs/Automaton.antt compute
+-- them.
 use mathlib.Core.Path.{_≡_}
 use mathlib.Core.Logic.{_⊎_}
 use mathlib.Core.Bool.{Bool}

@@ -1,6 +1,6 @@
--- The ordered list says what demand 2 says: a rule's pairs in the list are exactly its reported ones, each once and with its one start, and while bytes come their
--- offsets are in order.
--- Assumes nothing.
+-- The ordered list says what demand 2 says: a rule's pairs in the list are exactly its reported
+-- ones, each once and with its one start, and while bytes come their offsets are in order. Assumes
+-- nothing.
 use mathlib.Core.Path.{_≡_, refl, sym, subst, subst₂, ap, _∙_}
 use mathlib.Core.Logic.{inl, inr, _↔_}
 use mathlib.Core.List.{List, [], _∷_, map, List·Memᴰ, List·Memᴰ·head, List·Memᴰ·tail, List·Memᴰ·not-nil}
@@ -73,7 +73,8 @@ module _ (rules : List Rule) (bytes : List ℕ) (l : List Entry) (is : IsList ru
     λ h. let x = stays-reported bytes r e .1 (h .0) in (x .0, is .exactly (entry (x .0) e (r .id) s) .1 (r, mem, refl, x .1, h .1 (x .0) (x .1 .falls))),
   )
 
-  -- Each pair once: two entries of one pair have the same moment, so they are one entry of a list that rises strictly.
+  -- Each pair once: two entries of one pair have the same moment, so they are one entry of a list
+  -- that rises strictly.
   pub once : Distinct rules → (m j e i s u : ℕ) → List·Memᴰ (entry m e i s) l → List·Memᴰ (entry j e i u) l → m ≡ j
   once distinct m j e i s u a b =
       let x = is .exactly (entry m e i s) .0 a in
@@ -145,7 +146,8 @@ once-rising (entry m e i s ∷ l) rising same = (
         ]
 
 module _ (rules : List Rule) (bytes : List ℕ) (reports : List Report) (ordered : Ordered rules bytes reports) (distinct : Distinct rules) where
-  -- Demand 2, of the list of reports: a rule's pair is in it with a start exactly if it is reported and that is its start ..
+  -- Demand 2, of the list of reports: a rule's pair is in it with a start exactly if it is reported
+  -- and that is its start ..
   pub in-reports : (r : Rule) → List·Memᴰ r rules → (e s : ℕ) → List·Memᴰ (r .id, e, s) reports ↔ (Reported r bytes e × StartOf r bytes e s)
   in-reports r mem e s =
       let both = in-list rules bytes (ordered .list) (ordered .is-list) distinct r mem e s in (

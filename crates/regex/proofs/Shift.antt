@@ -1,5 +1,6 @@
--- Where a form's positions are numbered from makes no difference: numbered from d further on, each set is the same set d further on. So
--- what is said of a rule by itself holds of it among others in one table. Assumes nothing.
+-- Where a form's positions are numbered from makes no difference: numbered from d further on, each
+-- set is the same set d further on. So what is said of a rule by itself holds of it among others in
+-- one table. Assumes nothing.
 use mathlib.Core.Path.{_≡_, sym, subst, ap}
 use mathlib.Core.Logic.{inl, inr, _↔_}
 use Prim.Native.Nat.{ℕ, _+_}

@@ -1,6 +1,8 @@
--- Least starts over the position automaton. Of the ways that have just taken a position q, the smallest start is, one byte on, the smaller of this offset and the
--- least starts of the positions reached before that q follows; of the matches that end here, the smallest start is the least over the positions that are last.
--- So a machine that keeps one number a position has the start of every report, and knows whether a match is long enough. Assumes nothing.
+-- Least starts over the position automaton. Of the ways that have just taken a position q, the
+-- smallest start is, one byte on, the smaller of this offset and the least starts of the positions
+-- reached before that q follows; of the matches that end here, the smallest start is the least over
+-- the positions that are last. So a machine that keeps one number a position has the start of every
+-- report, and knows whether a match is long enough. Assumes nothing.
 use mathlib.Core.Path.{_≡_, refl, sym, subst}
 use mathlib.Core.Logic.{_⊎_, inl, inr, _↔_}
 use mathlib.Core.Bool.{Bool, true, false, cond, _&&_}
@@ -31,7 +33,8 @@ use Rattle.regex.proofs.Moments.{EndsFrom, EndsAt, LastFrom, EndsLast, 
 -- ---- what a report's start is
 
 module _ (bytes : List ℕ) (r : Rule) where
-  -- A pair is settled exactly if the windows let its smallest settled start through: "the smallest start whose match is settled then" is long enough.
+  -- A pair is settled exactly if the windows let its smallest settled start through: "the smallest
+  -- start whose match is settled then" is long enough.
   pub smallest-inside : (m e s : ℕ) → Least (SettledFrom bytes r m e) s → Settled bytes r m e ↔ InWindows (r .windows) s e
   smallest-inside m e s h =
       let both = least-longest (SettledFrom bytes r m e) (r .windows) e s h in (
@@ -58,7 +61,8 @@ module _ (bytes : List ℕ) (r : Rule) where
     λ q. record { leftmost = λ t. absurd (subst T p t); without = λ n. q },
   )
 
-  -- the smallest settled start at each moment: with the pair's last byte, with a later one, at the closing, and there at the stream's end
+  -- the smallest settled start at each moment: with the pair's last byte, with a later one, at the
+  -- closing, and there at the stream's end
   pub least-byte : (e : ℕ) → e ≤ length bytes → (s : ℕ) → Least (SettledFrom bytes r e e) s ↔ Least (EndsFrom bytes r e unknown false) s
   least-byte e le = least-same (SettledFrom bytes r e e) (EndsFrom bytes r e unknown false) (from-byte bytes r e le)
 
@@ -73,7 +77,8 @@ module _ (bytes : List ℕ) (r : Rule) where
   pub least-last : (s : ℕ) → Least (SettledFrom bytes r (closing-moment bytes) (length bytes)) s ↔ Least (LastFrom bytes r) s
   least-last = least-same (SettledFrom bytes r (closing-moment bytes) (length bytes)) (LastFrom bytes r) (from-end bytes r)
 
-  -- where the positions are numbered from makes no difference to the starts of the matches that end with byte k ..
+  -- where the positions are numbered from makes no difference to the starts of the matches that end
+  -- with byte k ..
   pub ends-base : (k : ℕ) → k ≤ length bytes → (rest : List ℕ) (e : Bool) → Same has holds (take k bytes) rest false e → (b s : ℕ)
       → EndsFrom bytes r k (known-after rest e) (e && last-line rest) s
       ↔ ((p : ℕ) × Reach (stream (take k bytes) false) (write (r .tree)) b s p k
@@ -103,7 +108,8 @@ module _ (bytes : List ℕ) (r : Rule) where
         base-end (write (r .tree)) 0 bytes s lt .0 (base-end (write (r .tree)) b bytes s lt .1 h),
   )
 
--- "the same pairs at the same moments": when a pair falls depends on the tree and the windows alone, not on the flag
+-- "the same pairs at the same moments": when a pair falls depends on the tree and the windows
+-- alone, not on the flag
 module _ (bytes : List ℕ) (r u : Rule) (tree : r .tree ≡ u .tree) (windows : r .windows ≡ u .windows) where
   same-settled : (m e : ℕ) → Settled bytes r m e ↔ Settled bytes u m e
   same-settled m e = (
@@ -149,8 +155,10 @@ module _ (f : Form ByteSet Assertion) (b n : ℕ) (few : b + positions f ≤ n) 
   abbrev pub EndingFrom : Text ByteSet Assertion → ℕ → (Assertion → Bool) → ℕ → Type 0
   EndingFrom t k v s = (p : ℕ) × Reach t f b s p k × Last v f b p
 
-  -- One byte more. The least start of q is the smaller of this offset, where q may be first, and of the least starts of the positions that q follows. (Each of
-  -- these is smaller than this offset, so it makes no difference to take the offset in where q is not first.) Where `ended` is true, as if x were the last byte.
+  -- One byte more. The least start of q is the smaller of this offset, where q may be first, and of
+  -- the least starts of the positions that q follows. (Each of these is smaller than this offset,
+  -- so it makes no difference to take the offset in where q is not first.) Where `ended` is true,
+  -- as if x were the last byte.
   module _ (tab : ℕ → ByteSet) (takes : Takes tab f b) (bs : List ℕ) (x : ℕ) (ended : Bool) (starts : ℕ → ℕ) (beside : Beside (stream bs false) (length bs) starts)
       (q : ℕ) (comes : ℕ → Bool)
       (comes-is : (p : ℕ) → p < n
@@ -217,7 +225,8 @@ module _ (f : Form ByteSet Assertion) (b n : ℕ) (few : b + positions f ≤ n) 
         let lt : u < k = reach-up t f b u (h .0) k (h .1) in
         capped-least (EndingFrom t k v) d (smallest n ends starts d) (ending-capped d) u h (omega arith)
 
-    -- some match that the windows let through ends here: exactly if some position is last, and the windows let the least start through
+    -- some match that the windows let through ends here: exactly if some position is last, and the
+    -- windows let the least start through
     pub ending-inside : (w : Windows) (e d : ℕ) → k ≤ d
         → ((u : ℕ) × EndingFrom t k v u × InWindows w u e) ↔ (((p : ℕ) × (p < n) × T (ends p)) × InWindows w (smallest n ends starts d) e)
     ending-inside w e d le = (
@@ -231,7 +240,8 @@ module _ (f : Form ByteSet Assertion) (b n : ℕ) (few : b + positions f ≤ n) 
           least-longest (EndingFrom t k v) w e (smallest n ends starts d) (least-ending d le (g .0 .0) (h .0 .0, g .0 .1, g .1)) .1 (h .1),
     )
 
-  -- A rule without a smallest length needs no starts for this: any number up to the end offset will do.
+  -- A rule without a smallest length needs no starts for this: any number up to the end offset will
+  -- do.
   pub ending-anyway : (t : Text ByteSet Assertion) (k : ℕ) (v : Assertion → Bool) (ends : ℕ → Bool) → ((p : ℕ) → p < n → T (ends p) ↔ (Reached t f b p k × Last v f b p))
       → (w : Windows) (e s : ℕ) → w .smallest-length ≡ 0 → k ≤ e → s ≤ e
       → ((u : ℕ) × EndingFrom t k v u × InWindows w u e) ↔ (((p : ℕ) × (p < n) × T (ends p)) × InWindows w s e)
@@ -247,7 +257,8 @@ module _ (f : Form ByteSet Assertion) (b n : ℕ) (few : b + positions f ≤ n) 
 
   -- ---- live and held positions
 
-  -- What is reached if the stream ends here is reached while it may go on, or was stepped to over a last line's end.
+  -- What is reached if the stream ends here is reached while it may go on, or was stepped to over a
+  -- last line's end.
   pub reach-either : (tab : ℕ → ByteSet) → Takes tab f b → (bs : List ℕ) (x s q : ℕ) → Reach (stream (bs ++ x ∷ []) true) f b s q (suc (length bs))
       ↔ (Reach (stream (bs ++ x ∷ []) false) f b s q (suc (length bs)) ⊎ ((x ≡ 10) × Reach (stream (bs ++ x ∷ []) true) f b s q (suc (length bs))))
   reach-either tab takes bs x s q = (
@@ -269,7 +280,8 @@ module _ (f : Form ByteSet Assertion) (b n : ℕ) (few : b + positions f ≤ n) 
       Came z = T (has (tab q) x) × (((s ≡ length bs) × First (world (known-before bs) (byte (sideOf x)) z) f b q)
           ⊎ ((p : ℕ) × Reach (stream bs false) f b s p (length bs) × Follow (world (known-before bs) (byte (sideOf x)) z) f b p q))
 
-  -- At the stream's end: the smaller of the least start over the live positions that are last, and of that over the held ones.
+  -- At the stream's end: the smaller of the least start over the live positions that are last, and
+  -- of that over the held ones.
   module _ (tab : ℕ → ByteSet) (takes : Takes tab f b) (bs : List ℕ) (x : ℕ) (v : Assertion → Bool)
       (live : ℕ → ℕ) (live-beside : Beside (stream (bs ++ x ∷ []) false) (suc (length bs)) live)
       (held : ℕ → ℕ) (held-beside : x ≡ 10 → Beside (stream (bs ++ x ∷ []) true) (suc (length bs)) held)
@@ -313,7 +325,8 @@ module _ (bytes : List ℕ) (r : Rule) (b n : ℕ) (few : b + positions (write (
   abbrev pub FromByte : ℕ → (Assertion → Bool) → ℕ → Type 0
   FromByte e v = EndingFrom (write (r .tree)) b n few (stream (take e bytes) false) e v
 
-  -- some match that the windows let through ends there: `ending-inside` and `ending-anyway` say when, by tests on positions
+  -- some match that the windows let through ends there: `ending-inside` and `ending-anyway` say
+  -- when, by tests on positions
   pub ends-at-base : (e : ℕ) → e ≤ length bytes → (rest : List ℕ) (ended : Bool) → Same has holds (take e bytes) rest false ended
       → EndsAt bytes r e (known-after rest ended) (ended && last-line rest)
       ↔ ((u : ℕ) × FromByte e (world (known-before (take e bytes)) (known-after rest ended) (ended && last-line rest)) u × InWindows (r .windows) u e)

@@ -1,6 +1,8 @@
--- One step of the position automaton and its end, over any text and any assertions: a position is reached by the byte at k exactly if
--- the byte is in its set and it is first at a start there, or follows one reached before; a match ends at e exactly if a reached position
--- is last there. By structural recursion on the form; in a sequence the range of a position tells in which part it lies. Assumes nothing.
+-- One step of the position automaton and its end, over any text and any assertions: a position is
+-- reached by the byte at k exactly if the byte is in its set and it is first at a start there, or
+-- follows one reached before; a match ends at e exactly if a reached position is last there. By
+-- structural recursion on the form; in a sequence the range of a position tells in which part it
+-- lies. Assumes nothing.
 use mathlib.Core.Path.{_≡_, refl, sym, subst, subst₂, ap, _∙_}
 use mathlib.Core.Logic.{_⊎_, inl, inr, _↔_}
 use mathlib.Core.Bool.{Bool}

@@ -1,5 +1,6 @@
--- The automaton over a stream of bytes: what is reached up to the bytes so far does not depend on what comes later, what one byte more
--- reaches, and where a match ends. For any assertions, where what is known at the gaps so far stays as it is (`Same`). Assumes nothing.
+-- The automaton over a stream of bytes: what is reached up to the bytes so far does not depend on
+-- what comes later, what one byte more reaches, and where a match ends. For any assertions, where
+-- what is known at the gaps so far stays as it is (`Same`). Assumes nothing.
 use mathlib.Core.Path.{_≡_, refl, sym, subst, ap, ap₂, _∙_, fun-ext}
 use mathlib.Core.Logic.{_⊎_, inl, inr, _↔_}
 use mathlib.Core.Bool.{Bool}
@@ -43,7 +44,8 @@ module _ {C A : Type 0} (has : C → ℕ → Bool) (holds : A → Gap → Bool) 
   pub seam : (bs r : List ℕ) (e : Bool) → _≡_ {A = A → Bool} (λ a. On (bs ++ r) e .known a (length bs)) (λ a. holds a (between bs r e))
   seam bs r e = fun-ext (λ a. ap₂ (λ (p n : List ℕ). holds a (between p n e)) (take-append-seam bs r) (drop-append-seam bs r))
 
-  -- What is known at the gaps before the end of bs is the same where r follows: d says whether the stream has ended after bs, e whether it has after r.
+  -- What is known at the gaps before the end of bs is the same where r follows: d says whether the
+  -- stream has ended after bs, e whether it has after r.
   abbrev pub Same : List ℕ → List ℕ → (d e : Bool) → Type 0
   Same bs r d e = (a : A) (j : ℕ) → j < length bs → On (bs ++ r) e .known a j ≡ On bs d .known a j
 
@@ -58,7 +60,8 @@ module _ {C A : Type 0} (has : C → ℕ → Bool) (holds : A → Gap → Bool) 
           (λ a j lt x. subst T (sym (same a j lt)) x) f b s q (length bs) (omega arith) h,
     )
 
-    -- A match ends after bs, where r follows: a position reached by bs is last in the world between bs and r.
+    -- A match ends after bs, where r follows: a position reached by bs is last in the world between
+    -- bs and r.
     pub over : (f : Form C A) (b s : ℕ) → s < length bs → Match (On (bs ++ r) e) f s (length bs)
         ↔ ((p : ℕ) × Reach (On bs d) f b s p (length bs) × Last (λ a. holds a (between bs r e)) f b p)
     over f b s lt =
@@ -70,7 +73,8 @@ module _ {C A : Type 0} (has : C → ℕ → Bool) (holds : A → Gap → Bool) 
         )
 
   module _ (tab : ℕ → C) (f : Form C A) (b : ℕ) (takes : Takes tab f b) (bs : List ℕ) (x : ℕ) (d e : Bool) (same : Same bs (x ∷ []) d e) where
-    -- One byte more, for the ways that begin at s: from what bs reached to what bs and x reach. The world is that of the gap between bs and x.
+    -- One byte more, for the ways that begin at s: from what bs reached to what bs and x reach. The
+    -- world is that of the gap between bs and x.
     pub next-from : (s q : ℕ) → Reach (On (bs ++ x ∷ []) e) f b s q (suc (length bs))
         ↔ (T (has (tab q) x)
         × (((s ≡ length bs) × First (λ a. holds a (between bs (x ∷ []) e)) f b q)

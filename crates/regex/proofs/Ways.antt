@@ -1,6 +1,8 @@
--- A form matches a span exactly if some way through it runs over the span; and what that says of moments, where a way passes `$` if it passes the assertion on
--- the last line: a pair falls with its last byte exactly if some way of it passes no `$` and takes that byte last; with the next byte exactly if some way passes no
--- `$` and each such way passes an assertion at its end; at the closing before the stream's end exactly if each way passes `$`. Assumes nothing.
+-- A form matches a span exactly if some way through it runs over the span; and what that says of
+-- moments, where a way passes `$` if it passes the assertion on the last line: a pair falls with
+-- its last byte exactly if some way of it passes no `$` and takes that byte last; with the next
+-- byte exactly if some way passes no `$` and each such way passes an assertion at its end; at the
+-- closing before the stream's end exactly if each way passes `$`. Assumes nothing.
 use mathlib.Core.Path.{_≡_, refl, sym, subst, ap, _∙_}
 use mathlib.Core.Logic.{_⊎_, inl, inr, _↔_}
 use mathlib.Core.Bool.{Bool, true, false, true≢false}
@@ -229,7 +231,8 @@ module _ (bytes : List ℕ) (r : Rule) (e : ℕ) where
   abbrev n : ℕ
   n = length bytes
 
-  -- the ways of the pair's matches on the whole stream, from starts that the rule's windows let through
+  -- the ways of the pair's matches on the whole stream, from starts that the rule's windows let
+  -- through
   abbrev pub WayOf : List (Step ByteSet Assertion) → Type 0
   WayOf u = (s : ℕ) × (s < e) × Way (write (r .tree)) u × Runs (stream bytes true) s u e × InWindows (r .windows) s e
 
@@ -304,7 +307,8 @@ module _ (bytes : List ℕ) (r : Rule) (e : ℕ) where
         ),
   )
 
-  -- A pair falls with its last byte exactly if some way of it passes no `$` and takes that byte last ..
+  -- A pair falls with its last byte exactly if some way of it passes no `$` and takes that byte
+  -- last ..
   pub with-last-byte : Falls bytes r e e ↔ Prompt
   unfolding Runs
   with-last-byte = (
@@ -318,7 +322,8 @@ module _ (bytes : List ℕ) (r : Rule) (e : ℕ) where
           let x = runs-cut (stream bytes true) v (takes c ∷ []) (w .0) e (subst (λ (y : List (Step ByteSet Assertion)). Runs (stream bytes true) (w .0) y e) q (w .3)) in
           omega (arith, x .2 .1, ltb→lt (x .0) n (and-T (ltb (x .0) n) (has c (getD bytes (x .0) 0)) .0 (x .2 .0) .0))
 
-  -- .. with the next byte exactly if some way passes no `$`, and none of these takes its last byte last ..
+  -- .. with the next byte exactly if some way passes no `$`, and none of these takes its last byte
+  -- last ..
   pub with-next-byte : e < n → Falls bytes r (suc e) e ↔ (Plain × (¬ Prompt))
   with-next-byte lt =
       let both = falls-after bytes r e e (omega arith) (omega arith) in
@@ -326,7 +331,8 @@ module _ (bytes : List ℕ) (r : Rule) (e : ℕ) where
       let now = settled-plain lt in
       (λ f. let g = both .0 f in (now .0 (g .0), λ x. g .1 (own .1 x)), λ h. both .1 (now .1 (h .0), λ x. h .1 (own .0 x)))
 
-  -- .. at the closing, before the stream's end, exactly if it has a way and each of its ways passes `$` ..
+  -- .. at the closing, before the stream's end, exactly if it has a way and each of its ways passes
+  -- `$` ..
   pub at-the-closing : e < n → Falls bytes r (closing-moment bytes) e ↔ (MatchEnds r bytes e × ((u : List (Step ByteSet Assertion)) → WayOf u → Passes at-last-line u))
   at-the-closing lt =
       let both = falls-after bytes r n e (omega arith) (omega arith) in
@@ -340,7 +346,8 @@ module _ (bytes : List ℕ) (r : Rule) (e : ℕ) where
         λ h. both .1 (settled-whole bytes r e .1 (h .0), λ x. let p = now .0 (next .0 x) in p .2 (h .1 (p .0) (p .1))),
       )
 
-  -- .. and at its end exactly if it has a way, and none of those that pass no `$` takes its last byte last.
+  -- .. and at its end exactly if it has a way, and none of those that pass no `$` takes its last
+  -- byte last.
   pub at-the-end : e ≡ n → Falls bytes r (closing-moment bytes) e ↔ (MatchEnds r bytes e × (¬ Prompt))
   at-the-end q =
       let both = falls-after bytes r n e (omega arith) (omega arith) in

@@ -1,4 +1,5 @@
--- What holds in a world holds in each world where more assertions do: null, first, last and follow only grow. Assumes nothing.
+-- What holds in a world holds in each world where more assertions do: null, first, last and follow
+-- only grow. Assumes nothing.
 use mathlib.Core.Logic.{inl, inr}
 use mathlib.Core.Bool.{Bool}
 use Prim.Native.Nat.{ℕ, _+_}

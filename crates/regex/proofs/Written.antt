@@ -1,5 +1,5 @@
--- A tree means what its written-out form matches, both ways. Everything but repeats is the same text; a repeat is taken apart by the
--- number of copies it used. Assumes nothing.
+-- A tree means what its written-out form matches, both ways. Everything but repeats is the same
+-- text; a repeat is taken apart by the number of copies it used. Assumes nothing.
 use mathlib.Core.Path.{_≡_, refl, sym, subst}
 use mathlib.Core.Logic.{inl, inr, _↔_}
 use Prim.Native.Nat.{ℕ, zero, suc, _+_, _-_, _≤_}

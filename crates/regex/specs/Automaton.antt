@@ -1,5 +1,6 @@
--- The position automaton (Glushkov's) of a form: null, first, last and follow in a world, by the form's structure. A world says which assertions hold at a gap.
--- Assumes nothing: these are definitions.
+-- The position automaton (Glushkov's) of a form: null, first, last and follow in a world, by the
+-- form's structure. A world says which assertions hold at a gap. Assumes nothing: these are
+-- definitions.
 use mathlib.Core.Bool.{Bool, true, false, _&&_, _||_}
 use mathlib.Core.List.{List, [], _∷_, _++_}
 use Prim.Native.Nat.{ℕ, _+_}

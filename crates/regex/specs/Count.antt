@@ -1,5 +1,5 @@
--- The number of positions of a tree's written-out form, worked out from the tree, exactly and saturating; and whether a tree could
--- match no bytes. Assumes nothing: these are definitions.
+-- The number of positions of a tree's written-out form, worked out from the tree, exactly and
+-- saturating; and whether a tree could match no bytes. Assumes nothing: these are definitions.
 use mathlib.Core.Bool.{Bool, true, false, _&&_, _||_}
 use Prim.Native.Nat.{ℕ, zero, suc, _+_, _*_, min, max}
 use Rattle.regex.specs.Tree.{Tree, empty, item, assertion, then, or, repeat, Extra, atMost, unbounded, Text, Means}
@@ -9,7 +9,8 @@ unfoldable pub copied : ℕ → Extra → ℕ
 copied n (atMost j) = n + j
 copied n unbounded = max n 1
 
--- the number of positions: "A repeat inside a repeat multiplies, so whether the count passes 256 is worked out exactly"
+-- the number of positions: "A repeat inside a repeat multiplies, so whether the count passes 256 is
+-- worked out exactly"
 unfoldable pub exact : {C A : Type 0} → Tree C A → ℕ
 exact empty = 0
 exact (item c) = 1
@@ -26,7 +27,8 @@ limit = 256
 unfoldable pub capped : ℕ → ℕ
 capped n = min n (suc limit)
 
--- the count as a program keeps it: no part of it is above the limit by more than one, so no product or sum of two parts is large
+-- the count as a program keeps it: no part of it is above the limit by more than one, so no product
+-- or sum of two parts is large
 unfoldable pub saturating : {C A : Type 0} → Tree C A → ℕ
 saturating empty = 0
 saturating (item c) = 1

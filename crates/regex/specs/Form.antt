@@ -1,5 +1,5 @@
--- The written-out form of a tree (a term of the product's rules), the spans it matches, its positions, and which positions a way through it reaches.
--- Assumes nothing: these are definitions.
+-- The written-out form of a tree (a term of the product's rules), the spans it matches, its
+-- positions, and which positions a way through it reaches. Assumes nothing: these are definitions.
 use mathlib.Core.Path.{_≡_}
 use mathlib.Core.Logic.{_⊎_}
 use Prim.Native.Nat.{ℕ, zero, suc, _+_}
@@ -26,8 +26,9 @@ unfoldable pub optionals : {C A : Type 0} → ℕ → Form C A → Form C A
 optionals zero f = eps
 optionals (suc j) f = opt (seq f (optionals j f))
 
--- "`X{n,m}` is n copies, then m-n copies nested as optional, each inside the one before; `X{n,}` with n at least 1 is n-1 copies and
--- then `X+`; `{0}` is nothing." `X*` is `X{0,}`: at most one `X+`.
+-- "`X{n,m}` is n copies, then m-n copies nested as optional, each inside the one before; `X{n,}`
+-- with n at least 1 is n-1 copies and then `X+`; `{0}` is nothing." `X*` is `X{0,}`: at most one
+-- `X+`.
 unfoldable pub repeated : {C A : Type 0} → Form C A → ℕ → Extra → Form C A
 repeated f n (atMost j) = copies n f (optionals j f)
 repeated f zero unbounded = opt (plus f)
@@ -57,8 +58,9 @@ Match t (alt f g) s e = Match t f s e ⊎ Match t g s e
 Match t (plus f) s e = (m : ℕ) × Star (Match t f) s m × Match t f m e
 Match t (opt f) s e = (s ≡ e) ⊎ Match t f s e
 
--- "Positions are the byte-taking items of this written-out form", here their number. A form's positions are numbered from a base b
--- on, from left to right, so copies have positions of their own.
+-- "Positions are the byte-taking items of this written-out form", here their number. A form's
+-- positions are numbered from a base b on, from left to right, so copies have positions of their
+-- own.
 unfoldable pub positions : {C A : Type 0} → Form C A → ℕ
 positions eps = 0
 positions (take c) = 1
@@ -68,8 +70,8 @@ positions (alt f g) = positions f + positions g
 positions (plus f) = positions f
 positions (opt f) = positions f
 
--- A way through the form that began at s has matched the text up to k, "its last byte taken by that position" q "and every assertion
--- before it known to hold".
+-- A way through the form that began at s has matched the text up to k, "its last byte taken by that
+-- position" q "and every assertion before it known to hold".
 unfoldable pub Reach : {C A : Type 0} → Text C A → Form C A → (b s q k : ℕ) → Type 0
 Reach t eps b s q k = ⊥
 Reach t (take c) b s q k = (q ≡ b) × (suc s ≡ k) × T (t .hit c s)

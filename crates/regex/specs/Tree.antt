@@ -6,12 +6,15 @@ use mathlib.Core.Logic.{_⊎_}
 use Prim.Native.Nat.{ℕ, zero, suc, _+_, _≤_}
 use lib.Dec.{T}
 
--- How many more than its least number of copies a repeat may take: `{n,m}` up to m - n more, `{n,}` any number more.
+-- How many more than its least number of copies a repeat may take: `{n,m}` up to m - n more, `{n,}`
+-- any number more.
 pub data Extra : Type 0 where
   atMost : ℕ → Extra
   unbounded : Extra
 
--- Groups, alternation, empty branches and quantifiers: what is left of a pattern once it is read. An item takes one byte and has its final set; an option, a class or a lazy mark leaves no other trace.
+-- Groups, alternation, empty branches and quantifiers: what is left of a pattern once it is read.
+-- An item takes one byte and has its final set; an option, a class or a lazy mark leaves no other
+-- trace.
 pub data Tree (C A : Type 0) : Type 0 where
   empty : Tree C A
   item : C → Tree C A
@@ -20,7 +23,8 @@ pub data Tree (C A : Type 0) : Type 0 where
   or : Tree C A → Tree C A → Tree C A
   repeat : Tree C A → (least : ℕ) → Extra → Tree C A
 
--- A text: at which offsets there is a byte of a set, and at which gaps an assertion is known to hold. The gap k lies before offset k.
+-- A text: at which offsets there is a byte of a set, and at which gaps an assertion is known to
+-- hold. The gap k lies before offset k.
 pub record Text (C A : Type 0) : Type 0 where
   pub hit : C → ℕ → Bool
   pub known : A → ℕ → Bool
@@ -35,7 +39,8 @@ unfoldable pub Allows : ℕ → Extra → ℕ → Type 0
 Allows n (atMost j) k = (n ≤ k) × (k ≤ n + j)
 Allows n unbounded k = n ≤ k
 
--- "A rule matches from s to e by the usual meaning of sequence, choice and repeat": the tree matches the text from s to e.
+-- "A rule matches from s to e by the usual meaning of sequence, choice and repeat": the tree
+-- matches the text from s to e.
 unfoldable pub Means : {C A : Type 0} → Text C A → Tree C A → ℕ → ℕ → Type 0
 Means t empty s e = s ≡ e
 Means t (item c) s e = (suc s ≡ e) × T (t .hit c s)

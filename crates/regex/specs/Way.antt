@@ -1,6 +1,6 @@
--- A way through a form: the items it takes and the assertions it passes, in order; and the texts that it runs over. The meaning is given
--- elsewhere by spans; this is the same, step by step, and serves to say which assertions a way passes. Assumes nothing: these are
--- definitions.
+-- A way through a form: the items it takes and the assertions it passes, in order; and the texts
+-- that it runs over. The meaning is given elsewhere by spans; this is the same, step by step, and
+-- serves to say which assertions a way passes. Assumes nothing: these are definitions.
 use mathlib.Core.Path.{_≡_}
 use mathlib.Core.List.{List, [], _∷_, _++_, List·Memᴰ}
 use Prim.Native.Nat.{ℕ, suc}
@@ -24,7 +24,8 @@ pub data Way {C A : Type 0} : Form C A → List (Step C A) → Type 0 where
   w-none : {f : Form C A} → Way (opt f) []
   w-some : {f : Form C A} {u : List (Step C A)} → Way f u → Way (opt f) u
 
--- the text has the way's bytes from s to e, and every assertion that it passes is known to hold where it passes it
+-- the text has the way's bytes from s to e, and every assertion that it passes is known to hold
+-- where it passes it
 unfoldable pub Runs : {C A : Type 0} → Text C A → ℕ → List (Step C A) → ℕ → Type 0
 Runs t s [] e = s ≡ e
 Runs t s (takes c ∷ u) e = T (t .hit c s) × Runs t (suc s) u e

@@ -1,1 +1,2 @@
-// What a rule means: no code lives here. specs/ holds the definitions, proofs/ the theorems about them.
+// What a rule means: no code lives here. specs/ holds the definitions, proofs/ the theorems about
+// them.

@@ -1,5 +1,6 @@
--- Lists of additions, refused ones too, to an emptied table. What a list leaves is said by its accepted rules alone (`Built`): the words pass the test, the
--- next answer is the one that the rules give, and the automaton is the rules'. It holds of no rules, and each addition keeps it.
+-- Lists of additions, refused ones too, to an emptied table. What a list leaves is said by its
+-- accepted rules alone (`Built`): the words pass the test, the next answer is the one that the
+-- rules give, and the automaton is the rules'. It holds of no rules, and each addition keeps it.
 use mathlib.Core.Path.{_≡_, refl, sym, ap, ap₂, _∙_, subst}
 use mathlib.Core.Bool.{Bool, true, false, cond, _||_, or-false, or-assoc}
 use mathlib.Core.Logic.{_↔_}

@@ -1,6 +1,8 @@
--- The automaton of some rules. `Encodes` says that a table's automaton is, rule by rule, the position automaton of the rule's written-out form, with the rules
--- in the order of their ids and each at its own positions, at every gap in the world of that gap. It holds of no rules, and one rule more keeps it: the sets of the old positions are kept among
--- themselves, the new rule's come from its parts, and no set of a form reaches outside the form's positions.
+-- The automaton of some rules. `Encodes` says that a table's automaton is, rule by rule, the
+-- position automaton of the rule's written-out form, with the rules in the order of their ids and
+-- each at its own positions, at every gap in the world of that gap. It holds of no rules, and one
+-- rule more keeps it: the sets of the old positions are kept among themselves, the new rule's come
+-- from its parts, and no set of a form reaches outside the form's positions.
 use mathlib.Core.Path.{_≡_, refl, sym, ap, ap₂, _∙_, subst}
 use mathlib.Core.Bool.{Bool, true, false, _&&_, _||_, or-false, and-false, and-true}
 use mathlib.Core.List.{List, [], _++_, map, append-nil, List·Memᴰ, Memᴰ·of-map}
@@ -85,7 +87,8 @@ pub record Encodes (w : Automaton) (ps : List Placed) : Type 0 where
   -- nothing follows what is no position
   pub rest : (g o q : ℕ) → w .positions ≤ o → w .follow g o q ≡ false
   pub lates-are : LatesAre w
-  -- a match can begin inside a stream with the bytes of the positions that are first at a gap between two bytes
+  -- a match can begin inside a stream with the bytes of the positions that are first at a gap
+  -- between two bytes
   pub opens-are : (x : ℕ) → x < bytes → w .opens x ≡ any maxPositions (λ q. w .takes x q && any innerGaps (λ g. w .first g q))
 
 -- a position that takes a byte is not kept from being first

@@ -1,5 +1,6 @@
--- The sets of the gaps, as they are written: for each gap the first positions, those that can end a match, and what follows each position. A word is one gap's, as
--- that gap's turn leaves it, or no gap's, and stays.
+-- The sets of the gaps, as they are written: for each gap the first positions, those that can end a
+-- match, and what follows each position. A word is one gap's, as that gap's turn leaves it, or no
+-- gap's, and stays.
 use mathlib.Core.Path.{_≡_, refl, ap, ap₂, _∙_}
 use mathlib.Core.Bool.{Bool, false, cond, _&&_}
 use mathlib.Core.List.{List}

@@ -1,5 +1,6 @@
--- The table with one rule more passes the test again, from any words that pass. Its ids are the old ones, those from the new rule's place on one up, and
--- the new one between, which is above those before it and below those after it.
+-- The table with one rule more passes the test again, from any words that pass. Its ids are the old
+-- ones, those from the new rule's place on one up, and the new one between, which is above those
+-- before it and below those after it.
 use mathlib.Core.Path.{_≡_, refl, sym, ap, ap₂, _∙_, subst}
 use mathlib.Core.Bool.{Bool, true, false, _||_}
 use mathlib.Core.List.{List}

@@ -1,5 +1,6 @@
--- Words beyond the first 16,384 count for nothing in an addition either: lists that agree up to there get the same answer and agree up to there afterwards, and
--- each keeps its own words beyond. Every word that the definitions read stands at a place below 16,384.
+-- Words beyond the first 16,384 count for nothing in an addition either: lists that agree up to
+-- there get the same answer and agree up to there afterwards, and each keeps its own words beyond.
+-- Every word that the definitions read stands at a place below 16,384.
 use mathlib.Core.Path.{_≡_, refl, sym, ap, ap₂, _∙_}
 use mathlib.Core.Bool.{Bool, true, false, true≢false, cond, not, _&&_, _||_}
 use mathlib.Core.List.{List, [], _∷_, _++_}

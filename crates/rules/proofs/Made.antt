@@ -1,5 +1,6 @@
--- The writers make the table with one rule more. Each writer's part is read word by word, and left alone by the others; a list of words is then the defined
--- one because each of its words is, region by region.
+-- The writers make the table with one rule more. Each writer's part is read word by word, and left
+-- alone by the others; a list of words is then the defined one because each of its words is, region
+-- by region.
 use mathlib.Core.Path.{_≡_, sym, ap, ap₂, _∙_}
 use mathlib.Core.Bool.{Bool, not, _&&_, _||_}
 use mathlib.Core.List.{List, [], _∷_}

@@ -1,5 +1,6 @@
--- What the parts of a rule say: the words of the builder's sets, read back as the sets of the written-out form. The builder's laws give the rows as four
--- words (`follow-row`, `takes-row`); here they are read by their members.
+-- What the parts of a rule say: the words of the builder's sets, read back as the sets of the
+-- written-out form. The builder's laws give the rows as four words (`follow-row`, `takes-row`);
+-- here they are read by their members.
 use mathlib.Core.Path.{_≡_, refl, sym, ap, _∙_}
 use mathlib.Core.List.{List, []}
 use Prim.Native.Nat.{ℕ, _+_, _*_, _/_, _%_, _≤_, _<_}

@@ -1,5 +1,6 @@
--- The place of a new rule among rules with rising ids: those before it have smaller ids, those from there on do not. A test that holds of a number whenever it
--- holds of a larger one holds up to its count and no further.
+-- The place of a new rule among rules with rising ids: those before it have smaller ids, those from
+-- there on do not. A test that holds of a number whenever it holds of a larger one holds up to its
+-- count and no further.
 use mathlib.Core.Path.{_≡_, refl, sym, ap, ap₂, _∙_}
 use mathlib.Core.Bool.{Bool, true, false}
 use mathlib.Core.List.{List}

@@ -1,6 +1,7 @@
--- The table with one rule more, read region by region: the header, the last sets at each gap, the late
--- positions, the first sets at each gap, the ids, the openers, the owners, the takers of each byte, the
--- follow sets at each gap, the rules and the positions with starts. Each word lies in one region, so the tests of the others fail.
+-- The table with one rule more, read region by region: the header, the last sets at each gap, the
+-- late positions, the first sets at each gap, the ids, the openers, the owners, the takers of each
+-- byte, the follow sets at each gap, the rules and the positions with starts. Each word lies in one
+-- region, so the tests of the others fail.
 use mathlib.Core.Path.{_≡_, refl, sym, ap, ap₂, _∙_}
 use mathlib.Core.Bool.{false}
 use mathlib.Core.List.{List, [], _∷_, _++_}

@@ -1,4 +1,5 @@
--- The sets of positions that stand in four words each. A row is read as the set of its members, so what is merged is a matter of members.
+-- The sets of positions that stand in four words each. A row is read as the set of its members, so
+-- what is merged is a matter of members.
 use mathlib.Core.Path.{_≡_, ap, _∙_}
 use mathlib.Core.Bool.{Bool, _&&_, _||_, and-comm, or-false}
 use mathlib.Core.List.{List}

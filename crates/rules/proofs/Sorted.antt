@@ -1,4 +1,5 @@
--- Rules in the order of their ids, each with its first position. A rule goes in at the place of its id, which is how the table keeps its ids.
+-- Rules in the order of their ids, each with its first position. A rule goes in at the place of its
+-- id, which is how the table keeps its ids.
 use mathlib.Core.Path.{_≡_, refl, sym, ap, _∙_}
 use mathlib.Core.Bool.{Bool, true, false, cond}
 use mathlib.Core.Logic.{_⊎_, inl, inr}

@@ -1,5 +1,6 @@
--- The automaton of the table with one rule more, field by field, for any words with room for the rule: what the old positions had among themselves is kept,
--- and the new rule's sets come from its parts, at each gap from the parts there. Each set is read from its four words in their region.
+-- The automaton of the table with one rule more, field by field, for any words with room for the
+-- rule: what the old positions had among themselves is kept, and the new rule's sets come from its
+-- parts, at each gap from the parts there. Each set is read from its four words in their region.
 use mathlib.Core.Path.{_≡_, refl, sym, ap, ap₂, _∙_}
 use mathlib.Core.Bool.{Bool, true, false, cond, not, _&&_, _||_}
 use mathlib.Core.List.{List}

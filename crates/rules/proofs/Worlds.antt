@@ -1,5 +1,6 @@
--- The gaps of a table mean what the meaning of regular expressions says: the assertions that `holding` has at a gap's number are those known to hold between such
--- sides. Sides and assertions are few, so a statement about all of them is one test, which is computed.
+-- The gaps of a table mean what the meaning of regular expressions says: the assertions that
+-- `holding` has at a gap's number are those known to hold between such sides. Sides and assertions
+-- are few, so a statement about all of them is one test, which is computed.
 use mathlib.Core.Path.{_≡_, refl}
 use mathlib.Core.Bool.{Bool, true, false}
 use Prim.Native.Nat.{ℕ}

@@ -1,5 +1,6 @@
--- The binary digits of one word: what bitwise operations, counts and trailing zeros do to them, and a word made from its digits.
--- Each law goes by the lowest digit and the half above it (`on-suc`), or through the library's laws of shifts.
+-- The binary digits of one word: what bitwise operations, counts and trailing zeros do to them, and
+-- a word made from its digits. Each law goes by the lowest digit and the half above it (`on-suc`),
+-- or through the library's laws of shifts.
 use mathlib.Core.Path.{_≡_, refl, sym, ap, ap₂, _∙_, subst}
 use mathlib.Core.Bool.{Bool, true, false, true≢false, not, _||_, _&&_}
 use Prim.Native.Nat.{ℕ, zero, suc, _+_, _-_, _*_, _/_, _%_, _^_, _≤_, _<_, suc-le-suc, zero-le, min, max}

@@ -1,5 +1,6 @@
--- The laws of sets in four words, for every caller. A list of four 64-bit words is the set of its members (`by-digits`), so what an operation
--- makes is read off the words' digits, and two sets with the same members are the same words. The laws of one word's digits are passed on.
+-- The laws of sets in four words, for every caller. A list of four 64-bit words is the set of its
+-- members (`by-digits`), so what an operation makes is read off the words' digits, and two sets
+-- with the same members are the same words. The laws of one word's digits are passed on.
 use mathlib.Core.Path.{_≡_, refl, sym, ap, ap₂, _∙_, subst}
 use mathlib.Core.Bool.{Bool, true, false, true≢false, not, _||_, _&&_, or-false, or-true}
 use mathlib.Core.Logic.{⊎-elim}

@@ -1,4 +1,5 @@
--- The smallest of a number and of those that a test picks out: it is none of them that is larger, and one of them. Assumes nothing.
+-- The smallest of a number and of those that a test picks out: it is none of them that is larger,
+-- and one of them. Assumes nothing.
 use mathlib.Core.Path.{_≡_, refl, sym, subst, ap, _∙_}
 use mathlib.Core.Logic.{_⊎_, inl, inr}
 use mathlib.Core.Bool.{Bool, true, false, cond, true≢false}

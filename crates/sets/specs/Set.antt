@@ -1,5 +1,6 @@
 -- Sets of numbers below 256 (bytes, or positions of the automaton), each held in four 64-bit words.
--- `has` says what a member is. What each operation makes is said by its members alone: `setOf` gives the one list of words that has them.
+-- `has` says what a member is. What each operation makes is said by its members alone: `setOf`
+-- gives the one list of words that has them.
 use mathlib.Core.Bool.{Bool, true, false, cond, not, _||_, _&&_}
 use mathlib.Core.List.{List, [], _∷_}
 use Prim.Native.Nat.{ℕ, zero, suc, _+_, _*_, _/_, _%_, _^_, min}
@@ -19,12 +20,14 @@ abbrev pub asOne : Bool → ℕ
 asOne true = 1
 asOne false = 0
 
--- the number whose binary digit k, for k below n, is 1 where f k holds: the lowest digit, and those above it
+-- the number whose binary digit k, for k below n, is 1 where f k holds: the lowest digit, and those
+-- above it
 unfoldable pub wordOf : ℕ → (ℕ → Bool) → ℕ
 wordOf zero f = 0
 wordOf (suc n) f = asOne (f zero) + wordOf n (λ k. f (suc k)) * 2
 
--- the four words whose members are the q below 256 where f q holds: digit k of word i says it of i * 64 + k
+-- the four words whose members are the q below 256 where f q holds: digit k of word i says it of i
+-- * 64 + k
 unfoldable pub setOf : (ℕ → Bool) → List ℕ
 setOf f = wordOf 64 (λ k. f (0 + k)) ∷ wordOf 64 (λ k. f (64 + k)) ∷ wordOf 64 (λ k. f (128 + k)) ∷ wordOf 64 (λ k. f (192 + k)) ∷ []
 

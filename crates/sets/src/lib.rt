@@ -1,6 +1,6 @@
-// Sets of numbers below 256, each in four 64-bit words: a set of bytes, or of positions of the automaton.
-// Number q is binary digit q % 64 of word q / 64. A set goes in and comes back by value, and nothing is required of a caller.
-// specs/Set.antt says what each function makes.
+// Sets of numbers below 256, each in four 64-bit words: a set of bytes, or of positions of the
+// automaton. Number q is binary digit q % 64 of word q / 64. A set goes in and comes back by value,
+// and nothing is required of a caller. specs/Set.antt says what each function makes.
 ghost use mathlib.Core.Path.{_≡_};
 ghost use Prim.Native.Nat.{_-_, _^_, min};
 ghost use Rattle.sets.specs.Set.{has, emptySet, fullSet, inserted, insertedRange, unionOf, intersectionOf, complementOf, keptBelow, isEmpty, sizeOf};
@@ -80,7 +80,8 @@ pub fn size(s: [u64; 4]) -> u32
     u64::count_ones(s[0]) + u64::count_ones(s[1]) + u64::count_ones(s[2]) + u64::count_ones(s[3])
 }
 
-// The word whose digit k is 1 where base + k is below n: its lowest n - base digits, none where n is not above base.
+// The word whose digit k is 1 where base + k is below n: its lowest n - base digits, none where n
+// is not above base.
 fn mask(n: usize, base: usize) -> u64
     ensures { λ r. ⌜ r ≡ 2 ^ min (n - base) 64 - 1 ⌝ }
 {

@@ -1,5 +1,6 @@
--- The walk over a word's set digits asks each once, in as many turns as there are ones. After n turns the digits below some place are cleared and n of them
--- were set; while one is left, the next turn moves that place past the lowest.
+-- The walk over a word's set digits asks each once, in as many turns as there are ones. After n
+-- turns the digits below some place are cleared and n of them were set; while one is left, the next
+-- turn moves that place past the lowest.
 use mathlib.Core.Path.{_≡_, refl, sym, ap, ap₂, _∙_, subst}
 use mathlib.Core.Bool.{Bool, true, false, true≢false}
 use Prim.Native.Nat.{ℕ, zero, suc, _+_, _-_, _*_, _/_, _^_, _<_, _≤_}
@@ -120,7 +121,8 @@ module _ (word : ℕ) (fits : word < 2 ^ 64) where
       go zero e = refl
       go (suc x) e = absurd (omega (arith, turns-bound (suc (ones word)) (after-next (ones word) last (omega arith))))
 
-  -- while something is left there is a turn to come, which asks a digit of the word; else all turns were taken, at most 64
+  -- while something is left there is a turn to come, which asks a digit of the word; else all turns
+  -- were taken, at most 64
   pub goes-on : (n : ℕ) → n ≤ ones word → ¬ (left word n ≡ 0) → (n < ones word) × (asked word n < 64)
   goes-on n h some = go (ℕ-discrete n (ones word))
     where

@@ -1,5 +1,5 @@
--- What the code asks of numbers: sums and products that fit a word, measures that fall. Each is stated over plain numbers, since `omega` is dear where all that
--- is known of a call is in reach.
+-- What the code asks of numbers: sums and products that fit a word, measures that fall. Each is
+-- stated over plain numbers, since `omega` is dear where all that is known of a call is in reach.
 use mathlib.Core.Path.{_≡_}
 use Prim.Native.Nat.{ℕ, _+_, _*_, _-_, _<_, _≤_}
 use native.Mathlib.Omega.{arith}

@@ -1,5 +1,6 @@
--- The walks that carry starts. What the turns still to come make of the starts so far is what all turns make of the first ones: each turn takes the lowest digit that
--- is left out of the word and does its work. So a loop needs no count of turns. Assumes nothing.
+-- The walks that carry starts. What the turns still to come make of the starts so far is what all
+-- turns make of the first ones: each turn takes the lowest digit that is left out of the word and
+-- does its work. So a loop needs no count of turns. Assumes nothing.
 use mathlib.Core.Path.{_≡_, refl, sym, ap, ap₂, subst, _∙_}
 use mathlib.Core.Logic.{_⊎_, inl, inr}
 use mathlib.Core.Bool.{Bool, true, false, true≢false, cond, _&&_, _||_, and-assoc}

@@ -1,6 +1,6 @@
--- Starts in place. Copying is a walk as putting is (`Carrying`): what the turns still to come make of
--- the starts so far is what all turns make of the first ones. Then the starts of the live positions
--- become what a byte makes of them. Assumes nothing.
+-- Starts in place. Copying is a walk as putting is (`Carrying`): what the turns still to come make
+-- of the starts so far is what all turns make of the first ones. Then the starts of the live
+-- positions become what a byte makes of them. Assumes nothing.
 use mathlib.Core.Path.{_≡_, refl, sym, ap, ap₂, subst, _∙_}
 use mathlib.Core.Bool.{Bool, true, false, cond, _&&_, _||_}
 use mathlib.Core.List.{List}
@@ -113,7 +113,8 @@ in-place-off t before after live keeping next taken starts spare new few put = r
   spare-is = λ none. refl;
 }
 
--- the new ones are put together in the spare list, the old ones cleared, the new ones copied, and the spare list cleared
+-- the new ones are put together in the spare list, the old ones cleared, the new ones copied, and
+-- the spare list cleared
 pub in-place : (t : List ℕ) (before after : Side) (live keeping next : List ℕ) (taken : ℕ) (starts spare a b c d e : List ℕ) (rows : ℕ)
     → rows ≡ followRows (gapOf false before after) → tableWords ≤ length t
     → Put (has next) false taken spare a → Followed (has keeping) next starts rows t a b → Put (has live) false 0 starts c → Copied (has next) b c d

@@ -1,5 +1,6 @@
--- Where the set of late positions is what additions make it, asking the late positions alone loses nothing: a position that ends a match at a gap between two bytes
--- and is not late ends it whatever follows, so its rule has reported.
+-- Where the set of late positions is what additions make it, asking the late positions alone loses
+-- nothing: a position that ends a match at a gap between two bytes and is not late ends it whatever
+-- follows, so its rule has reported.
 use mathlib.Core.Path.{_≡_, refl, sym, ap, ap₂, _∙_}
 use mathlib.Core.Bool.{Bool, true, false, not, _&&_, and-false}
 use mathlib.Core.List.{List}
@@ -13,7 +14,8 @@ use Rattle.table.specs.Automaton.{Automaton, last}
 use Rattle.table.proofs.Lates.{LatesAre}
 use Rattle.steps.specs.Step.{ends, endsNewly, latesOf, lateIn}
 
--- of a position that is live and ends a match at the gap (e) but not whatever follows (u), some gap has it (i): it is late (l)
+-- of a position that is live and ends a match at the gap (e) but not whatever follows (u), some gap
+-- has it (i): it is late (l)
 only-late : (h l e u i o : Bool) → l ≡ (i && not u) → (e ≡ true → i ≡ true) → (h && (u && o)) ≡ false → ((h && l) && (e && o)) ≡ (h && (e && o))
 only-late false l e u i o a b c = refl
 only-late true l false u i o a b c = and-false l

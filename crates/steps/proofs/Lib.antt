@@ -1,5 +1,7 @@
--- The laws of one byte's work: Bounds (numbers that fit), TableSets (sets and rules in a table's words), Asked, Turned, Walked and Owned (the
--- walk over the live set, and over the positions that end a match), Carrying and InPlace (starts), Steps (the live set after a byte), Late (the late positions suffice).
+-- The laws of one byte's work: Bounds (numbers that fit), TableSets (sets and rules in a table's
+-- words), Asked, Turned, Walked and Owned (the walk over the live set, and over the positions that
+-- end a match), Carrying and InPlace (starts), Steps (the live set after a byte), Late (the late
+-- positions suffice).
 pub mod Bounds
 pub mod TableSets
 pub mod Asked

@@ -1,4 +1,5 @@
--- The owners of a set's positions, collected one a turn: after the positions below n, those of the members below n.
+-- The owners of a set's positions, collected one a turn: after the positions below n, those of the
+-- members below n.
 use mathlib.Core.Path.{_≡_, refl, sym, ap, ap₂, _∙_}
 use mathlib.Core.Bool.{Bool, true, false, cond, _&&_, _||_, or-false, and-false}
 use mathlib.Core.List.{List}

@@ -1,5 +1,5 @@
--- One byte's step in words: the first positions joined with the follow row of each live one, met with the byte's row and kept below the count, are
--- `stepped`.
+-- One byte's step in words: the first positions joined with the follow row of each live one, met
+-- with the byte's row and kept below the count, are `stepped`.
 use mathlib.Core.Path.{_≡_, sym, ap, ap₂, _∙_}
 use mathlib.Core.Bool.{Bool, true, false, cond, not, _||_, _&&_, or-false, or-assoc, and-comm, and-false, and-true}
 use mathlib.Core.List.{List}

@@ -1,5 +1,5 @@
--- What is given of words enough for a table, and of fewer; and the rules in a table's words: those that own a position of a set that ends a match, and the
--- single-match rules.
+-- What is given of words enough for a table, and of fewer; and the rules in a table's words: those
+-- that own a position of a set that ends a match, and the single-match rules.
 use mathlib.Core.Path.{_≡_, refl, sym, ap, ap₂, _∙_}
 use mathlib.Core.Bool.{Bool, cond, not, _&&_, and-comm, and-assoc, Bool·not-not}
 use mathlib.Core.List.{List}
@@ -76,7 +76,8 @@ ends-word t g set last found rules few is both =
         (sym (ap (λ (b : Bool). cond b (getD t (ownerAt p) 0) 0) (lt-ltb p maxPositions l)))
         ∙ and-assoc (has set p) (automaton t .ending g p) (eqb (cond (ltb p maxPositions) (getD t (ownerAt p) 0) 0) a)
 
--- the digits of the rules that end at a gap, without those of the rules that ended where less was known
+-- the digits of the rules that end at a gap, without those of the rules that ended where less was
+-- known
 pub newly-word : (w : Automaton) (g : ℕ) (set : List ℕ) (less : ℕ) (live : List ℕ) (x y : ℕ)
     → x ≡ rulesWhere w (ends w g set) → y ≡ rulesWhere w (ends w less live) → bitAnd x (2 ^ 64 - 1 - y) ≡ rulesWhere w (endsNewly w g set less live)
 unfolding endsNewly

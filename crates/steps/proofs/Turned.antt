@@ -1,5 +1,6 @@
--- The walk over one word of a set, turn by turn, of whatever it collects: where asking a member moves what is collected one place on, and what is no member moves it
--- on unasked, all turns over a word move it past the word.
+-- The walk over one word of a set, turn by turn, of whatever it collects: where asking a member
+-- moves what is collected one place on, and what is no member moves it on unasked, all turns over a
+-- word move it past the word.
 use mathlib.Core.Path.{_≡_, sym, ap, _∙_}
 use mathlib.Core.Bool.{true, false}
 use mathlib.Core.List.{List}

@@ -1,5 +1,5 @@
--- The walk over the words of a live set joins the row of each live position: after n turns over word i, those below the place where the word is cleared;
--- after all, those of the word.
+-- The walk over the words of a live set joins the row of each live position: after n turns over
+-- word i, those below the place where the word is cleared; after all, those of the word.
 use mathlib.Core.Path.{_≡_, refl, sym, ap, _∙_}
 use mathlib.Core.Bool.{Bool, _||_, _&&_, or-false}
 use mathlib.Core.List.{List}

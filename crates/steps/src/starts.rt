@@ -1,5 +1,6 @@
-// The starts of positions, one number for each of 256: what one byte makes of them. The starts of the positions before the byte are carried along the rows of these
-// positions, and of those that meet in one position the smallest is kept.
+// The starts of positions, one number for each of 256: what one byte makes of them. The starts of
+// the positions before the byte are carried along the rows of these positions, and of those that
+// meet in one position the smallest is kept.
 use super::rows::row;
 use kinds::Side;
 use table::gaps::LAST_GAPS;
@@ -50,7 +51,8 @@ fn put(set: [u64; 4], keep: bool, start: u64, starts: &mut [u64; 256])
     put_word(set[3], 3, keep, start, starts);
 }
 
-// Carries the starts of the positions of one word, the word i of a live set, along their rows, to the positions of `next`.
+// Carries the starts of the positions of one word, the word i of a live set, along their rows, to
+// the positions of `next`.
 fn follow_word(
     mut word: u64,
     i: usize,
@@ -90,8 +92,9 @@ fn follow(
     follow_word(live[3], 3, next, from, rows, words, starts);
 }
 
-// The starts after a byte, `taken` bytes into the stream: `live` are the positions before it that keep a start, `next` those after it. The sides are those of the gap
-// before the byte; where `line` is true, as if it were a newline and the last.
+// The starts after a byte, `taken` bytes into the stream: `live` are the positions before it that
+// keep a start, `next` those after it. The sides are those of the gap before the byte; where `line`
+// is true, as if it were a newline and the last.
 pub fn step_starts(
     line: bool,
     before: Side,
@@ -140,8 +143,8 @@ fn copy(set: [u64; 4], from: &[u64; 256], to: &mut [u64; 256])
 // Makes of the starts of the live positions what a byte makes of them: `live` are the positions
 // before it, `keeping` those of them that keep a start, and `next` those after it that do. The new
 // ones are put together in `spare`, and come back into the place of the old ones. So only starts of
-// these positions are touched, and no array is made for a byte. The two steps of `step_starts` stand
-// here again: the compiler then puts them into the loop over the bytes, their only caller.
+// these positions are touched, and no array is made for a byte. The two steps of `step_starts`
+// stand here again: the compiler then puts them into the loop over the bytes, their only caller.
 pub fn carry_starts(
     before: Side,
     after: Side,

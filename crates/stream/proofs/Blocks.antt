@@ -1,4 +1,5 @@
--- Some bytes of a block, for a stream: what of its state is counted or stays, and at most two reports of a rule and 257 units a byte.
+-- Some bytes of a block, for a stream: what of its state is counted or stays, and at most two
+-- reports of a rule and 257 units a byte.
 use mathlib.Core.Path.{_≡_, refl, sym, ap, _∙_}
 use mathlib.Core.List.{List}
 use Prim.Native.Nat.{ℕ, zero, suc, _+_, _*_, _<_, _≤_, zero-le}

@@ -1,5 +1,5 @@
--- What the code asks of numbers: places inside a list, sums and products that fit a word. Each is stated over plain numbers, since `omega` is
--- dear where all that is known of a call is in reach.
+-- What the code asks of numbers: places inside a list, sums and products that fit a word. Each is
+-- stated over plain numbers, since `omega` is dear where all that is known of a call is in reach.
 use mathlib.Core.Path.{_≡_}
 use mathlib.Core.List.{List}
 use Prim.Native.Nat.{ℕ, _+_, _-_, _*_, _^_, _<_, _≤_, min}

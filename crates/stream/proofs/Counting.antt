@@ -1,5 +1,6 @@
--- What of a state counts for the bytes after it: the live set, the marks, the last byte's side and the bytes taken. States alike in these give the same
--- reports and the same cost, so the loop may be handed these alone.
+-- What of a state counts for the bytes after it: the live set, the marks, the last byte's side and
+-- the bytes taken. States alike in these give the same reports and the same cost, so the loop may
+-- be handed these alone.
 use mathlib.Core.Path.{_≡_, refl, sym, ap, _∙_}
 use Prim.Native.Nat.{ℕ}
 use Rattle.table.specs.Automaton.{Automaton}

@@ -1,4 +1,5 @@
--- The lent lists. Each law is said of one list, a column of what the reports give it, and then of all of them: a further list is a line more in each.
+-- The lent lists. Each law is said of one list, a column of what the reports give it, and then of
+-- all of them: a further list is a line more in each.
 use mathlib.Core.Path.{_≡_, refl, sym, ap, ap₂, _∙_}
 use mathlib.Core.List.{List, [], _∷_, _++_, map, append-nil, append-assoc}
 use Prim.Native.Nat.{ℕ, suc, _+_, _-_, _<_, _≤_, zero-le}

@@ -1,4 +1,5 @@
--- No call depends on words beyond the first 16,384: lists that agree up to there pass the test alike and describe the same automaton, and the calls look at nothing else.
+-- No call depends on words beyond the first 16,384: lists that agree up to there pass the test
+-- alike and describe the same automaton, and the calls look at nothing else.
 use mathlib.Core.Path.{_≡_, ap, ap₂, _∙_}
 use mathlib.Core.Bool.{Bool, true, false, cond}
 use mathlib.Core.List.{List}

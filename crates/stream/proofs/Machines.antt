@@ -1,5 +1,7 @@
--- Some bytes of a block, over any machine, one more at a time. The reports and the cost only grow, so `fitsBy` is the one number of bytes that fit and can be paid for
--- while one more would not. What the parts of a block give is joined in `two-parts`; and two machines that agree give the same.
+-- Some bytes of a block, over any machine, one more at a time. The reports and the cost only grow,
+-- so `fitsBy` is the one number of bytes that fit and can be paid for while one more would not.
+-- What the parts of a block give is joined in `two-parts`; and two machines that agree give the
+-- same.
 use mathlib.Core.Path.{_≡_, refl, sym, ap, ap₂, _∙_, subst}
 use mathlib.Core.Bool.{Bool, true, false, true≢false, cond, _&&_, and-false, and-eq-true-iff}
 use mathlib.Core.Logic.{_⊎_, inl, inr, ⊎-elim}

@@ -1,4 +1,5 @@
--- A scan in two parts: some bytes of a block, and then an accepted scan of the rest with what they leave of the allowance and the lists. Over any machine.
+-- A scan in two parts: some bytes of a block, and then an accepted scan of the rest with what they
+-- leave of the allowance and the lists. Over any machine.
 use mathlib.Core.Path.{_≡_, sym, ap, _∙_}
 use mathlib.Core.Bool.{Bool}
 use mathlib.Core.Logic.{inl, inr}

@@ -1,5 +1,6 @@
--- Where nothing happens. A live set that does not meet the union of the last sets ends no rule; one that does not meet those that wait for the next byte ends none late;
--- and where nothing is live, a byte that starts nothing leaves it so, whatever stands before it.
+-- Where nothing happens. A live set that does not meet the union of the last sets ends no rule; one
+-- that does not meet those that wait for the next byte ends none late; and where nothing is live, a
+-- byte that starts nothing leaves it so, whatever stands before it.
 use mathlib.Core.Path.{_≡_, refl, sym, ap, _∙_}
 use mathlib.Core.Bool.{Bool, true, false, true≢false, not, _||_, _&&_}
 use mathlib.Core.List.{List}
@@ -44,7 +45,8 @@ late-gate w live gap less a e =
     (any-never maxPositions (λ p. has (lateIn w live) p && last w gap a p)
     (λ p l. ap (λ (b : Bool). b && last w gap a p) (has-intersection live (latesOf w) p l ∙ any-none maxPositions (λ q. has live q && has (latesOf w) q) e p l)))
 
--- where no position of a set can end a match, none can whatever follows, and none waits for the next byte
+-- where no position of a set can end a match, none can whatever follows, and none waits for the
+-- next byte
 pub none-end : (w : Automaton) (next : List ℕ) → any maxPositions (λ q. has next q && has (unionOf (lastsOf w) (latesOf w)) q) ≡ false
     → (any maxPositions (λ q. has next q && has (lastsOf w) q) ≡ false) × (waitsIn w next ≡ false)
 none-end w next e = (

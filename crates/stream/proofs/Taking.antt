@@ -1,4 +1,5 @@
--- A byte that is offered: it is taken, or the turn stops before it, by what the parts of the code promise.
+-- A byte that is offered: it is taken, or the turn stops before it, by what the parts of the code
+-- promise.
 use mathlib.Core.Path.{_≡_, refl, sym, ap, _∙_, subst}
 use mathlib.Core.Bool.{Bool, true, false, true≢false, cond}
 use mathlib.Core.Logic.{_⊎_, inl, inr}
@@ -42,8 +43,8 @@ module _ (w : Automaton) (taken : ℕ) (block : List ℕ) (z : Turn) (l : Lists)
   pub offered-unpaid : (r : Turn) → r ≡ stopAt z → (turns : ℕ) → turns ≡ sizeOf (z .live) → z .left < 1 + turns → Offered w here block z l r l
   offered-unpaid r is turns e h = offered-stop r l is refl (λ b. inr (omega (arith, e)))
 
--- what was written into the free part of the lists once a step was taken: the next live set, the side of the byte, what the byte's runs came to, and whether a position waits for
--- the next byte
+-- what was written into the free part of the lists once a step was taken: the next live set, the
+-- side of the byte, what the byte's runs came to, and whether a position waits for the next byte
 pub record Told (w : Automaton) (taken : ℕ) (block : List ℕ) (z : Turn) (l : Lists) (next : List ℕ) (new : Side) (full : Bool) (reports marks : ℕ) (waits : Bool) (last : Lists) : Type 0 where
   pub step : next ≡ nextLive w (hereAt taken z) (getD block (z .at) 0)
   pub side : new ≡ sideOf (getD block (z .at) 0)

@@ -1,5 +1,6 @@
--- The scanning loop. `Running` says what holds once some bytes are taken: live set, marks, units and lists are those of the definitions. Bytes passed over and a byte that
--- is taken keep it, and where the loop stops one more byte would not fit.
+-- The scanning loop. `Running` says what holds once some bytes are taken: live set, marks, units
+-- and lists are those of the definitions. Bytes passed over and a byte that is taken keep it, and
+-- where the loop stops one more byte would not fit.
 use mathlib.Core.Path.{_≡_, refl, sym, ap, _∙_, subst}
 use mathlib.Core.Bool.{Bool, true, false, true≢false, cond}
 use mathlib.Core.Logic.{_⊎_, inl, inr}

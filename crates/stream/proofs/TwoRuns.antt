@@ -1,6 +1,7 @@
--- Two runs of reports, one after the other: those of a byte, and those of a closing. The marks are brought up to date between them, so what holds of each run holds
--- of both in turn. A byte's are delivered in one of three ways, each with its law: no rule ends,
--- the reports do not fit, they are written.
+-- Two runs of reports, one after the other: those of a byte, and those of a closing. The marks are
+-- brought up to date between them, so what holds of each run holds of both in turn. A byte's are
+-- delivered in one of three ways, each with its law: no rule ends, the reports do not fit, they are
+-- written.
 use mathlib.Core.Path.{_≡_, refl, sym, ap, ap₂, _∙_}
 use mathlib.Core.Bool.{Bool, true, false, cond, not, _&&_}
 use mathlib.Core.List.{List, [], _++_}

@@ -1,5 +1,5 @@
--- Emptying. The words of `emptied t` are known one by one, so what the loop writes is `emptied t`; the result passes the test and describes the automaton
--- with no rules.
+-- Emptying. The words of `emptied t` are known one by one, so what the loop writes is `emptied t`;
+-- the result passes the test and describes the automaton with no rules.
 use mathlib.Core.Path.{_≡_, refl, sym, ap, _∙_}
 use mathlib.Core.Bool.{true, false, cond, not, _&&_}
 use mathlib.Core.List.{List, _++_}

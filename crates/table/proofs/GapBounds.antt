@@ -1,4 +1,5 @@
--- The number that two sides give a gap is one that the sets of a table go by, so a set that is looked up by it is there. By cases on the sides.
+-- The number that two sides give a gap is one that the sets of a table go by, so a set that is
+-- looked up by it is there. By cases on the sides.
 use mathlib.Core.Bool.{Bool, true, false, cond}
 use Prim.Native.Nat.{ℕ, _<_}
 use native.Mathlib.Nat.{lt-trans}

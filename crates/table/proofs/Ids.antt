@@ -1,4 +1,5 @@
--- The test of the ids, by numbers that are joined: what is joined has 32 bits exactly where each has, and that is where the ids are in order.
+-- The test of the ids, by numbers that are joined: what is joined has 32 bits exactly where each
+-- has, and that is where the ids are in order.
 use mathlib.Core.Path.{_≡_, refl, sym, ap, subst, _∙_}
 use mathlib.Core.Bool.{Bool, true, false, true≢false}
 use mathlib.Core.List.{List}

@@ -1,5 +1,6 @@
--- Words beyond the first 16,384 count for nothing: lists that agree up to there describe the same automaton, and pass the test alike. Each part of the automaton
--- and each fact of the test reads words below 16,384, which are the same in both lists; lists too short for a table are equal.
+-- Words beyond the first 16,384 count for nothing: lists that agree up to there describe the same
+-- automaton, and pass the test alike. Each part of the automaton and each fact of the test reads
+-- words below 16,384, which are the same in both lists; lists too short for a table are equal.
 use mathlib.Core.Path.{_≡_, refl, sym, ap, _∙_}
 use mathlib.Core.Bool.{Bool, true, false, true≢false, cond, not, _&&_}
 use mathlib.Core.List.{List}

@@ -1,4 +1,5 @@
--- Words given by their digits: what the laws of sets leave out. A word that gets one digit a turn is the word of the test below the turn.
+-- Words given by their digits: what the laws of sets leave out. A word that gets one digit a turn
+-- is the word of the test below the turn.
 use mathlib.Core.Path.{_≡_, refl, sym, ap, ap₂, _∙_}
 use mathlib.Core.Bool.{Bool, true, false, not, _||_, _&&_, or-false}
 use Prim.Native.Nat.{ℕ, _+_, _-_, _^_, _<_, _≤_}

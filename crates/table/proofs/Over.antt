@@ -1,4 +1,6 @@
--- Laws of `over`: a word list with some words given by their index. What a loop writes into a table is such a list, and `Written` is the invariant of the loop. Every law goes word by word: a list is an `over` where each of its words is (`over-is`).
+-- Laws of `over`: a word list with some words given by their index. What a loop writes into a table
+-- is such a list, and `Written` is the invariant of the loop. Every law goes word by word: a list
+-- is an `over` where each of its words is (`over-is`).
 use mathlib.Core.Path.{_≡_, refl, sym, ap, ap₂, _∙_}
 use mathlib.Core.Bool.{Bool, true, false, cond, _&&_, and-false}
 use mathlib.Core.List.{List, [], _∷_}
@@ -149,7 +151,8 @@ over-down k hi g t a h =
 
 -- ---- a loop that writes such words
 
--- s is t with the words from lo on and below hi written. Its length is a field so that arithmetic finds it.
+-- s is t with the words from lo on and below hi written. Its length is a field so that arithmetic
+-- finds it.
 pub record Written (lo hi : ℕ) (g : ℕ → ℕ) (t s : List ℕ) : Type 0 where
   pub is : s ≡ over lo hi g t
   pub long : length s ≡ length t

@@ -1,4 +1,5 @@
--- Sets in a list of words: each depends on its own words alone, so a write elsewhere leaves it (`row-below`, `row-above`), and a write to its own words is read back digit by digit.
+-- Sets in a list of words: each depends on its own words alone, so a write elsewhere leaves it
+-- (`row-below`, `row-above`), and a write to its own words is read back digit by digit.
 use mathlib.Core.Path.{_≡_, refl, sym, ap, _∙_}
 use mathlib.Core.Bool.{Bool, true, false, _&&_}
 use mathlib.Core.List.{List, [], _∷_}

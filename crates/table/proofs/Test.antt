@@ -1,5 +1,6 @@
--- What passing the test gives, and the other way round. `isTable` is a chain of tests, so words pass exactly where each link holds (`Passes`): a call that
--- refuses shows that one link fails (`refused`), and a proof about accepted words takes the facts from `passes`.
+-- What passing the test gives, and the other way round. `isTable` is a chain of tests, so words
+-- pass exactly where each link holds (`Passes`): a call that refuses shows that one link fails
+-- (`refused`), and a proof about accepted words takes the facts from `passes`.
 use mathlib.Core.Path.{_≡_, refl, sym, ap, ap₂, _∙_, subst}
 use mathlib.Core.Bool.{Bool, true, false, true≢false, _&&_, and-eq-true-iff}
 use mathlib.Core.List.{List}

@@ -14,8 +14,8 @@ pub record Automaton : Type 0 where
   -- how many rules and positions there are
   pub rules : ℕ
   pub positions : ℕ
-  -- of the rule in place a, by rising id: its id, whether it is single-match, and whether it reports
-  -- the leftmost start
+  -- of the rule in place a, by rising id: its id, whether it is single-match, and whether it
+  -- reports the leftmost start
   pub id : (a : ℕ) → ℕ
   pub once : (a : ℕ) → Bool
   pub leftmost : (a : ℕ) → Bool

@@ -57,8 +57,8 @@ pub fn row(words: &[u64], at: usize) -> [u64; 4]
     [words[at], words[at + 1], words[at + 2], words[at + 3]]
 }
 
-// A number of 32 bits where an id is below the next one and this has 32 bits; a larger one where the
-// id has more, or is not below the next.
+// A number of 32 bits where an id is below the next one and this has 32 bits; a larger one where
+// the id has more, or is not below the next.
 fn unordered(id: u64, next: u64) -> u64
     ensures { λ r. ⌜ Unordered id next r ⌝ }
 {

@@ -1,5 +1,5 @@
--- Quantifiers, as the functions read them: each law says a definition of specs/Quantifier.antt at the bytes from a place on by what the code has in
--- hand there.
+-- Quantifiers, as the functions read them: each law says a definition of specs/Quantifier.antt at
+-- the bytes from a place on by what the code has in hand there.
 use mathlib.Core.Path.{_≡_}
 use mathlib.Core.Bool.{true, cond, _&&_, and-eq-true-iff}
 use mathlib.Core.List.{List}

@@ -1,5 +1,6 @@
--- How many bytes a token takes: never more than there are, and where the pattern has not ended at least one unless it is faulty. Callers cite `lexeme-takes` and `lexeme-fits`. By cases on
--- what the definitions ask, and by going down the bytes.
+-- How many bytes a token takes: never more than there are, and where the pattern has not ended at
+-- least one unless it is faulty. Callers cite `lexeme-takes` and `lexeme-fits`. By cases on what
+-- the definitions ask, and by going down the bytes.
 use mathlib.Core.Path.{_≡_, sym}
 use mathlib.Core.Bool.{Bool, true, false, cond, not, _&&_, _||_, and-eq-true-iff, true≢false}
 use mathlib.Core.List.{List, [], _∷_}
@@ -192,7 +193,8 @@ faulty-as-takes n f Unclosed h = faulty-takes n f h
 faulty-as-takes n f (Repeat least extra) h = record { fits = omega arith; takes = λ e. absurd (h e) }
 faulty-as-takes n f Bad h = faulty-takes n f h
 
--- where the pattern has not ended, a token that is not faulty takes a byte at least, and no token more than there are
+-- where the pattern has not ended, a token that is not faulty takes a byte at least, and no token
+-- more than there are
 pub lexeme-takes : (o : Options) (c : ℕ) (v : List ℕ) → Takes (length (c ∷ v)) (lexemeOf o (c ∷ v))
 unfolding lexemeOf
 lexeme-takes o c v =

@@ -1,5 +1,6 @@
--- Openings, option letters and comments, as the functions read them: what each byte does, at the bytes from a place on. The byte 0, which stands for the
--- pattern's end, is refused as a letter as the end is.
+-- Openings, option letters and comments, as the functions read them: what each byte does, at the
+-- bytes from a place on. The byte 0, which stands for the pattern's end, is refused as a letter as
+-- the end is.
 use mathlib.Core.Path.{_≡_, refl, _∙_}
 use mathlib.Core.Bool.{Bool, true, false, cond}
 use mathlib.Core.List.{List, [], _∷_}

@@ -1,4 +1,5 @@
--- What begins with `(`: openings, option settings, comments, and what is refused. Assumes nothing: these are definitions.
+-- What begins with `(`: openings, option settings, comments, and what is refused. Assumes nothing:
+-- these are definitions.
 use mathlib.Core.Bool.{Bool, true, false, cond}
 use mathlib.Core.List.{List, [], _∷_}
 use Prim.Native.Nat.{ℕ, suc, _+_}
@@ -29,8 +30,10 @@ withDotAll b o = record { caseless = o .caseless; dotall = b; lines = o .lines; 
 abbrev pub withLines : Bool → Options → Options
 withLines b o = record { caseless = o .caseless; dotall = o .dotall; lines = b; quoted = o .quoted }
 
--- "Options `i` and `s`: `(?is-i)`, `(?i:..)`, at least one letter, at most one hyphen, applied left to right", and 14 lets `m` through. v is the pattern
--- after the bytes read so far, `size` their number from the `(` on, `on` until a hyphen, `any` once a letter was read; 14, "any other `(?`", for anything else.
+-- "Options `i` and `s`: `(?is-i)`, `(?i:..)`, at least one letter, at most one hyphen, applied left
+-- to right", and 14 lets `m` through. v is the pattern after the bytes read so far, `size` their
+-- number from the `(` on, `on` until a hyphen, `any` once a letter was read; 14, "any other `(?`",
+-- for anything else.
 unfoldable pub lettersOf : (on any : Bool) → Options → (size : ℕ) → List ℕ → Lexeme
 lettersOf on any o size [] = faulty 14
 lettersOf on any o size (c ∷ v) =
@@ -51,7 +54,8 @@ unfoldable pub beforeClose : List ℕ → ℕ
 beforeClose [] = 0
 beforeClose (c ∷ v) = cond (eqb c 41) 0 (suc (beforeClose v))
 
--- "`(?#..)`": v is the pattern after `(?#`. A comment ends at the first `)`; one without it has the rest of the pattern.
+-- "`(?#..)`": v is the pattern after `(?#`. A comment ends at the first `)`; one without it has the
+-- rest of the pattern.
 unfoldable pub commentOf : Options → List ℕ → Lexeme
 commentOf o v =
     cond (ltb (beforeClose v) (length v)) (plain (4 + beforeClose v) (Note o)) (plain (3 + beforeClose v) Unclosed)

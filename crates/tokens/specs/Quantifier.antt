@@ -29,8 +29,9 @@ bounded size lo hi =
 unfoldable pub open-ended : ℕ → ℕ → Form
 open-ended size lo = cond (ltb lo cap) (form size lo cap) (record { is = true; size = size; fault = 11; least = 0; extra = 0 })
 
--- "`{n}`, `{n,}`, `{n,m}`, `{,m}`. .. A brace that isn't one of these forms is literal, so `{,}` is three bytes": v is the pattern after the brace. The
--- lower number of `{,m}` is 0, as no digits have the value 0.
+-- "`{n}`, `{n,}`, `{n,m}`, `{,m}`. .. A brace that isn't one of these forms is literal, so `{,}` is
+-- three bytes": v is the pattern after the brace. The lower number of `{,m}` is 0, as no digits
+-- have the value 0.
 unfoldable pub bracesOf : List ℕ → Form
 bracesOf v =
     let a : Numeral = numeralOf 10 v in

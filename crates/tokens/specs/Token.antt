@@ -1,4 +1,5 @@
--- The token at a place outside a class, and the set of bytes that an item takes. Assumes nothing: these are definitions.
+-- The token at a place outside a class, and the set of bytes that an item takes. Assumes nothing:
+-- these are definitions.
 use mathlib.Core.Bool.{Bool, false, cond}
 use mathlib.Core.List.{List, [], _∷_}
 use Prim.Native.Nat.{ℕ}
@@ -28,8 +29,9 @@ escaped p = cond (eqb (p .fault) 0) (plain (p .size) (One (p .atom))) (faulty (p
 abbrev pub withQuoted : Bool → Options → Options
 withQuoted b o = record { caseless = o .caseless; dotall = o .dotall; lines = o .lines; quoted = b }
 
--- "A token is a byte, an escape, a quantifier with its mark, .. an opening, an option setting." What the byte c starts outside a quote, with v
--- after it, where o are the options there. "A byte stands for itself. .. `]` and `}` outside a class are literal."
+-- "A token is a byte, an escape, a quantifier with its mark, .. an opening, an option setting."
+-- What the byte c starts outside a quote, with v after it, where o are the options there. "A byte
+-- stands for itself. .. `]` and `}` outside a class are literal."
 unfoldable pub unquotedOf : Options → (c : ℕ) → List ℕ → Lexeme
 unquotedOf o c v =
     cond (eqb c 92) (escaped (escapeOf false v))
@@ -43,9 +45,10 @@ unquotedOf o c v =
     (cond (formOf (c ∷ v) .is) (quantifierOf (c ∷ v))
     (plain 1 (One (Byte c)))))))))))
 
--- The token at the front of v, where o are the options there, with its faults but that of a raw control byte. The marks of quotes are notes, as comments
--- are: "An empty quote and a lone `\E` count as comments". In a quote each byte stands for itself; "the literal interpretation continues to the end of the
--- pattern" where no `\E` ends it (source document 000).
+-- The token at the front of v, where o are the options there, with its faults but that of a raw
+-- control byte. The marks of quotes are notes, as comments are: "An empty quote and a lone `\E`
+-- count as comments". In a quote each byte stands for itself; "the literal interpretation continues
+-- to the end of the pattern" where no `\E` ends it (source document 000).
 unfoldable pub spelledOf : Options → List ℕ → Lexeme
 spelledOf o [] = plain 0 Finish
 spelledOf o (c ∷ v) =
@@ -78,8 +81,9 @@ lexemeOf o v =
 abbrev pub allButNewline : List ℕ
 allButNewline = complementOf (inserted emptySet 10)
 
--- The bytes that an item takes, with its options resolved. Caseless: "adds the other case of each member". "`.` is any byte but 10, or any byte under
--- dot-all. `\N` is any byte but 10 always." An assertion takes none.
+-- The bytes that an item takes, with its options resolved. Caseless: "adds the other case of each
+-- member". "`.` is any byte but 10, or any byte under dot-all. `\N` is any byte but 10 always." An
+-- assertion takes none.
 unfoldable pub itemSet : Options → Atom → List ℕ
 itemSet o (Byte b) = cond (o .caseless) (caseClosed (inserted emptySet b)) (inserted emptySet b)
 itemSet o (OfKind k) = setOf (isKind k)

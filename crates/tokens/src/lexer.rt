@@ -69,7 +69,8 @@ fn unquoted(s: &[u8], at: usize, options: Options) -> Lexeme
     }
 }
 
-// What stands at a place outside a class, where the options are these, with its faults but that of a raw control byte.
+// What stands at a place outside a class, where the options are these, with its faults but that of
+// a raw control byte.
 fn spelled(s: &[u8], at: usize, options: Options) -> Lexeme
     ensures { λ r. ⌜ r ≡ spelledOf options (drop at (now (s .entry))) ⌝ }
 {

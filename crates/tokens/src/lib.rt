@@ -1,6 +1,8 @@
-// One token at a place of the pattern outside a class: what stands there, how many bytes it takes, and its lowest fault. Quantifiers with their mark, option
-// settings, openings, comments, marks of quotes, and what atoms has: bytes and escapes. A place past the pattern's end reads as its end, so nothing is required of a caller. specs/
-// says what each function gives, for the bytes from the place on.
+// One token at a place of the pattern outside a class: what stands there, how many bytes it takes,
+// and its lowest fault. Quantifiers with their mark, option settings, openings, comments, marks of
+// quotes, and what atoms has: bytes and escapes. A place past the pattern's end reads as its end,
+// so nothing is required of a caller. specs/ says what each function gives, for the bytes from the
+// place on.
 mod lexer;
 mod option;
 mod quantifier;
@@ -43,8 +45,8 @@ pub enum Token {
     Bad,
 }
 
-// A quantifier without its mark: whether one stands here at all, its bytes, its fault 11 or 0, the least number of copies, and how many more;
-// 65,536 more is any number.
+// A quantifier without its mark: whether one stands here at all, its bytes, its fault 11 or 0, the
+// least number of copies, and how many more; 65,536 more is any number.
 pub struct Form {
     pub is: bool,
     pub size: usize,

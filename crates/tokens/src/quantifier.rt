@@ -1,4 +1,5 @@
-// Quantifiers with their mark. A brace that starts no complete form is no quantifier, so whether one stands at a place is part of the answer.
+// Quantifiers with their mark. A brace that starts no complete form is no quantifier, so whether
+// one stands at a place is part of the answer.
 use crate::Form;
 use crate::Lexeme;
 use crate::Token;

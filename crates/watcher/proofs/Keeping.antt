@@ -1,5 +1,5 @@
--- What the reading of the rules file keeps: a line adds to the list of additions or leaves the words
--- alone, so the words stay a table.
+-- What the reading of the rules file keeps: a line adds to the list of additions or leaves the
+-- words alone, so the words stay a table.
 use mathlib.Core.Path.{_≡_, refl, sym, ap, _∙_}
 use mathlib.Core.Bool.{Bool, true, false, cond}
 use mathlib.Core.List.{List, [], _∷_, _++_}

@@ -1,4 +1,5 @@
-// Standard output. Lines wait in a buffer, so that no line costs a call of its own; a write that fails ends the program.
+// Standard output. Lines wait in a buffer, so that no line costs a call of its own; a write that
+// fails ends the program.
 ghost use Prim.Native.Nat.{_≤_};
 ghost use lib.ListN.{length};
 use libc::STDOUT_FILENO;
@@ -21,7 +22,8 @@ pub fn say_too_long() -> bool {
     io::write_all(STDOUT_FILENO, b"rules too long\n")
 }
 
-// Says that a rule was refused: the line goes behind those that wait, which are written first where it does not fit. Of an accepted rule nothing is said.
+// Says that a rule was refused: the line goes behind those that wait, which are written first where
+// it does not fit. Of an accepted rule nothing is said.
 pub fn say_answer(out: &mut [u8], at: usize, line: u64, number: u32, place: usize) -> Said
     requires { ⌜ at ≤ length (now out) ⌝ }
     ensures { λ r. ⌜ r .next ≤ length (now (out .exit)) ⌝ }

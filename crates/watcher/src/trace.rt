@@ -1,5 +1,5 @@
-// Watching standard input where a rule needs a start: the state keeps starts, and what is written is
-// the same.
+// Watching standard input where a rule needs a start: the state keeps starts, and what is written
+// is the same.
 use crate::output;
 use crate::watch::read_block;
 use stream::NO_LIMIT;

@@ -1,5 +1,5 @@
--- What each return of the functions for C gives, from what was tested on the way: too few words for a
--- state, a call that was refused, a call that was accepted. Said once for both kinds of state.
+-- What each return of the functions for C gives, from what was tested on the way: too few words for
+-- a state, a call that was refused, a call that was accepted. Said once for both kinds of state.
 use mathlib.Core.Path.{_≡_, sym, ap, _∙_}
 use mathlib.Core.Bool.{Bool, true, false, cond}
 use mathlib.Core.List.{List}

@@ -1,5 +1,5 @@
--- A stored state is read back as the same state: each field comes from the words that it was put in,
--- so the next call on the words goes on from the state that the last one handed back.
+-- A stored state is read back as the same state: each field comes from the words that it was put
+-- in, so the next call on the words goes on from the state that the last one handed back.
 use mathlib.Core.Path.{_≡_, refl, sym, ap, subst, _∙_}
 use mathlib.Core.Bool.{Bool, true, false, cond, not, true≢false}
 use mathlib.Core.List.{List, [], _∷_, _++_}
@@ -201,7 +201,8 @@ module _ {S : Type 0} (f : Form S) (state : List ℕ) where
   unfolding openState
   opened-back opened e whole = ap (λ (b : Bool). f .read (cond b state (stored (f .words opened) state))) e ∙ whole
 
--- any call: accepted, the new state was stored; refused, the old one stays and is what was handed back
+-- any call: accepted, the new state was stored; refused, the old one stays and is what was handed
+-- back
 module _ {N S L : Type 0} (k : Call N S L) (state : List ℕ) where
   abbrev gave : Given N S L
   gave = k .gives (k .form .read state)
@@ -229,8 +230,8 @@ module _ (t state : List ℕ) where
   pub trace-open-back : short tracedForm state ≡ false → traceOf (openState tracedForm (trace.opened t .traced) state) ≡ trace.opened t .traced
   trace-open-back e = opened-back tracedForm state (trace.opened t .traced) e (trace-back (trace.opened t .traced) state (fresh-full t))
 
--- accepted or refused, a stream's state has four words in each set, and a refused call hands back the
--- one that it was given
+-- accepted or refused, a stream's state has four words in each set, and a refused call hands back
+-- the one that it was given
 module _ (t state : List ℕ) (c : stream.Call) where
   abbrev scan : Scanned
   scan = stream.scanned t (stateOf state) c

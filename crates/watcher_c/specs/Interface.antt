@@ -60,8 +60,8 @@ pub record Given (N S L : Type 0) : Type 0 where
   pub next : S
   pub slots : L
 
--- A call on a state in words: the kind of state, its numbers for too few words, the lists that it is
--- lent, and what it gives.
+-- A call on a state in words: the kind of state, its numbers for too few words, the lists that it
+-- is lent, and what it gives.
 pub record Call (N S L : Type 0) : Type 0 where
   pub form : Form S
   pub none : N

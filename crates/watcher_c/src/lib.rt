@@ -238,8 +238,8 @@ pub extern "C" fn watcher_matched_number(
     matched::matched_number(tail, block, offset, start, end)
 }
 
-// The plain second matcher, for disputes: what one rule reports on a whole log, by no table. Says how
-// many reports it wrote, and where the fault of a refused pattern lies.
+// The plain second matcher, for disputes: what one rule reports on a whole log, by no table. Says
+// how many reports it wrote, and where the fault of a refused pattern lies.
 #[no_mangle]
 pub extern "C" fn watcher_plain(
     pattern: &[u8],

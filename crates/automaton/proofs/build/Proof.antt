@@ -1,4 +1,5 @@
--- `build` meets its contract: the count says whether the positions fit, and then it is the number of positions.
+-- `build` meets its contract: the count says whether the positions fit, and then it is the number
+-- of positions.
 use mathlib.Core.Path.{_∙_}
 use Prim.Native.Nat.{ℕ, _+_, _≤_, _<_}
 use native.Mathlib.Omega.{arith}

@@ -1,4 +1,5 @@
--- `card::read_block` meets its contract: each refusal shows the test that fails; past them, the words written are those of the block.
+-- `card::read_block` meets its contract: each refusal shows the test that fails; past them, the
+-- words written are those of the block.
 use mathlib.Core.Path.{sym, _∙_}
 use native.Mathlib.Omega.{arith}
 use borrow.Author.Tests.{not-true, not-false}

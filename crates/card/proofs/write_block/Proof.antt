@@ -1,4 +1,5 @@
--- `card::write_block` meets its contract: each refusal shows the test that fails; past them, the writes make the image.
+-- `card::write_block` meets its contract: each refusal shows the test that fails; past them, the
+-- writes make the image.
 use mathlib.Core.Path.{sym, ap, _∙_}
 use native.Mathlib.Omega.{arith}
 use borrow.Author.Tests.{not-true, not-false}

@@ -1,4 +1,5 @@
--- `kinds::close_case` meets its contract: the loop collects each byte that is in the set or whose other case is.
+-- `kinds::close_case` meets its contract: the loop collects each byte that is in the set or whose
+-- other case is.
 use mathlib.Core.Path.{_≡_, sym, ap, ap₂, _∙_}
 use mathlib.Core.Bool.{Bool, _||_}
 use mathlib.Core.List.{List}

@@ -1,4 +1,5 @@
--- `kinds::kind_table` meets its contract: the test of `ruled` is computed over the whole table, and the law carries it to each entry.
+-- `kinds::kind_table` meets its contract: the test of `ruled` is computed over the whole table, and
+-- the law carries it to each entry.
 use mathlib.Core.Path.{refl}
 use Rattle.sets.specs.Set.{any}
 use Rattle.kinds.specs.Kind.{isDigit, isLower, isUpper, isWord, isSpace, isHorizontal, isVertical, isAlpha, isAlnum, isAscii, isBlank, isCntrl, isGraph, isPrint, isPunct, isXdigit, bitsOf, kindsOf}

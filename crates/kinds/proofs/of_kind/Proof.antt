@@ -1,4 +1,5 @@
--- `kinds::of_kind` meets its contract: the loop collects each byte whose entry has the type's bit, and the table's rule says which bytes those are.
+-- `kinds::of_kind` meets its contract: the loop collects each byte whose entry has the type's bit,
+-- and the table's rule says which bytes those are.
 use mathlib.Core.Path.{_≡_, ap₂, _∙_}
 use mathlib.Core.Bool.{Bool}
 use mathlib.Core.List.{List}

@@ -1,4 +1,5 @@
--- `kinds::swap_case` meets its contract: the entry's two bits tell the letter's case, and a letter's range keeps the sum and the difference in a byte.
+-- `kinds::swap_case` meets its contract: the entry's two bits tell the letter's case, and a
+-- letter's range keeps the sum and the difference in a byte.
 use mathlib.Core.Path.{_≡_, sym}
 use mathlib.Core.Bool.{true, false}
 use native.Mathlib.Omega.{arith}

@@ -1,4 +1,5 @@
--- `lines::decimal_of` meets its contract: it calls itself with a smaller number, whose digits leave room for one more.
+-- `lines::decimal_of` meets its contract: it calls itself with a smaller number, whose digits leave
+-- room for one more.
 use Prim.Native.Nat.{ℕ, _<_}
 use native.Mathlib.Omega.{arith}
 use borrow.Author.Needs.{needs}

@@ -1,4 +1,5 @@
--- `lines::askable` meets its contract: each branch is one case of the minimum, and past the limit the difference is 0.
+-- `lines::askable` meets its contract: each branch is one case of the minimum, and past the limit
+-- the difference is 0.
 use native.Mathlib.Omega.{arith}
 use Rattle.lines.specs.Numbers.{askable}
 use Rattle.lines.proofs.askable.Statement.{statement}

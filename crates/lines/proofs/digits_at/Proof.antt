@@ -1,4 +1,5 @@
--- `lines::digits_at` meets its contract: the loop's invariant is `Reading`, which takes a step at each digit and gives the answer where the digits end.
+-- `lines::digits_at` meets its contract: the loop's invariant is `Reading`, which takes a step at
+-- each digit and gives the answer where the digits end.
 use mathlib.Core.Path.{sym, _∙_}
 use Prim.Native.Nat.{ℕ, _-_, _≤_}
 use native.Mathlib.Omega.{arith}

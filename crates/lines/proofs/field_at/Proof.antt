@@ -1,4 +1,5 @@
--- `lines::field_at` meets its contract: its tests are the four properties of a field, and a field's number is below the cap and its space within the line.
+-- `lines::field_at` meets its contract: its tests are the four properties of a field, and a field's
+-- number is below the cap and its space within the line.
 use mathlib.Core.Path.{_≡_, refl, sym}
 use mathlib.Core.List.{List}
 use mathlib.Core.Logic.{⊎-elim}

@@ -1,4 +1,5 @@
--- `lines::line_end` meets its contract: the line that is read from `at` on ends where the whole line does, since no byte passed ends a line.
+-- `lines::line_end` meets its contract: the line that is read from `at` on ends where the whole
+-- line does, since no byte passed ends a line.
 use mathlib.Core.Path.{_≡_, refl, _∙_}
 use Prim.Native.Nat.{_-_}
 use native.Mathlib.Omega.{arith}

@@ -1,4 +1,5 @@
--- `lines::rule_line` meets its contract: the two fields, the second where the first one's space ends, decide as the definition does.
+-- `lines::rule_line` meets its contract: the two fields, the second where the first one's space
+-- ends, decide as the definition does.
 use mathlib.Core.Path.{_∙_}
 use borrow.Author.Needs.{needs}
 use borrow.Author.Tests.{not-true, not-false}

@@ -1,4 +1,5 @@
--- `matched::in_block` meets its contract: the difference is asked for only where the offset is not above the end.
+-- `matched::in_block` meets its contract: the difference is asked for only where the offset is not
+-- above the end.
 use native.Mathlib.Omega.{arith}
 use mathlib.Core.Bool.{and-eq-true-iff}
 use lib.Dec.{leb}

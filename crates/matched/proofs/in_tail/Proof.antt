@@ -1,4 +1,5 @@
--- `matched::in_tail` meets its contract: the difference is asked for only where the start is not above the offset.
+-- `matched::in_tail` meets its contract: the difference is asked for only where the start is not
+-- above the offset.
 use native.Mathlib.Omega.{arith}
 use mathlib.Core.Bool.{and-eq-true-iff}
 use lib.Dec.{leb}

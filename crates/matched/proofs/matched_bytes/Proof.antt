@@ -1,4 +1,5 @@
--- `matched::matched_bytes` meets its contract: what passes a test lies inside the list that was tested, so no difference wraps and the part is there.
+-- `matched::matched_bytes` meets its contract: what passes a test lies inside the list that was
+-- tested, so no difference wraps and the part is there.
 use mathlib.Core.Path.{sym, _∙_}
 use native.Mathlib.Omega.{arith}
 use denote.Ref.{now}

@@ -1,5 +1,6 @@
--- `read_all` meets its contract: each return is one law of `Whole` about the answer that the readers gave. The readers' contract names the tree in the words
--- afterwards, and the two figures are asked of that tree.
+-- `read_all` meets its contract: each return is one law of `Whole` about the answer that the
+-- readers gave. The readers' contract names the tree in the words afterwards, and the two figures
+-- are asked of that tree.
 use borrow.Author.Needs.{needs}
 use mathlib.Core.Path.{refl, sym, ap, _∙_}
 use native.Mathlib.Omega.{arith}

@@ -1,4 +1,5 @@
--- `rules::has_id` meets its contract. The loop's invariant: none of the rules before `a` has the id.
+-- `rules::has_id` meets its contract. The loop's invariant: none of the rules before `a` has the
+-- id.
 use Prim.Native.Nat.{_-_, _≤_}
 use native.Mathlib.Omega.{arith}
 use denote.Ref.{now}

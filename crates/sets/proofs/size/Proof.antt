@@ -1,4 +1,5 @@
--- `sets::size` meets its contract: the set digits of four words of 64 are counted one word after the other, 256 at most.
+-- `sets::size` meets its contract: the set digits of four words of 64 are counted one word after
+-- the other, 256 at most.
 use borrow.Author.Needs.{needs}
 use Prim.Native.Nat.{ℕ, _≤_, _<_}
 use native.Mathlib.Omega.{arith}

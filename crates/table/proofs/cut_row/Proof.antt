@@ -1,4 +1,5 @@
--- `table::cut_row` meets its contract: a set past the end has no members, and one that the end cuts off has words 0 there.
+-- `table::cut_row` meets its contract: a set past the end has no members, and one that the end cuts
+-- off has words 0 there.
 use mathlib.Core.Path.{_∙_}
 use native.Mathlib.Omega.{arith}
 use denote.Ref.{now}

@@ -1,4 +1,5 @@
--- `table::empty` meets its contract. The loop's invariant: the words are those with the format in front, with 0 at 1 up to w.
+-- `table::empty` meets its contract. The loop's invariant: the words are those with the format in
+-- front, with 0 at 1 up to w.
 use mathlib.Core.Path.{_≡_, refl, _∙_}
 use Prim.Native.Nat.{_-_, _≤_}
 use native.Mathlib.Omega.{arith}

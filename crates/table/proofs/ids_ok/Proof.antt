@@ -1,4 +1,5 @@
--- `table::ids_ok` meets its contract: the loop joins what tells of each id and the next that they are in order (`Seen`).
+-- `table::ids_ok` meets its contract: the loop joins what tells of each id and the next that they
+-- are in order (`Seen`).
 use mathlib.Core.Path.{_≡_, sym, ap, subst, _∙_}
 use Prim.Native.Nat.{ℕ, suc, _+_, _-_, _^_}
 use native.Mathlib.Omega.{arith}

@@ -1,4 +1,5 @@
--- `table::is_table` meets its contract: each early answer shows a link of the test that fails; with the header in order, the ids decide.
+-- `table::is_table` meets its contract: each early answer shows a link of the test that fails; with
+-- the header in order, the ids decide.
 use mathlib.Core.Path.{sym, _∙_}
 use native.Mathlib.Omega.{arith}
 use denote.Ref.{now}

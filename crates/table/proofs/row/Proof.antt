@@ -1,4 +1,5 @@
--- `table::row` meets its contract: four words that are there are the set of their members, and otherwise the end cuts the set off.
+-- `table::row` meets its contract: four words that are there are the set of their members, and
+-- otherwise the end cuts the set off.
 use native.Mathlib.Omega.{arith}
 use denote.Ref.{now}
 use Rattle.table.proofs.Rows.{row-words}

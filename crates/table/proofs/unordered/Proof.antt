@@ -1,4 +1,5 @@
--- `table::unordered` meets its contract: the difference wraps where the id is not below the next, and is then large.
+-- `table::unordered` meets its contract: the difference wraps where the id is not below the next,
+-- and is then large.
 use native.Mathlib.Omega.{arith}
 use Rattle.table.proofs.Ids.{told-apart}
 use Rattle.table.proofs.unordered.Statement.{statement}

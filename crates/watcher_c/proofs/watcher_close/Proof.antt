@@ -1,5 +1,5 @@
--- `watcher_c::watcher_close` meets its contract: too few words, a refused closing, an accepted one, whose
--- state is stored.
+-- `watcher_c::watcher_close` meets its contract: too few words, a refused closing, an accepted one,
+-- whose state is stored.
 use mathlib.Core.Path.{ap₂}
 use denote.Ref.{now}
 use Rattle.stream.specs.Calls.{lists}

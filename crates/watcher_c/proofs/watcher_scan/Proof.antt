@@ -1,5 +1,5 @@
--- `watcher_c::watcher_scan` meets its contract: too few words, a refused scan, an accepted one, whose
--- state is stored.
+-- `watcher_c::watcher_scan` meets its contract: too few words, a refused scan, an accepted one,
+-- whose state is stored.
 use mathlib.Core.Path.{ap₂}
 use denote.Ref.{now}
 use Rattle.stream.specs.Calls.{lists, call}

@@ -1,4 +1,5 @@
--- `watcher_c::watcher_write_block` meets its contract: number and place are those of the call's answer.
+-- `watcher_c::watcher_write_block` meets its contract: number and place are those of the call's
+-- answer.
 use borrow.Author.Needs.{needs}
 use mathlib.Core.Path.{ap}
 use Rattle.card.specs.declared.Stored.{Stored}

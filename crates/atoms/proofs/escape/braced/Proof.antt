@@ -1,5 +1,5 @@
--- `atoms::escape::braced` meets its contract: the definition, read at the number and at the byte after it, goes by the tests of the code. The digits
--- stand within the pattern, so no sum wraps.
+-- `atoms::escape::braced` meets its contract: the definition, read at the number and at the byte
+-- after it, goes by the tests of the code. The digits stand within the pattern, so no sum wraps.
 use Prim.Native.Nat.{_+_, _≤_}
 use native.Mathlib.Omega.{arith}
 use borrow.Author.Tests.{le-leb, lt-leb}

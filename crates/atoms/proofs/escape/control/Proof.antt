@@ -1,4 +1,5 @@
--- `atoms::escape::control` meets its contract: the byte at the place, 0 past the end, is from 32 to 126 or not.
+-- `atoms::escape::control` meets its contract: the byte at the place, 0 past the end, is from 32 to
+-- 126 or not.
 use mathlib.Core.Path.{ap, _∙_}
 use Prim.Native.Nat.{ℕ}
 use Rattle.atoms.specs.Escape.{good, flipped64}

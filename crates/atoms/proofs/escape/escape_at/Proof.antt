@@ -1,5 +1,5 @@
--- `atoms::escape::escape_at` meets its contract: the pattern ends, or its next byte is no letter or digit, or one of the four that take more bytes,
--- or another.
+-- `atoms::escape::escape_at` meets its contract: the pattern ends, or its next byte is no letter or
+-- digit, or one of the four that take more bytes, or another.
 use mathlib.Core.Path.{sym, _∙_}
 use native.Mathlib.Omega.{arith}
 use borrow.Author.Tests.{not-true, not-false}

@@ -1,4 +1,5 @@
--- `atoms::escape::is_alnum` meets its contract: a byte's kinds have the bit of letters and digits exactly if it is one.
+-- `atoms::escape::is_alnum` meets its contract: a byte's kinds have the bit of letters and digits
+-- exactly if it is one.
 use mathlib.Core.Path.{ap, _∙_}
 use Prim.Native.Nat.{ℕ}
 use Rattle.kinds.specs.declared.Kind.the-variants.{Alnum}

@@ -1,4 +1,5 @@
--- `atoms::escape::named_escape` meets its contract: the byte is one of the six letters, or none of them.
+-- `atoms::escape::named_escape` meets its contract: the byte is one of the six letters, or none of
+-- them.
 use borrow.Author.Tests.{ne-eqb}
 use Rattle.atoms.specs.Escape.{namedOf}
 use Rattle.atoms.proofs.escape.named_escape.Statement.{statement}

@@ -1,5 +1,5 @@
--- `atoms::escape::placed_escape` meets its contract: inside a class the byte is `b` or not, outside it is `N`, `A`, `Z`, `z`, `b`, `B` or none of
--- them.
+-- `atoms::escape::placed_escape` meets its contract: inside a class the byte is `b` or not, outside
+-- it is `N`, `A`, `Z`, `z`, `b`, `B` or none of them.
 use borrow.Author.Tests.{ne-eqb}
 use Rattle.atoms.specs.Escape.{placedOf}
 use Rattle.atoms.proofs.escape.placed_escape.Statement.{statement}

@@ -1,4 +1,5 @@
--- `atoms::escape::raise` meets its contract: bit 5 of a byte's kinds says whether it is a lower-case letter.
+-- `atoms::escape::raise` meets its contract: bit 5 of a byte's kinds says whether it is a
+-- lower-case letter.
 use Rattle.kinds.proofs.Bits.{marked, unmarked}
 use Rattle.atoms.specs.Escape.{raised}
 use Rattle.atoms.proofs.escape.raise.Statement.{statement}

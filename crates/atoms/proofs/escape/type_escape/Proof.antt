@@ -1,4 +1,5 @@
--- `atoms::escape::type_escape` meets its contract: the byte is one of the ten letters, or none of them.
+-- `atoms::escape::type_escape` meets its contract: the byte is one of the ten letters, or none of
+-- them.
 use borrow.Author.Tests.{ne-eqb}
 use Rattle.atoms.specs.Escape.{typeOf}
 use Rattle.atoms.proofs.escape.type_escape.Statement.{statement}

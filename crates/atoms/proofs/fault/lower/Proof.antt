@@ -1,4 +1,5 @@
--- `atoms::fault::lower` meets its contract: it asks what the definition asks, and of two faults gives the smaller.
+-- `atoms::fault::lower` meets its contract: it asks what the definition asks, and of two faults
+-- gives the smaller.
 use native.Mathlib.Omega.{arith}
 use borrow.Author.Tests.{eq-eqb, ne-eqb}
 use Rattle.atoms.specs.Fault.{lower}

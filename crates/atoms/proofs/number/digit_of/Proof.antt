@@ -1,4 +1,5 @@
--- `atoms::number::digit_of` meets its contract: it asks what the definition asks, in the same order.
+-- `atoms::number::digit_of` meets its contract: it asks what the definition asks, in the same
+-- order.
 use mathlib.Core.Path.{sym, _∙_}
 use native.Mathlib.Omega.{arith}
 use Rattle.atoms.specs.Number.{digitOf}

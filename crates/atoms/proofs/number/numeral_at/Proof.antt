@@ -1,5 +1,6 @@
--- `atoms::number::numeral_at` meets its contract. The invariant: of the digits after the blanks, those before i are read, and make the value, cut to the
--- cap. The measure is what is left of the bytes, since a digit's place is inside.
+-- `atoms::number::numeral_at` meets its contract. The invariant: of the digits after the blanks,
+-- those before i are read, and make the value, cut to the cap. The measure is what is left of the
+-- bytes, since a digit's place is inside.
 use Prim.Native.Nat.{_*_, _-_, _≤_}
 use native.Mathlib.Nat.{mul-le-mul}
 use native.Mathlib.Omega.{arith}

@@ -1,5 +1,5 @@
--- `atoms::number::past_blanks` meets its contract. The invariant: the blanks before i are passed. A blank stands inside, so the measure, what is left of
--- the bytes, falls.
+-- `atoms::number::past_blanks` meets its contract. The invariant: the blanks before i are passed. A
+-- blank stands inside, so the measure, what is left of the bytes, falls.
 use mathlib.Core.Path.{_≡_}
 use mathlib.Core.Bool.{true}
 use Prim.Native.Nat.{_-_}

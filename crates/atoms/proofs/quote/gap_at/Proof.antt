@@ -1,5 +1,5 @@
--- `atoms::quote::gap_at` meets its contract. The invariant: the marks before i are read. A mark stands inside, so the measure, what is left of the
--- bytes, falls.
+-- `atoms::quote::gap_at` meets its contract. The invariant: the marks before i are read. A mark
+-- stands inside, so the measure, what is left of the bytes, falls.
 use mathlib.Core.Path.{sym, _∙_}
 use Prim.Native.Nat.{_-_}
 use native.Mathlib.Omega.{arith}

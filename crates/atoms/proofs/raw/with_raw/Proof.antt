@@ -1,4 +1,5 @@
--- `atoms::raw::with_raw` meets its contract. The invariant: what the bytes from i on, as many as are left, make of the fault is what all of them make of it.
+-- `atoms::raw::with_raw` meets its contract. The invariant: what the bytes from i on, as many as
+-- are left, make of the fault is what all of them make of it.
 use mathlib.Core.Path.{_≡_, refl, sym, ap, _∙_}
 use Prim.Native.Nat.{ℕ, _-_}
 use native.Mathlib.Omega.{arith}

@@ -1,4 +1,5 @@
--- `forms::holds` meets its contract: it reads one digit, and the digit's number is that of the assertion.
+-- `forms::holds` meets its contract: it reads one digit, and the digit's number is that of the
+-- assertion.
 use mathlib.Core.Path.{_≡_, ap, _∙_}
 use mathlib.Core.Logic.{⊎-elim}
 use Prim.Native.Nat.{ℕ, _/_, _^_}

@@ -1,4 +1,5 @@
--- `card::bytes::number_at` meets its contract: the loop's invariant is that x is the number in the bytes from j on.
+-- `card::bytes::number_at` meets its contract: the loop's invariant is that x is the number in the
+-- bytes from j on.
 use Prim.Native.Nat.{_+_, _-_}
 use native.Mathlib.Omega.{arith}
 use denote.Ref.{now}

@@ -1,4 +1,5 @@
--- `card::crc::crc_of` meets its contract: a turn is the bit-by-bit step of a byte, by the table's rule.
+-- `card::crc::crc_of` meets its contract: a turn is the bit-by-bit step of a byte, by the table's
+-- rule.
 use Prim.Native.Nat.{_-_}
 use native.Mathlib.Omega.{arith}
 use denote.Ref.{now}

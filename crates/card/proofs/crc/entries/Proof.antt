@@ -1,4 +1,5 @@
--- `card::crc::entries` meets its contract: the test of `ruled` is computed over the whole table, and the law carries it to each entry.
+-- `card::crc::entries` meets its contract: the test of `ruled` is computed over the whole table,
+-- and the law carries it to each entry.
 use mathlib.Core.Path.{refl}
 use Rattle.sets.specs.Set.{any}
 use Rattle.card.specs.Crc.{crcBit, crcBits}

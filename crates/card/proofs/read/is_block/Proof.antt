@@ -1,4 +1,5 @@
--- `card::read::is_block` meets its contract: each early answer shows a link of the test that fails; with the others in order, the CRC decides.
+-- `card::read::is_block` meets its contract: each early answer shows a link of the test that fails;
+-- with the others in order, the CRC decides.
 use mathlib.Core.Path.{sym, ap, ap₂, _∙_}
 use mathlib.Core.Bool.{true≢false}
 use Prim.Native.Nat.{ℕ, _+_, _-_, _*_}

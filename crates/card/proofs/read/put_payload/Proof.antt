@@ -1,4 +1,5 @@
--- `card::read::put_payload` meets its contract: the loop's invariant is that the block's first j words are written.
+-- `card::read::put_payload` meets its contract: the loop's invariant is that the block's first j
+-- words are written.
 use mathlib.Core.Path.{_≡_, ap, _∙_}
 use Prim.Native.Nat.{ℕ, _+_, _-_, _*_, _≤_}
 use native.Mathlib.Omega.{arith}

@@ -1,4 +1,5 @@
--- `card::read::zeros_at` meets its contract: the loop's invariant is that the bytes passed are zero.
+-- `card::read::zeros_at` meets its contract: the loop's invariant is that the bytes passed are
+-- zero.
 use mathlib.Core.Path.{_≡_, sym, ap, _∙_}
 use mathlib.Core.Bool.{true}
 use Prim.Native.Nat.{ℕ, _+_, _-_, _≤_}

@@ -1,4 +1,5 @@
--- `card::write::put_crc` meets its contract: the loop's invariant is that the bytes of the CRC below k are written.
+-- `card::write::put_crc` meets its contract: the loop's invariant is that the bytes of the CRC
+-- below k are written.
 use Prim.Native.Nat.{ℕ, _-_, _≤_}
 use native.Mathlib.Omega.{arith}
 use mathlib.Core.Path.{refl, ap, _∙_}

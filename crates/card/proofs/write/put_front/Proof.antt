@@ -1,4 +1,5 @@
--- `card::write::put_front` meets its contract: the loop's invariant is that the bytes below k are written.
+-- `card::write::put_front` meets its contract: the loop's invariant is that the bytes below k are
+-- written.
 use Prim.Native.Nat.{_-_, _≤_}
 use native.Mathlib.Omega.{arith}
 use mathlib.Core.Path.{refl}

@@ -1,4 +1,5 @@
--- `classes::classes::class_at` meets its contract: after the marks stands `^`, outside a quote, or not.
+-- `classes::classes::class_at` meets its contract: after the marks stands `^`, outside a quote, or
+-- not.
 use mathlib.Core.Bool.{false, and-eq-true-iff}
 use Prim.Native.Nat.{_+_}
 use native.Mathlib.Omega.{arith}

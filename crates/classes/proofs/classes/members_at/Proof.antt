@@ -1,5 +1,6 @@
--- `classes::classes::members_at` meets its contract. The invariant: the members from i on, with what was collected, give the class that is asked for.
--- Each turn reads a mark or a member and goes on after it; the measure is what is left of the bytes.
+-- `classes::classes::members_at` meets its contract. The invariant: the members from i on, with
+-- what was collected, give the class that is asked for. Each turn reads a mark or a member and goes
+-- on after it; the measure is what is left of the bytes.
 use mathlib.Core.Path.{_≡_, sym, ap, _∙_}
 use mathlib.Core.Bool.{true, false}
 use mathlib.Core.List.{List}

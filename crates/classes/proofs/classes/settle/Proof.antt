@@ -1,4 +1,5 @@
--- `classes::classes::settle` meets its contract: the other case is added first, and then the set is turned or not.
+-- `classes::classes::settle` meets its contract: the other case is added first, and then the set is
+-- turned or not.
 use Rattle.classes.specs.Class.{settled}
 use Rattle.classes.proofs.classes.settle.Statement.{statement}
 use Rattle.classes.proofs.classes.settle.Tie as tie

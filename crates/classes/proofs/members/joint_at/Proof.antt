@@ -1,5 +1,5 @@
--- `classes::members::joint_at` meets its contract: the marks before and after the hyphen, and the bytes that follow them, decide. They stand in the
--- pattern, so no sum wraps.
+-- `classes::members::joint_at` meets its contract: the marks before and after the hyphen, and the
+-- bytes that follow them, decide. They stand in the pattern, so no sum wraps.
 use mathlib.Core.Path.{sym}
 use mathlib.Core.Bool.{false}
 use Prim.Native.Nat.{_+_}

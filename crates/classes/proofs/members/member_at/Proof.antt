@@ -1,4 +1,5 @@
--- `classes::members::member_at` meets its contract: the member or range, with the fault of a raw byte in it.
+-- `classes::members::member_at` meets its contract: the member or range, with the fault of a raw
+-- byte in it.
 use Rattle.classes.proofs.Ranges.{member-at-is}
 use Rattle.classes.proofs.members.member_at.Statement.{statement}
 use Rattle.classes.proofs.members.member_at.Tie as tie

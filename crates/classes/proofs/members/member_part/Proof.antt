@@ -1,5 +1,5 @@
--- `classes::members::member_part` meets its contract: the pattern ends, or its next byte is quoted, starts an escape or a class by name, or stands for
--- itself.
+-- `classes::members::member_part` meets its contract: the pattern ends, or its next byte is quoted,
+-- starts an escape or a class by name, or stands for itself.
 use mathlib.Core.Path.{sym, _∙_}
 use native.Mathlib.Omega.{arith}
 use borrow.Author.Tests.{ne-eqb}

@@ -1,4 +1,5 @@
--- `classes::members::range_fault` meets its contract: the definition, read at the two ends, goes by the tests of the code.
+-- `classes::members::range_fault` meets its contract: the definition, read at the two ends, goes by
+-- the tests of the code.
 use mathlib.Core.Path.{refl}
 use Rattle.classes.specs.Class.{byteOf}
 use Rattle.classes.proofs.Ranges.{range-fault-is}

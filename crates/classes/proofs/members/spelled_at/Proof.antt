@@ -1,5 +1,5 @@
--- `tokens::members::spelled_at` meets its contract: the member has no end, or it is joined to another, or it stands alone. What it takes stands in the
--- pattern, so no sum wraps.
+-- `tokens::members::spelled_at` meets its contract: the member has no end, or it is joined to
+-- another, or it stands alone. What it takes stands in the pattern, so no sum wraps.
 use mathlib.Core.Path.{refl}
 use Prim.Native.Nat.{_+_, _<_, _^_}
 use native.Mathlib.Omega.{arith}

@@ -1,4 +1,5 @@
--- `classes::names::atom_of` meets its contract: the kind that is read is the definition's, caseless or not.
+-- `classes::names::atom_of` meets its contract: the kind that is read is the definition's, caseless
+-- or not.
 use mathlib.Core.Path.{_≡_, _∙_}
 use mathlib.Core.Logic.{⊎-elim}
 use mathlib.Core.Bool.{true, false, cond}

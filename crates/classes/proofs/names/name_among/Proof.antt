@@ -1,5 +1,5 @@
--- `classes::names::name_among` meets its contract. The invariant: the names from the number on give what all of them give. The measure is how many are
--- left.
+-- `classes::names::name_among` meets its contract. The invariant: the names from the number on give
+-- what all of them give. The measure is how many are left.
 use mathlib.Core.Path.{_≡_, refl, sym, _∙_}
 use Prim.Native.Nat.{_-_}
 use native.Mathlib.Omega.{arith}

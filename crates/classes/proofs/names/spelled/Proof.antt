@@ -1,4 +1,5 @@
--- `classes::names::spelled` meets its contract. The invariant: the bytes of the text before k were seen at the place.
+-- `classes::names::spelled` meets its contract. The invariant: the bytes of the text before k were
+-- seen at the place.
 use mathlib.Core.Path.{_≡_, sym, _∙_}
 use mathlib.Core.Bool.{cond}
 use Prim.Native.Nat.{_-_, _≤_}

@@ -1,4 +1,5 @@
--- `lines::output::place` meets its contract: the loop's invariant is that the bytes passed are pasted.
+-- `lines::output::place` meets its contract: the loop's invariant is that the bytes passed are
+-- pasted.
 use Prim.Native.Nat.{_-_}
 use native.Mathlib.Omega.{arith}
 use lib.ListN.{length}

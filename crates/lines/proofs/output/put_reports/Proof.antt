@@ -1,4 +1,5 @@
--- `lines::output::put_reports` meets its contract: the loop's invariant is that the lines of the reports passed are placed.
+-- `lines::output::put_reports` meets its contract: the loop's invariant is that the lines of the
+-- reports passed are placed.
 use mathlib.Core.Path.{_≡_, refl, ap, _∙_}
 use Prim.Native.Nat.{_-_, _≤_, min}
 use native.Mathlib.Omega.{arith}

@@ -1,4 +1,5 @@
--- `lines::output::refused_text` meets its contract: the parts of the line are put one after the other, and there is room for each.
+-- `lines::output::refused_text` meets its contract: the parts of the line are put one after the
+-- other, and there is room for each.
 use native.Mathlib.Omega.{arith}
 use Rattle.lines.specs.Output.{refusedLine}
 use Rattle.lines.proofs.Laws.{most-digits}

@@ -1,4 +1,5 @@
--- `lines::output::with_bytes` meets its contract: the text is a buffer, in which the bytes are placed.
+-- `lines::output::with_bytes` meets its contract: the text is a buffer, in which the bytes are
+-- placed.
 use mathlib.Core.Path.{ap}
 use Rattle.lines.specs.Invariants.{asText, joined}
 use borrow.Author.Needs.{needs}

@@ -1,5 +1,5 @@
--- `take_byte` meets its contract: a byte that the log has not, or rows that no rule has, are none of a
--- rule's.
+-- `take_byte` meets its contract: a byte that the log has not, or rows that no rule has, are none
+-- of a rule's.
 use native.Mathlib.Omega.{arith}
 use Rattle.marks.proofs.byte.take_byte.Statement.{statement}
 use Rattle.marks.proofs.byte.take_byte.Tie as tie

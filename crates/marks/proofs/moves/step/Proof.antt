@@ -1,5 +1,5 @@
--- `step` meets its contract. The invariant: what is left below row j makes of the present marks what
--- all makes of the first ones.
+-- `step` meets its contract. The invariant: what is left below row j makes of the present marks
+-- what all makes of the first ones.
 use mathlib.Core.Path.{_≡_, refl, sym, _∙_}
 use Prim.Native.Nat.{_-_, _≤_}
 use native.Mathlib.Omega.{arith}

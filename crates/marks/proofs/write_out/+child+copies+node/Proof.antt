@@ -1,6 +1,6 @@
--- The three functions that write the form out meet their contracts: each return is one law that puts
--- the rows of the parts together. The measure is the node's number, and within one node the copies that
--- are left.
+-- The three functions that write the form out meet their contracts: each return is one law that
+-- puts the rows of the parts together. The measure is the node's number, and within one node the
+-- copies that are left.
 use mathlib.Core.Path.{refl, ap}
 use mathlib.Core.Bool.{false}
 use Prim.Native.Nat.{ℕ, _+_, _*_, _-_, _^_, _<_}

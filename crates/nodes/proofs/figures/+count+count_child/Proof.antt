@@ -1,4 +1,6 @@
--- The count of positions and the count of a child meet their contracts together: the node number falls from a node to its child. The laws of `Counts` say what a node's figure is by its children's.
+-- The count of positions and the count of a child meet their contracts together: the node number
+-- falls from a node to its child. The laws of `Counts` say what a node's figure is by its
+-- children's.
 use Prim.Native.Nat.{ℕ, _+_, _*_, _^_, _<_, _≤_}
 use mathlib.Core.Logic.{inl, inr, ⊎-elim}
 use borrow.Author.Needs.{needs}

@@ -1,4 +1,6 @@
--- The test for matching no bytes and the test of a child meet their contracts together: the node number falls from a node to its child. The laws of `Counts` say what a node's figure is by its children's.
+-- The test for matching no bytes and the test of a child meet their contracts together: the node
+-- number falls from a node to its child. The laws of `Counts` say what a node's figure is by its
+-- children's.
 use Prim.Native.Nat.{ℕ, _+_, _*_, _<_}
 use mathlib.Core.Path.{_∙_}
 use borrow.Author.Tests.{eq-eqb}

@@ -1,5 +1,6 @@
--- The readers of branches, of a sequence and of an item meet their contracts together. The measure is three for each unread byte, and the order of the
--- calls at one place. Every return is one law of `Returns`; the other answers are places inside the pattern and room in the words.
+-- The readers of branches, of a sequence and of an item meet their contracts together. The measure
+-- is three for each unread byte, and the order of the calls at one place. Every return is one law
+-- of `Returns`; the other answers are places inside the pattern and room in the words.
 use Prim.Native.Nat.{ℕ, _+_, _*_, _-_, _<_}
 use mathlib.Core.Path.{sym, ap, _∙_}
 use mathlib.Core.Logic.{inl, inr, ⊎-elim}

@@ -1,5 +1,6 @@
--- `items::quantified` meets its contract: the token at the place is a note, a quantifier with a fault, one without, or something else. The measure is the
--- unread length. Each return is a law of `Returns`.
+-- `items::quantified` meets its contract: the token at the place is a note, a quantifier with a
+-- fault, one without, or something else. The measure is the unread length. Each return is a law of
+-- `Returns`.
 use Prim.Native.Nat.{ℕ, _-_, _<_}
 use borrow.Author.Needs.{needs}
 use mathlib.Core.Path.{refl, sym}

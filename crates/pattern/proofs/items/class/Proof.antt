@@ -1,5 +1,5 @@
--- `items::class` meets its contract: a refused class is the walk's refusal, and any other is an item that a quantifier may follow. Each return is a law of
--- `Returns`.
+-- `items::class` meets its contract: a refused class is the walk's refusal, and any other is an
+-- item that a quantifier may follow. Each return is a law of `Returns`.
 use borrow.Author.Needs.{needs}
 use native.Mathlib.Omega.{arith}
 use Rattle.pattern.proofs.Returns as returned

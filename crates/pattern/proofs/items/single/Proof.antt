@@ -1,4 +1,5 @@
--- `items::single` meets its contract, by what the atom is: one of the seven assertions, or an item that a quantifier may follow. Each return is a law of `Returns`.
+-- `items::single` meets its contract, by what the atom is: one of the seven assertions, or an item
+-- that a quantifier may follow. Each return is a law of `Returns`.
 use mathlib.Core.Path.{refl}
 use borrow.Author.Needs.{needs}
 use native.Mathlib.Omega.{arith}

@@ -1,4 +1,5 @@
--- `nodes::put_item` meets its contract: five stores in a row are one run of stores (`item-sets`), and the words have room for them.
+-- `nodes::put_item` meets its contract: five stores in a row are one run of stores (`item-sets`),
+-- and the words have room for them.
 use borrow.Author.Needs.{needs}
 use Rattle.nodes.proofs.Trees.{item-sets}
 use Rattle.pattern.proofs.writer.put_item.Statement.{statement}

@@ -1,4 +1,5 @@
--- `close` meets its contract: what the end settles is what the definitions say, and there is room for it.
+-- `close` meets its contract: what the end settles is what the definitions say, and there is room
+-- for it.
 use native.Mathlib.Omega.{arith}
 use Rattle.plain.proofs.Runs.{taking, close-slots, close-is}
 use borrow.Author.Needs.{needs}

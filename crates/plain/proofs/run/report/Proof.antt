@@ -1,5 +1,5 @@
--- `report` meets its contract: the slot `count` of both lists is written where the report is due and
--- allowed, and there is one.
+-- `report` meets its contract: the slot `count` of both lists is written where the report is due
+-- and allowed, and there is one.
 use borrow.Author.Needs.{needs}
 use native.Mathlib.Omega.{arith}
 use mathlib.Core.Path.{refl}

@@ -1,4 +1,5 @@
--- `run` meets its contract. The invariant: the marks, what can end and the reports are those after k bytes.
+-- `run` meets its contract. The invariant: the marks, what can end and the reports are those after
+-- k bytes.
 use mathlib.Core.Path.{_≡_, refl, sym, ap, _∙_}
 use Prim.Native.Nat.{suc, _+_, _-_, _≤_}
 use native.Mathlib.Omega.{arith}

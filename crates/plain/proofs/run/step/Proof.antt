@@ -1,4 +1,5 @@
--- `step` meets its contract: what the byte settles is what the definitions say, and there is room for it.
+-- `step` meets its contract: what the byte settles is what the definitions say, and there is room
+-- for it.
 use native.Mathlib.Omega.{arith}
 use Rattle.plain.proofs.Runs.{taking, step-slots, step-is}
 use borrow.Author.Needs.{needs}

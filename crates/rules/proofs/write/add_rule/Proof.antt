@@ -1,4 +1,5 @@
--- `rules::write::add_rule` meets its contract: each call wrote its part, and together they are the defined words.
+-- `rules::write::add_rule` meets its contract: each call wrote its part, and together they are the
+-- defined words.
 use native.Mathlib.Omega.{arith}
 use denote.Ref.{now}
 use Rattle.table.specs.Layout.{positionsOf}

@@ -1,4 +1,5 @@
--- `rules::write::digit_at` meets its contract: each return is one case, and a digit is read by a shift.
+-- `rules::write::digit_at` meets its contract: each return is one case, and a digit is read by a
+-- shift.
 use mathlib.Core.Path.{ap}
 use Prim.Native.Nat.{ℕ, _-_, _/_, _^_}
 use native.Mathlib.Omega.{arith}

@@ -1,4 +1,5 @@
--- `rules::write::inner_rows` meets its contract: each turn joins the set of one gap between two bytes.
+-- `rules::write::inner_rows` meets its contract: each turn joins the set of one gap between two
+-- bytes.
 use mathlib.Core.Path.{_≡_, ap₂, _∙_}
 use Prim.Native.Nat.{_-_, _≤_}
 use native.Mathlib.Omega.{arith}

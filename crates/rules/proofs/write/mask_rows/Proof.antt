@@ -1,4 +1,5 @@
--- `rules::write::mask_rows` meets its contract. The loop's invariant: the rows before `k` are masked.
+-- `rules::write::mask_rows` meets its contract. The loop's invariant: the rows before `k` are
+-- masked.
 use mathlib.Core.Path.{ap, _∙_}
 use mathlib.Core.List.{List}
 use Prim.Native.Nat.{ℕ, _+_, _-_, _*_, _≤_}

@@ -1,4 +1,5 @@
--- `rules::write::merge_row` meets its contract: what it reads, masks and joins is put back in one piece.
+-- `rules::write::merge_row` meets its contract: what it reads, masks and joins is put back in one
+-- piece.
 use native.Mathlib.Omega.{arith}
 use denote.Ref.{now}
 use Rattle.rules.proofs.Steps.{merge-is}

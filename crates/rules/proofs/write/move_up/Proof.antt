@@ -1,4 +1,5 @@
--- `rules::write::move_up` meets its contract. The loop's invariant: from the top down, the words from `i` on stand one up; what is read next lies below them.
+-- `rules::write::move_up` meets its contract. The loop's invariant: from the top down, the words
+-- from `i` on stand one up; what is read next lies below them.
 use mathlib.Core.Path.{_≡_, ap, _∙_}
 use Prim.Native.Nat.{ℕ, _+_, _-_, _≤_}
 use native.Mathlib.Omega.{arith}

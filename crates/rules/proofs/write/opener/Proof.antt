@@ -1,4 +1,5 @@
--- `rules::write::opener` meets its contract: the takers of the byte meet the first positions inside a stream, or not.
+-- `rules::write::opener` meets its contract: the takers of the byte meet the first positions inside
+-- a stream, or not.
 use mathlib.Core.Path.{sym, _∙_}
 use mathlib.Core.Bool.{true, false}
 use native.Mathlib.Omega.{arith}

@@ -1,4 +1,5 @@
--- `rules::write::place_of` meets its contract. The loop's invariant: `k` counts the smaller ids before `a`.
+-- `rules::write::place_of` meets its contract. The loop's invariant: `k` counts the smaller ids
+-- before `a`.
 use mathlib.Core.Path.{_≡_, ap, _∙_}
 use mathlib.Core.Logic.{⊎-elim}
 use Prim.Native.Nat.{ℕ, _-_, _≤_}

@@ -1,4 +1,5 @@
--- `rules::write::put_follow` meets its contract: the old rows are masked, and the new ones copied after them.
+-- `rules::write::put_follow` meets its contract: the old rows are masked, and the new ones copied
+-- after them.
 use mathlib.Core.Path.{ap, _∙_}
 use Prim.Native.Nat.{_+_, _*_}
 use native.Mathlib.Omega.{arith}

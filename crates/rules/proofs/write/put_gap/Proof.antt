@@ -1,4 +1,5 @@
--- `rules::write::put_gap` meets its contract: each call wrote its part, and the gap's number says which of the parts there are.
+-- `rules::write::put_gap` meets its contract: each call wrote its part, and the gap's number says
+-- which of the parts there are.
 use mathlib.Core.Path.{_≡_, ap, _∙_}
 use Prim.Native.Nat.{ℕ, _+_, _*_}
 use native.Mathlib.Omega.{arith}

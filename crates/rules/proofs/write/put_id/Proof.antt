@@ -1,4 +1,5 @@
--- `rules::write::put_id` meets its contract: the ids from the place on go one up, and the new one is written there.
+-- `rules::write::put_id` meets its contract: the ids from the place on go one up, and the new one
+-- is written there.
 use native.Mathlib.Omega.{arith}
 use denote.Ref.{now}
 use Rattle.rules.proofs.Steps.{id-is}

@@ -1,4 +1,5 @@
--- `rules::write::put_lates` meets its contract: what the last sets between two bytes have, and not the one where it is not known what follows.
+-- `rules::write::put_lates` meets its contract: what the last sets between two bytes have, and not
+-- the one where it is not known what follows.
 use native.Mathlib.Omega.{arith}
 use denote.Ref.{now}
 use Rattle.rules.proofs.Steps.{lates-is}

@@ -1,4 +1,5 @@
--- `rules::write::put_openers` meets its contract: the loop writes a word for each byte, and leaves the sets that it reads.
+-- `rules::write::put_openers` meets its contract: the loop writes a word for each byte, and leaves
+-- the sets that it reads.
 use mathlib.Core.Path.{_≡_, sym, ap, _∙_}
 use mathlib.Core.List.{List}
 use Prim.Native.Nat.{ℕ, _+_, _-_, _≤_, _<_}

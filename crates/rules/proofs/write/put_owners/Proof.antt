@@ -1,4 +1,5 @@
--- `rules::write::put_owners` meets its contract: the loop writes the owners from the lowest position up, each from what stood there.
+-- `rules::write::put_owners` meets its contract: the loop writes the owners from the lowest
+-- position up, each from what stood there.
 use mathlib.Core.Path.{_≡_, ap₂, _∙_}
 use Prim.Native.Nat.{_-_, _≤_}
 use native.Mathlib.Omega.{arith}

@@ -1,4 +1,5 @@
--- `rules::write::put_words` meets its contract. The loop's invariant: the words before `i` are written.
+-- `rules::write::put_words` meets its contract. The loop's invariant: the words before `i` are
+-- written.
 use mathlib.Core.Path.{_≡_, ap}
 use Prim.Native.Nat.{ℕ, _+_, _-_, _≤_}
 use native.Mathlib.Omega.{arith}

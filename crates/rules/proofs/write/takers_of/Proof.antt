@@ -1,4 +1,5 @@
--- `rules::write::takers_of` meets its contract. The loop's invariant: the set has the takers among the first `i` new positions.
+-- `rules::write::takers_of` meets its contract. The loop's invariant: the set has the takers among
+-- the first `i` new positions.
 use mathlib.Core.Path.{_≡_, sym, ap, _∙_}
 use mathlib.Core.Logic.{⊎-elim}
 use mathlib.Core.List.{List}

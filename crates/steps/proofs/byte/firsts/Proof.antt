@@ -1,4 +1,5 @@
--- `steps::byte::firsts` meets its contract: the gap has its set in the table, and no position counts where no match can begin with the byte.
+-- `steps::byte::firsts` meets its contract: the gap has its set in the table, and no position
+-- counts where no match can begin with the byte.
 use mathlib.Core.Path.{sym, ap, _∙_}
 use mathlib.Core.Bool.{Bool, _||_}
 use denote.Ref.{now}

@@ -1,4 +1,5 @@
--- `steps::byte::step` meets its contract: the first positions, joined with what follows each live one, are met with the byte's row and kept below the count.
+-- `steps::byte::step` meets its contract: the first positions, joined with what follows each live
+-- one, are met with the byte's row and kept below the count.
 use mathlib.Core.Path.{sym, ap, ap₂, subst, _∙_}
 use mathlib.Core.Bool.{false}
 use mathlib.Core.List.{List}

@@ -1,4 +1,5 @@
--- `steps::line::line_step` meets its contract: the first positions, joined with what follows each live one, are met with the byte's row and kept below the count.
+-- `steps::line::line_step` meets its contract: the first positions, joined with what follows each
+-- live one, are met with the byte's row and kept below the count.
 use mathlib.Core.Bool.{true}
 use mathlib.Core.Path.{sym, ap, ap₂, subst, _∙_}
 use mathlib.Core.List.{List}

@@ -1,4 +1,5 @@
--- `steps::line::line_walk` meets its contract: each turn joins the rows of the positions of one word of the live set.
+-- `steps::line::line_walk` meets its contract: each turn joins the rows of the positions of one
+-- word of the live set.
 use mathlib.Core.Path.{_≡_, ap, _∙_}
 use mathlib.Core.List.{List}
 use Prim.Native.Nat.{ℕ, _+_, _*_, _-_, _≤_, _<_}

@@ -1,4 +1,5 @@
--- `steps::rows::closing` meets its contract: the digits of the rules that end at the stream's end, without those of the rules that end whatever follows.
+-- `steps::rows::closing` meets its contract: the digits of the rules that end at the stream's end,
+-- without those of the rules that end whatever follows.
 use mathlib.Core.Path.{sym, ap₂, subst, _∙_}
 use mathlib.Core.List.{List}
 use Prim.Native.Nat.{ℕ, _<_}

@@ -1,4 +1,5 @@
--- `steps::rows::ending` meets its contract: the rules that end at the gap of which it is not known what follows.
+-- `steps::rows::ending` meets its contract: the rules that end at the gap of which it is not known
+-- what follows.
 use mathlib.Core.Path.{sym, _∙_}
 use denote.Ref.{now}
 use lib.Dec.{lit<}

@@ -1,4 +1,5 @@
--- `steps::rows::ending_at` meets its contract: the owners of the positions of the set that can end a match at the gap.
+-- `steps::rows::ending_at` meets its contract: the owners of the positions of the set that can end
+-- a match at the gap.
 use mathlib.Core.Path.{_∙_}
 use native.Mathlib.Omega.{arith}
 use denote.Ref.{now}

@@ -1,4 +1,5 @@
--- `steps::rows::lasts` meets its contract: the last set of the gap of which it is not known what follows.
+-- `steps::rows::lasts` meets its contract: the last set of the gap of which it is not known what
+-- follows.
 use mathlib.Core.Path.{sym, _∙_}
 use denote.Ref.{now}
 use lib.Dec.{lit<}

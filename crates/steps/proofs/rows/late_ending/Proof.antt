@@ -1,5 +1,5 @@
--- `steps::rows::late_ending` meets its contract: the digits of the rules that end at the gap with a position that waits for the next byte, without those of the rules
--- that end whatever follows.
+-- `steps::rows::late_ending` meets its contract: the digits of the rules that end at the gap with a
+-- position that waits for the next byte, without those of the rules that end whatever follows.
 use mathlib.Core.Path.{sym, ap, ap₂, subst, _∙_}
 use mathlib.Core.List.{List}
 use Prim.Native.Nat.{ℕ, _<_}

@@ -1,5 +1,5 @@
--- `steps::rows::line_ending` meets its contract: the digits of the rules that end before a newline that is the last byte, without those of the rules that end before any
--- newline.
+-- `steps::rows::line_ending` meets its contract: the digits of the rules that end before a newline
+-- that is the last byte, without those of the rules that end before any newline.
 use mathlib.Core.Path.{sym, ap, subst, _∙_}
 use Prim.Native.Nat.{ℕ, _<_}
 use native.Mathlib.Nat.{lt-trans}

@@ -1,5 +1,6 @@
--- `steps::rows::owner_word` meets its contract: each turn asks the lowest digit that is left and clears it, so that after n turns the owners of the first n are
--- collected, and as long as a digit is left there are turns to come.
+-- `steps::rows::owner_word` meets its contract: each turn asks the lowest digit that is left and
+-- clears it, so that after n turns the owners of the first n are collected, and as long as a digit
+-- is left there are turns to come.
 use mathlib.Core.Path.{_≡_, refl, sym, ap, ap₂, _∙_, subst}
 use mathlib.Core.List.{List}
 use Prim.Native.Nat.{ℕ, _+_, _*_, _-_, _^_, _<_, _≤_, zero-le}

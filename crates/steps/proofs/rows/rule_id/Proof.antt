@@ -1,4 +1,5 @@
--- `steps::rows::rule_id` meets its contract: below the limit the automaton has the id, and past it 0.
+-- `steps::rows::rule_id` meets its contract: below the limit the automaton has the id, and past it
+-- 0.
 use mathlib.Core.Path.{_∙_}
 use native.Mathlib.Omega.{arith}
 use denote.Ref.{now}

@@ -1,4 +1,5 @@
--- `steps::rows::singles` meets its contract: the word that the table has for it, where there are words enough.
+-- `steps::rows::singles` meets its contract: the word that the table has for it, where there are
+-- words enough.
 use mathlib.Core.Path.{sym, _∙_}
 use native.Mathlib.Omega.{arith}
 use denote.Ref.{now}

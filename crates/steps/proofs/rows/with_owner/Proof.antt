@@ -1,4 +1,5 @@
--- `steps::rows::with_owner` meets its contract: a digit is set where the place is below the number of rules.
+-- `steps::rows::with_owner` meets its contract: a digit is set where the place is below the number
+-- of rules.
 use mathlib.Core.Path.{sym, ap, _∙_}
 use native.Mathlib.Omega.{arith}
 use lib.Bits.{bitOr}

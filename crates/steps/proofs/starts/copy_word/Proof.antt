@@ -1,5 +1,5 @@
--- `steps::starts::copy_word` meets its contract: each turn copies the start at the lowest digit that
--- is left, and clears it.
+-- `steps::starts::copy_word` meets its contract: each turn copies the start at the lowest digit
+-- that is left, and clears it.
 use native.Mathlib.Omega.{arith}
 use Prim.Native.Nat.{ℕ, _<_}
 use denote.Ref.{now}

@@ -1,4 +1,5 @@
--- `steps::starts::follow_word` meets its contract: each turn carries the start of the lowest position that is left along its row, and clears it.
+-- `steps::starts::follow_word` meets its contract: each turn carries the start of the lowest
+-- position that is left along its row, and clears it.
 use mathlib.Core.Path.{_≡_, ap, _∙_}
 use mathlib.Core.List.{List}
 use Prim.Native.Nat.{ℕ}

@@ -1,4 +1,5 @@
--- `steps::starts::put_word` meets its contract: each turn puts the start in at the lowest digit that is left, and clears it.
+-- `steps::starts::put_word` meets its contract: each turn puts the start in at the lowest digit
+-- that is left, and clears it.
 use mathlib.Core.Path.{_≡_}
 use native.Mathlib.Omega.{arith}
 use lib.Count.{trailingZeros}

@@ -1,4 +1,5 @@
--- `steps::starts::step_starts` meets its contract: this offset is put in for the positions after the byte, and the starts of those before it are carried along.
+-- `steps::starts::step_starts` meets its contract: this offset is put in for the positions after
+-- the byte, and the starts of those before it are carried along.
 use mathlib.Core.Path.{sym, ap, subst, _∙_}
 use mathlib.Core.List.{List}
 use Prim.Native.Nat.{ℕ, _<_}

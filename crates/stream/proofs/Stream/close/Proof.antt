@@ -1,4 +1,5 @@
--- `stream::Stream::close` meets its contract: the number settles which way it goes, and both runs are written.
+-- `stream::Stream::close` meets its contract: the number settles which way it goes, and both runs
+-- are written.
 use mathlib.Core.Path.{_≡_, subst}
 use mathlib.Core.List.{List}
 use Prim.Native.Nat.{ℕ, _*_, _≤_}

@@ -50,7 +50,8 @@ returns c =
     let r = c .before in
     scan-refused (t r) (start r .args .self) (inputs r) (r .refusal .result) (number r) (c .if1 .taken)
 
--- what is known where the call is accepted: the words of the table are there, and are a table by themselves
+-- what is known where the call is accepted: the words of the table are there, and are a table by
+-- themselves
 module _ (e : tie.Else1) where
   abbrev numbered-at : tie.After-refusal
   numbered-at = e .before

@@ -1,4 +1,5 @@
--- `stream::checks::fits_table` meets its contract: it joins the tests of `sound`, both sets' in one.
+-- `stream::checks::fits_table` meets its contract: it joins the tests of `sound`, both sets' in
+-- one.
 use mathlib.Core.Path.{ap, _∙_}
 use mathlib.Core.Bool.{not, _&&_, _||_}
 use mathlib.Core.List.{List}

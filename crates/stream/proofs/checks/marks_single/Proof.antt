@@ -1,4 +1,5 @@
--- `stream::checks::marks_single` meets its contract: no digit is left of the marks without the single-match rules.
+-- `stream::checks::marks_single` meets its contract: no digit is left of the marks without the
+-- single-match rules.
 use mathlib.Core.Path.{_∙_}
 use mathlib.Core.Bool.{_&&_}
 use denote.Ref.{now}

@@ -1,5 +1,5 @@
--- `stream::checks::needs_starts` meets its contract: it asks for a keeper that is a position, and for a rule that
--- reports starts.
+-- `stream::checks::needs_starts` meets its contract: it asks for a keeper that is a position, and
+-- for a rule that reports starts.
 use mathlib.Core.Path.{_≡_, sym, ap, _∙_}
 use mathlib.Core.Bool.{Bool, true, not, _||_, _&&_}
 use mathlib.Core.List.{List}

@@ -1,4 +1,5 @@
--- `stream::checks::pending_inside` meets its contract: shifted by the number of rules, nothing is left.
+-- `stream::checks::pending_inside` meets its contract: shifted by the number of rules, nothing is
+-- left.
 use borrow.Author.Needs.{needs}
 use borrow.Author.Tests.{le-leb}
 use mathlib.Core.Path.{_∙_}

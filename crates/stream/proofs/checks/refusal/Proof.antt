@@ -1,4 +1,5 @@
--- `stream::checks::refusal` meets its contract: at each return the tests before it held, and its own failed.
+-- `stream::checks::refusal` meets its contract: at each return the tests before it held, and its
+-- own failed.
 use mathlib.Core.Path.{_≡_, sym, _∙_}
 use mathlib.Core.Bool.{true}
 use mathlib.Core.List.{List}

@@ -1,4 +1,5 @@
--- `stream::reports::write_closing` meets its contract: the held pairs, then the rules that need the stream's end. There is room for two reports of each rule.
+-- `stream::reports::write_closing` meets its contract: the held pairs, then the rules that need the
+-- stream's end. There is room for two reports of each rule.
 use mathlib.Core.Path.{_≡_, _∙_}
 use mathlib.Core.Bool.{Bool}
 use mathlib.Core.List.{List}

@@ -1,4 +1,5 @@
--- `stream::reports::write_two` meets its contract: the second run is written behind the first. Room for both is room for each.
+-- `stream::reports::write_two` meets its contract: the second run is written behind the first. Room
+-- for both is room for each.
 use borrow.Author.Needs.{needs}
 use Prim.Native.Nat.{ℕ}
 use denote.Ref.{now}

@@ -1,5 +1,5 @@
--- `stream::scan::ahead` meets its contract: a live set with a member is not passed over, nor is the first byte of the stream, and each turn passes one byte with which
--- no match can begin.
+-- `stream::scan::ahead` meets its contract: a live set with a member is not passed over, nor is the
+-- first byte of the stream, and each turn passes one byte with which no match can begin.
 use mathlib.Core.Path.{_≡_, refl, sym, ap, _∙_, subst}
 use mathlib.Core.Bool.{Bool, true, false, not, _||_, true≢false}
 use Prim.Native.Nat.{ℕ, _+_, _-_, _<_, _≤_, min}

@@ -1,4 +1,5 @@
--- `stream::scan::late_rules` meets its contract: where no live position waits for the byte, no rule ends late.
+-- `stream::scan::late_rules` meets its contract: where no live position waits for the byte, no rule
+-- ends late.
 use mathlib.Core.Path.{sym, _∙_}
 use denote.Ref.{now}
 use Rattle.table.specs.Gaps.{between, unsettled}

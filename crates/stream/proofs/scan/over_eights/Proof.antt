@@ -1,4 +1,5 @@
--- `stream::scan::over_eights` meets its contract: each turn passes eight bytes with which no match can begin.
+-- `stream::scan::over_eights` meets its contract: each turn passes eight bytes with which no match
+-- can begin.
 use mathlib.Core.Path.{_≡_, sym, ap, _∙_}
 use mathlib.Core.Bool.{false}
 use mathlib.Core.List.{List}

@@ -1,4 +1,5 @@
--- `stream::scan::report` meets its contract: where the gate is shut no rule ends, and else the rules of both runs are those of the definition.
+-- `stream::scan::report` meets its contract: where the gate is shut no rule ends, and else the
+-- rules of both runs are those of the definition.
 use mathlib.Core.Path.{_≡_, refl, sym, ap, _∙_}
 use mathlib.Core.Bool.{Bool, true, false, true≢false, not, _||_, _&&_}
 use mathlib.Core.List.{List}

@@ -1,4 +1,5 @@
--- `stream::scan::run` meets its contract: each turn passes over the bytes that change nothing and offers one more (`Turned`).
+-- `stream::scan::run` meets its contract: each turn passes over the bytes that change nothing and
+-- offers one more (`Turned`).
 use borrow.Author.Needs.{needs}
 use mathlib.Core.Path.{ap, _∙_}
 use mathlib.Core.Bool.{cond, _&&_}

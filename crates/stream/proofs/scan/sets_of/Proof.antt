@@ -1,4 +1,5 @@
--- `stream::scan::sets_of` meets its contract: the words are enough, so each set is that of the automaton.
+-- `stream::scan::sets_of` meets its contract: the words are enough, so each set is that of the
+-- automaton.
 use mathlib.Core.Path.{ap, ap₂, _∙_}
 use mathlib.Core.List.{List}
 use Prim.Native.Nat.{ℕ}

@@ -1,4 +1,5 @@
--- `stream::scan::side_at` meets its contract: before the first byte of the block stands what stood before it, and before any other the byte that precedes it.
+-- `stream::scan::side_at` meets its contract: before the first byte of the block stands what stood
+-- before it, and before any other the byte that precedes it.
 use mathlib.Core.Path.{_≡_, refl, ap, _∙_}
 use mathlib.Core.List.{List}
 use Prim.Native.Nat.{ℕ, zero, suc, _-_}

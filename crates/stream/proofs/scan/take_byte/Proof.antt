@@ -1,5 +1,5 @@
--- `stream::scan::take_byte` meets its contract: each of its four ways has one law (`Offered`). What a need knows of the step and of the arguments is found from
--- the place where the step was taken.
+-- `stream::scan::take_byte` meets its contract: each of its four ways has one law (`Offered`). What
+-- a need knows of the step and of the arguments is found from the place where the step was taken.
 use mathlib.Core.Path.{_≡_, ap₂, _∙_}
 use mathlib.Core.Bool.{false}
 use mathlib.Core.List.{List}
@@ -23,7 +23,8 @@ use Rattle.stream.proofs.Taking.{Told, offered-end, offered-unpaid, off
 use Rattle.stream.proofs.scan.take_byte.Statement.{statement}
 use Rattle.stream.proofs.scan.take_byte.Tie as tie
 
--- the words are enough, the set is that of the positions there are, and the side is that of the byte
+-- the words are enough, the set is that of the positions there are, and the side is that of the
+-- byte
 stepping : (t live : List ℕ) (old new : Side) (among next : List ℕ) (taken x : ℕ) → among ≡ keptBelow fullSet (positionsOf t) → new ≡ sideOf x → tableWords ≤ length t
     → next ≡ setOn t (intersectionOf (stepped (automaton t) false old new maxPositions live taken x) among)
     → next ≡ stepped (automaton t) false old (sideOf x) (automaton t .positions) live taken x

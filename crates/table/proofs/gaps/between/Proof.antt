@@ -1,4 +1,5 @@
--- `table::gaps::between` meets its contract: by cases on the side after the gap, then on the one before it.
+-- `table::gaps::between` meets its contract: by cases on the side after the gap, then on the one
+-- before it.
 use mathlib.Core.Path.{sym, ap₂}
 use borrow.Author.Needs.{needs}
 use Rattle.table.specs.Gaps.{between}

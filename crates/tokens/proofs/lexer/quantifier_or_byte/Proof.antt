@@ -1,5 +1,5 @@
--- `tokens::lexer::quantifier_or_byte` meets its contract: a quantifier stands at the place or not. What it takes stands in the pattern, so no sum
--- wraps.
+-- `tokens::lexer::quantifier_or_byte` meets its contract: a quantifier stands at the place or not.
+-- What it takes stands in the pattern, so no sum wraps.
 use native.Mathlib.Omega.{arith}
 use Rattle.tokens.proofs.Lexemes.{form-fits, quantifier-is}
 use Rattle.tokens.proofs.lexer.quantifier_or_byte.Statement.{statement}

@@ -1,4 +1,5 @@
--- `tokens::lexer::spelled` meets its contract: the pattern ends, or a mark of a quote stands there, or a quoted byte, or what its byte starts.
+-- `tokens::lexer::spelled` meets its contract: the pattern ends, or a mark of a quote stands there,
+-- or a quoted byte, or what its byte starts.
 use mathlib.Core.Path.{sym, _∙_}
 use native.Mathlib.Omega.{arith}
 use Rattle.tokens.proofs.Lexemes.{spelled-end, spelled-is, spelled-unquoted}

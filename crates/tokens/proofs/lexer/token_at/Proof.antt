@@ -1,4 +1,5 @@
--- `tokens::lexer::token_at` meets its contract: the token as it is spelled, where it has no fault, else one with its fault.
+-- `tokens::lexer::token_at` meets its contract: the token as it is spelled, where it has no fault,
+-- else one with its fault.
 use mathlib.Core.Path.{sym, _∙_}
 use borrow.Author.Tests.{eq-eqb, ne-eqb}
 use Rattle.tokens.proofs.Lexemes.{lexeme-at}

@@ -1,4 +1,5 @@
--- `tokens::lexer::unquoted` meets its contract: the byte is one of eight with a token of their own, or another.
+-- `tokens::lexer::unquoted` meets its contract: the byte is one of eight with a token of their own,
+-- or another.
 use mathlib.Core.Path.{sym, _∙_}
 use native.Mathlib.Omega.{arith}
 use Rattle.tokens.specs.Token.{unquotedOf}

@@ -1,5 +1,6 @@
--- `tokens::option::letters` meets its contract. The invariant: the letters from i on, under the options so far, give the token that is asked for, and
--- `size` is in step with i. A letter's place is inside, so the measure, what is left of the bytes, falls.
+-- `tokens::option::letters` meets its contract. The invariant: the letters from i on, under the
+-- options so far, give the token that is asked for, and `size` is in step with i. A letter's place
+-- is inside, so the measure, what is left of the bytes, falls.
 use mathlib.Core.Path.{_≡_, refl, sym, _∙_}
 use mathlib.Core.Bool.{true, false}
 use Prim.Native.Nat.{_+_, _-_, _≤_}

@@ -1,5 +1,6 @@
--- `tokens::quantifier::brace_form` meets its contract: the definition, read at the two numbers and the bytes after them, goes by the tests of the
--- code. The digits stand within the pattern, so no sum wraps.
+-- `tokens::quantifier::brace_form` meets its contract: the definition, read at the two numbers and
+-- the bytes after them, goes by the tests of the code. The digits stand within the pattern, so no
+-- sum wraps.
 use mathlib.Core.Path.{_≡_}
 use mathlib.Core.Bool.{true, false}
 use Prim.Native.Nat.{_+_, _-_, _≤_}

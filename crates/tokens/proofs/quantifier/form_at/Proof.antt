@@ -1,4 +1,5 @@
--- `tokens::quantifier::form_at` meets its contract: the byte at the place is `?`, `*`, `+`, an opening brace, or none of them.
+-- `tokens::quantifier::form_at` meets its contract: the byte at the place is `?`, `*`, `+`, an
+-- opening brace, or none of them.
 use native.Mathlib.Omega.{arith}
 use borrow.Author.Tests.{ne-eqb}
 use Rattle.atoms.proofs.Suffixes.{inside}

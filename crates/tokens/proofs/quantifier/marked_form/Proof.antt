@@ -1,4 +1,5 @@
--- `tokens::quantifier::marked_form` meets its contract: the mark gives a fault or a byte more, and the lower fault decides.
+-- `tokens::quantifier::marked_form` meets its contract: the mark gives a fault or a byte more, and
+-- the lower fault decides.
 use mathlib.Core.Path.{_≡_}
 use mathlib.Core.Bool.{cond}
 use mathlib.Core.Logic.{⊎-elim}

@@ -1,4 +1,5 @@
--- `watcher::rules_file::add_line` meets its contract: a malformed line adds nothing, a rule line's pattern lies within it.
+-- `watcher::rules_file::add_line` meets its contract: a malformed line adds nothing, a rule line's
+-- pattern lies within it.
 use mathlib.Core.List.{[]}
 use borrow.Author.Tests.{not-true, not-false}
 use Rattle.watcher.proofs.Keeping.{rest-is, pattern-inside, malformed-line, rule-line-adds}

@@ -1,4 +1,5 @@
--- `watcher::rules_file::add_lines` meets its contract: a line keeps the table and ends within the text, and there are no more lines than bytes passed.
+-- `watcher::rules_file::add_lines` meets its contract: a line keeps the table and ends within the
+-- text, and there are no more lines than bytes passed.
 use mathlib.Core.Path.{refl, sym, subst, _∙_}
 use Prim.Native.Nat.{_+_, _-_}
 use native.Mathlib.Omega.{arith}

@@ -1,5 +1,5 @@
--- `watcher::trace::trace_input` is safe and ends: a block is not empty and is taken whole, so the stream
--- grows towards its limit.
+-- `watcher::trace::trace_input` is safe and ends: a block is not empty and is taken whole, so the
+-- stream grows towards its limit.
 use mathlib.Core.Path.{_≡_, refl, sym, ap, subst, _∙_}
 use mathlib.Core.List.{List}
 use Prim.Native.Nat.{ℕ, _+_, _-_, _≤_}

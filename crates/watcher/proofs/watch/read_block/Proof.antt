@@ -1,4 +1,5 @@
--- `watcher::watch::read_block` meets its contract: what is read lies within the part that was lent for it.
+-- `watcher::watch::read_block` meets its contract: what is read lies within the part that was lent
+-- for it.
 use mathlib.Core.Path.{sym}
 use Prim.Native.Nat.{_≤_}
 use native.Mathlib.Omega.{arith}

@@ -1,5 +1,5 @@
--- `watcher::watch::watch` meets its contract: the way that watches without starts is taken only where
--- no rule needs one.
+-- `watcher::watch::watch` meets its contract: the way that watches without starts is taken only
+-- where no rule needs one.
 use borrow.Author.Needs.{needs}
 use native.Mathlib.Omega.{arith}
 use denote.Ref.{now}

@@ -1,5 +1,5 @@
--- `watcher::watch::watch_block` meets its contract: the bytes passed are taken, and every scan of the
--- rest is accepted and takes one.
+-- `watcher::watch::watch_block` meets its contract: the bytes passed are taken, and every scan of
+-- the rest is accepted and takes one.
 use mathlib.Core.Path.{refl, sym, _∙_}
 use mathlib.Core.Bool.{true≢false}
 use Prim.Native.Nat.{_+_, _-_, _≤_, _<_}

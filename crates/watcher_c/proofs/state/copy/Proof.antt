@@ -1,4 +1,5 @@
--- `watcher_c::state::copy` meets its contract. The loop's invariant: the words before `i` are copied.
+-- `watcher_c::state::copy` meets its contract. The loop's invariant: the words before `i` are
+-- copied.
 use mathlib.Core.Path.{_≡_, ap}
 use Prim.Native.Nat.{ℕ, _+_, _-_, _≤_}
 use native.Mathlib.Omega.{arith}

@@ -1,4 +1,5 @@
--- `watcher_c::state::side_in` meets its contract: 1 and 2 are asked for, and what is left is neither.
+-- `watcher_c::state::side_in` meets its contract: 1 and 2 are asked for, and what is left is
+-- neither.
 use mathlib.Core.Path.{_≡_, sym, ap, ap₂}
 use mathlib.Core.Bool.{Bool, cond}
 use Prim.Native.Nat.{ℕ}

@@ -1,4 +1,5 @@
--- `watcher_c::state::store_live` meets its contract: the starts go where the words of the state end.
+-- `watcher_c::state::store_live` meets its contract: the starts go where the words of the state
+-- end.
 use mathlib.Core.Path.{ap, _∙_}
 use mathlib.Core.List.{List}
 use Prim.Native.Nat.{ℕ}

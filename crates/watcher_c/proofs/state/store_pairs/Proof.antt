@@ -1,4 +1,5 @@
--- `watcher_c::state::store_pairs` meets its contract: the starts go where the words before them end.
+-- `watcher_c::state::store_pairs` meets its contract: the starts go where the words before them
+-- end.
 use mathlib.Core.Path.{ap, _∙_}
 use mathlib.Core.List.{List}
 use Prim.Native.Nat.{ℕ}

@@ -1,5 +1,5 @@
--- `watcher_c::trace::watcher_trace_open` meets its contract: what the opening hands back is stored, also when it
--- is refused.
+-- `watcher_c::trace::watcher_trace_open` meets its contract: what the opening hands back is stored,
+-- also when it is refused.
 use mathlib.Core.Path.{ap, _∙_}
 use denote.Ref.{now}
 use Rattle.traced.specs.declared.Opened.{Opened}

@@ -1,6 +1,7 @@
--- `Reader::peek` meets its contract: a walk of its MIR, by hand. The struct is taken apart, and `token_at` is called on the slice, the place and the options. All
--- that the proof knows of `token_at` is that it meets its contract.
--- The struct is Copy: what it owns is had twice, one copy is kept whole for the exit, and of the other what the slice owns goes to the callee, beside the
+-- `Reader::peek` meets its contract: a walk of its MIR, by hand. The struct is taken apart, and
+-- `token_at` is called on the slice, the place and the options. All that the proof knows of
+-- `token_at` is that it meets its contract. The struct is Copy: what it owns is had twice, one copy
+-- is kept whole for the exit, and of the other what the slice owns goes to the callee, beside the
 -- lifetime's token, which comes back. Assumes nothing.
 use mathlib.Core.Path.{_≡_, refl}
 use Prim.Native.Nat.{_<_, _^_}
@@ -124,7 +125,8 @@ module _ {M : Type 1} (𝓤 : URA M) (H : Heap 𝓤) (A : Atoms 𝓤) (W : Given
       move ! (1 ∷ []) $ drop ! $ nothing ! $ owned ! O.the-row (Is O.the-row) (LL.makes O.the-type O′.the-plain 𝓤 H A) options _ ok $ fjoin ! $ owned ! usize (Is usize) (uint-makes 𝓤 H A W w64) (d .at) _ (refl, fits) $ fjoin ! $ move ! (1 ∷ 0 ∷ []) $ fjoin ! $
       move ! (2 ∷ 0 ∷ []) $ use2 W (raw (TokenAt 𝓤 H A mem run .pre to)) asked $ frame ! $ done !)
 
-  -- of the callee's `ensured`, the clause alone: it has no `&mut`, so what is said of last values is dropped
+  -- of the callee's `ensured`, the clause alone: it has no `&mut`, so what is said of last values
+  -- is dropped
   said : (r : Lexeme) → ent 𝓤 (ensured 𝓤 H A token-at.ended (token-at.clauses 𝓤 H A mem run) (κ, tt) (d .bytes, (d .at, (options, tt))) tt r) (fact 𝓤 (r ≡ answer))
   said r = exE 𝓤 _ (λ ws. snd∗ 𝓤 (sem 𝓤 H A (lasts token-at.ended (κ, tt) (d .bytes, (d .at, (options, tt))) ws)) (fact 𝓤 (r ≡ answer)))
 
