@@ -14,7 +14,7 @@ use Rattle.card.proofs.Theorems.{read-kept}
 use Rattle.rules.specs.Add.{addAnswer, addWords}
 use Rattle.rules.specs.Additions.{Narrow}
 use Rattle.rules.specs.Encoded.{addAll}
-use Rattle.demands.specs.Chain.{this, those, Other, emptying, adding, opening, scanning, closing, trace-opening, trace-scanning, trace-closing, writing-block, reading-block, showing, numberOf, tableAfter, Step, addition, another, tableOf, additionsOf, OthersRefusedBefore}
+use Rattle.demands.specs.Chain.{this, those, Other, emptying, adding, opening, scanning, closing, trace-opening, trace-scanning, trace-closing, writing-block, reading-block, showing, asking, numberOf, tableAfter, Step, addition, another, tableOf, additionsOf, OthersRefusedBefore}
 
 -- a refused call leaves the table as it was
 pub kept : (t : List ℕ) (o : Other) → ¬ (numberOf t o ≡ 0) → tableAfter t o ≡ t
@@ -37,6 +37,7 @@ kept t (writing-block l i b) h = refl
 kept t (reading-block this i b) h = read-kept t i b (λ e. h (ap (λ (a : Stored). a .number) e))
 kept t (reading-block (those u) i b) h = refl
 kept t (showing tail block offset start end) h = refl
+kept t (asking q space) h = refl
 
 -- before the opening: the table is the one of the additions alone
 pub narrow-ids : (l : List Step) → Narrow (additionsOf l)

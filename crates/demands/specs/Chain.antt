@@ -13,6 +13,8 @@ use Rattle.traced.specs.declared.Traced.{Traced}
 use Rattle.traced.specs.Calls as traced
 use Rattle.card.specs.Calls.{writeAnswer, readAnswer, readWords}
 use Rattle.matched.specs.Matched.{matchedNumber}
+use Rattle.pattern.specs.Walk.{Read, tree, refused}
+use Rattle.plain.specs.Answer.{Question, verdict}
 use Rattle.rules.specs.Add.{Addition, addAnswer, addWords}
 use Rattle.regex.specs.Ordered.{Report}
 use Rattle.demands.specs.Kinds.{Given, Kind}
@@ -39,6 +41,12 @@ pub data Other : Type 0 where
   writing-block : Lent → (number : ℕ) (block : List ℕ) → Other
   reading-block : Lent → (number : ℕ) (block : List ℕ) → Other
   showing : (tail block : List ℕ) (offset start end : ℕ) → Other
+  asking : Question → (space : ℕ) → Other
+
+-- the number of a question to the plain matcher
+abbrev pub questionNumber : Read → ℕ
+questionNumber (refused number place) = number
+questionNumber (tree syntax) = 0
 
 -- its number, where t is the table in hand
 unfoldable pub numberOf : List ℕ → Other → ℕ
@@ -53,6 +61,7 @@ numberOf t (trace-closing l z slots) = traced.closeNumber (lent t l) z (traced.s
 numberOf t (writing-block l i b) = writeAnswer (lent t l) i b .number
 numberOf t (reading-block l i b) = readAnswer (lent t l) i b .number
 numberOf t (showing tail block offset start end) = matchedNumber tail block offset start end
+numberOf t (asking q space) = questionNumber (verdict q space)
 
 -- the table in hand afterwards: emptying, adding and reading a block write to what they are lent
 unfoldable pub tableAfter : List ℕ → Other → List ℕ
@@ -70,6 +79,7 @@ tableAfter t (writing-block l i b) = t
 tableAfter t (reading-block this i b) = readWords t i b
 tableAfter t (reading-block (those u) i b) = t
 tableAfter t (showing tail block offset start end) = t
+tableAfter t (asking q space) = t
 
 -- ---- before the opening
 
