@@ -12,8 +12,8 @@ use table::layout::TABLE_WORDS;
 ghost use mathlib.Core.Path.{_≡_};
 ghost use mathlib.Core.Bool.{true, cond};
 ghost use Prim.Native.Nat.{_+_, _-_, _≤_, min};
-ghost use lib.ListN.{length, getD};
-ghost use Rattle.sets.specs.Set.{any, emptySet};
+ghost use lib.ListN.{length};
+ghost use Rattle.sets.specs.Set.{emptySet};
 ghost use Rattle.table.specs.Automaton.{automaton};
 ghost use Rattle.stream.specs.Valid.{streamLimit};
 ghost use Rattle.stream.specs.Invariants.{NoOpener, passedSide};
@@ -22,30 +22,22 @@ ghost use Rattle.traced.specs.Invariants.{Quietly, BackOver, PassEnd, Pa
 // The byte that ends a line.
 const NEWLINE: u8 = 10;
 
-// Whether a match can begin inside a stream with one of the eight bytes from `at` on. The compiler
-// writes the turns out, and has one test for all.
-fn opens_eight(words: &[u64], block: &[u8], at: usize) -> bool
-    requires { ⌜ at + 8 ≤ length (now block) ⌝ }
-    ensures { λ r. ⌜ r ≡ any 8 (λ i. automaton (now (words .entry)) .opens (getD (now (block .entry)) (at + i) 0)) ⌝ }
-{
-    let mut some = false;
-    let mut i: usize = 0;
-    while i < 8 {
-        some = some | opens(words, block[at + i]);
-        i += 1;
-    }
-    some
-}
-
 // A place from `from` on, at most `end`, before which no match can begin with a byte from there: as
-// many eights of such bytes are passed over as there are.
+// many eights of such bytes are passed over as there are. The compiler writes the turns over an
+// eight out, and has one test for all; it does so best where they stand in the loop.
 fn over_eights(words: &[u64], block: &[u8], from: usize, end: usize) -> usize
     requires { ⌜ (from ≤ end) × (end ≤ length (now block)) ⌝ }
     ensures { λ r. ⌜ NoOpener (automaton (now (words .entry))) (now (block .entry)) from end r ⌝ }
 {
     let mut at = from;
     while 8 <= end - at {
-        if opens_eight(words, block, at) {
+        let mut some = false;
+        let mut i: usize = 0;
+        while i < 8 {
+            some = some | opens(words, block[at + i]);
+            i += 1;
+        }
+        if some {
             return at;
         }
         at += 8;

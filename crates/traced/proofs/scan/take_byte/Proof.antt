@@ -98,8 +98,7 @@ returns-2 c =
     let further = back .before .before .before .before .before .before in
     let c-start = further .before .before .before .before in
     let a = c-start .args in
-    let o = c .before .before .before .before in
-    (
+    let o = c .before .before .before .before in (
       refl,
       offered-unpaid (automaton (now (a .words))) (state c-start) (a .first) (now (a .block)) (a .y) (lent c-start) (c-stop2 .result) (c-stop2 .ensures)
           (c-step .result .turns) (turns-are o) (c-if2 .taken),
