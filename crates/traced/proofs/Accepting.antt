@@ -1,5 +1,5 @@
--- When a call is accepted: its number is settled by the first test that fails, and number 0 says that
--- all of them hold (`Accepted`).
+-- When a call is accepted: its number is settled by the first test that fails, and number 0 says
+-- that all of them hold (`Accepted`).
 use mathlib.Core.Path.{_≡_, refl, sym, ap, ap₂, _∙_}
 use mathlib.Core.Bool.{Bool, true, false, cond, not, _&&_, and-false, and-eq-true-iff}
 use mathlib.Core.List.{List}

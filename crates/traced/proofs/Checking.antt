@@ -1,5 +1,5 @@
--- The tests of the starts. Sixty-four at a time: where all are 0 they are in order, and else each is
--- asked. A set's 256 are the four times 64 of its words.
+-- The tests of the starts. Sixty-four at a time: where all are 0 they are in order, and else each
+-- is asked. A set's 256 are the four times 64 of its words.
 use mathlib.Core.Path.{_≡_, refl, sym, ap, ap₂, _∙_}
 use mathlib.Core.Bool.{Bool, true, false, cond, not, _&&_, _||_}
 use mathlib.Core.List.{List}

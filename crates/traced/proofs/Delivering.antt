@@ -1,5 +1,5 @@
--- The reports of one byte. The words of the rules that end say what the tests say, and the start for
--- each place is that of the definition wherever a rule reports.
+-- The reports of one byte. The words of the rules that end say what the tests say, and the start
+-- for each place is that of the definition wherever a rule reports.
 use mathlib.Core.Path.{_≡_, refl, sym, ap, ap₂, subst, _∙_}
 use mathlib.Core.Bool.{Bool, true, false, true≢false, cond, not, _&&_, _||_, and-eq-true-iff}
 use mathlib.Core.List.{List, [], _∷_, _++_}

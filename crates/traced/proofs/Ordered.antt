@@ -1,5 +1,5 @@
--- The starts of a stream stay in order, since none is above the bytes taken before the byte that gave
--- it. Assumes nothing.
+-- The starts of a stream stay in order, since none is above the bytes taken before the byte that
+-- gave it. Assumes nothing.
 use mathlib.Core.Path.{_≡_, refl, sym, ap, ap₂, _∙_}
 use mathlib.Core.Bool.{Bool, true, false, true≢false, cond, not, _&&_}
 use mathlib.Core.List.{List}

@@ -1,6 +1,6 @@
--- Bytes that are passed over. Nothing is live before them, and no match can begin with them: so each
--- brings no report, costs a unit and leaves nothing live, and no start of a live position. What waits
--- for the stream's end is asked of the last of them alone, which is no newline.
+-- Bytes that are passed over. Nothing is live before them, and no match can begin with them: so
+-- each brings no report, costs a unit and leaves nothing live, and no start of a live position.
+-- What waits for the stream's end is asked of the last of them alone, which is no newline.
 use mathlib.Core.Path.{_≡_, refl, sym, ap, ap₂, subst, _∙_}
 use mathlib.Core.Bool.{Bool, true, false, true≢false, cond, not, _&&_, _||_}
 use mathlib.Core.Logic.{_⊎_, inl, inr}

@@ -1,5 +1,5 @@
--- What the calls on a stream with starts give: an accepted scan and a closing, a refused one; a valid
--- state stays valid, and a scan of a block with a byte takes one.
+-- What the calls on a stream with starts give: an accepted scan and a closing, a refused one; a
+-- valid state stays valid, and a scan of a block with a byte takes one.
 use mathlib.Core.Path.{_≡_, refl, sym, subst, ap, _∙_}
 use mathlib.Core.Bool.{Bool, true, false, cond}
 use mathlib.Core.List.{List}

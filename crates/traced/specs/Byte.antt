@@ -1,5 +1,5 @@
--- What one byte does to a stream with starts, and what closing reports. The stream takes bytes as it
--- does without: "the same pairs at the same moments, each with the smallest start whose match is
+-- What one byte does to a stream with starts, and what closing reports. The stream takes bytes as
+-- it does without: "the same pairs at the same moments, each with the smallest start whose match is
 -- settled then". Assumes nothing: these are definitions.
 use mathlib.Core.Bool.{Bool, true, false, cond, _&&_}
 use mathlib.Core.List.{List}
@@ -36,8 +36,8 @@ module _ (w : Automaton) where
   abbrev pub keeping : List ℕ → List ℕ
   keeping set = intersectionOf set (keepersOf w)
 
-  -- The starts after a byte: of the live positions, of those held in case it ends the last line, and
-  -- of the pairs held likewise, for rules that report one.
+  -- The starts after a byte: of the live positions, of those held in case it ends the last line,
+  -- and of the pairs held likewise, for rules that report one.
   unfoldable pub nextStarts : Traced → ℕ → Starts
   nextStarts z x =
       let s : Stream = z .stream in

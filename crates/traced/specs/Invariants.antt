@@ -187,7 +187,8 @@ pub record PassEnd (w : Automaton) (quiet : Bool) (block : List ℕ) (from end r
   pub quiet-is : from < r → quiet ≡ true
   pub other : from < r → ¬ (getD block (r - 1) 0 ≡ 10)
 
--- a turn that passes bytes over, up to place `to`: a unit each, and nothing is held, if there are any
+-- a turn that passes bytes over, up to place `to`: a unit each, and nothing is held, if there are
+-- any
 abbrev pub passTo : (block : List ℕ) → Turn → (to : ℕ) → Turn
 passTo block y to = record {
   stream = record {

@@ -17,8 +17,8 @@ ghost use mathlib.Core.Path.{_≡_};
 ghost use Rattle.traced.specs.Calls.{opened, lists, call, scanned, scannedLists, closed, closedLists};
 ghost use Rattle.stream.specs.Byte.{busyOf};
 
-// The starts of the live positions, of the held positions, and of the held pairs, each 0 where there
-// is none.
+// The starts of the live positions, of the held positions, and of the held pairs, each 0 where
+// there is none.
 pub struct Starts {
     pub live: [u64; 256],
     pub held: [u64; 256],
@@ -133,8 +133,8 @@ impl Traced {
         }
     }
 
-    // Closes the stream, and writes the reports that needed its end at the front of the lists, their
-    // relative starts measured from the stream's end.
+    // Closes the stream, and writes the reports that needed its end at the front of the lists,
+    // their relative starts measured from the stream's end.
     pub fn close(
         mut self,
         words: &[u64],

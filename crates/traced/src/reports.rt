@@ -121,8 +121,8 @@ pub(super) fn write_run(
     }
 }
 
-// Works out the starts of one run, whose matches end at a gap with a position of the set, and writes
-// it into the lists from a place on.
+// Works out the starts of one run, whose matches end at a gap with a position of the set, and
+// writes it into the lists from a place on.
 pub(super) fn give_run(
     ending: u64,
     reported: u64,

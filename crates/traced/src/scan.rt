@@ -47,9 +47,9 @@ ghost use Rattle.traced.specs.Invariants.{zeros, startsOf, stateOf, Gate
 // The byte that ends a line.
 const NEWLINE: u8 = 10;
 
-// What a scan asks a table for once: the positions that can end a match, those that can end one only
-// once the next byte is known, those that keep a start, and those that there are; the single-match
-// rules, and those that report starts.
+// What a scan asks a table for once: the positions that can end a match, those that can end one
+// only once the next byte is known, those that keep a start, and those that there are; the
+// single-match rules, and those that report starts.
 pub(super) struct Gates {
     pub last: [u64; 4],
     pub late: [u64; 4],
@@ -246,9 +246,9 @@ pub(super) struct Turn {
     pub stopped: bool,
 }
 
-// What one byte's runs come to: whether the free space is too small for their reports, how many were
-// written, the marks afterwards, and whether a start of a live position, and of what is held, may
-// not be 0.
+// What one byte's runs come to: whether the free space is too small for their reports, how many
+// were written, the marks afterwards, and whether a start of a live position, and of what is held,
+// may not be 0.
 struct Delivery {
     pub full: bool,
     pub reports: usize,
@@ -291,8 +291,8 @@ fn carry(
     }
 }
 
-// Whether there is too little space for the reports of both runs of a byte. They are counted only if
-// some rule ends.
+// Whether there is too little space for the reports of both runs of a byte. They are counted only
+// if some rule ends.
 fn too_many(late: u64, own: u64, reported: u64, single: u64, space: usize) -> bool
     ensures { λ r. ⌜ r ≡ ltb space (count 64 (λ a. on late a && not (on reported a)) + count 64 (λ a. on own a && not (on (bitOr reported (bitAnd late single)) a))) ⌝ }
 {
@@ -353,8 +353,8 @@ fn late_run(
     )
 }
 
-// Writes the run of the rules of which a match ends with a byte, behind the other: `next` is the set
-// that is live after it, and `end` its end offset.
+// Writes the run of the rules of which a match ends with a byte, behind the other: `next` is the
+// set that is live after it, and `end` its end offset.
 fn own_run(
     own: u64,
     late: Run,

@@ -1,5 +1,5 @@
--- `traced::Traced::close` meets its contract: it is refused and leaves all as it was, or both runs of
--- the closing are written and the stream is closed.
+-- `traced::Traced::close` meets its contract: it is refused and leaves all as it was, or both runs
+-- of the closing are written and the stream is closed.
 use mathlib.Core.Path.{_≡_, sym, ap, _∙_}
 use Prim.Native.Nat.{ℕ, _+_, _*_, _^_, _<_, _≤_}
 use native.Mathlib.Omega.{arith}

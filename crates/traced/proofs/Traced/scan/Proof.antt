@@ -1,5 +1,5 @@
--- `traced::Traced::scan` meets its contract: it is refused and leaves all as it was, or the loop over
--- the block gives the answer.
+-- `traced::Traced::scan` meets its contract: it is refused and leaves all as it was, or the loop
+-- over the block gives the answer.
 use mathlib.Core.Path.{_≡_, sym, ap, _∙_}
 use Prim.Native.Nat.{ℕ, _+_, _-_, _≤_}
 use native.Mathlib.Omega.{arith}

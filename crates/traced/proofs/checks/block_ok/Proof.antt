@@ -1,5 +1,5 @@
--- `traced::checks::block_ok` meets its contract: where all are 0 they are in order, and else each is
--- asked.
+-- `traced::checks::block_ok` meets its contract: where all are 0 they are in order, and else each
+-- is asked.
 use mathlib.Core.Path.{_≡_, refl}
 use mathlib.Core.Bool.{Bool, true, false, _&&_, _||_, and-eq-true-iff}
 use mathlib.Core.Logic.{_⊎_, inl, inr}

@@ -1,5 +1,5 @@
--- `traced::checks::refusal` meets its contract: at each return the tests before it held, and its own
--- failed.
+-- `traced::checks::refusal` meets its contract: at each return the tests before it held, and its
+-- own failed.
 use mathlib.Core.Path.{_≡_, sym, _∙_}
 use mathlib.Core.Bool.{true, false}
 use native.Mathlib.Omega.{arith}

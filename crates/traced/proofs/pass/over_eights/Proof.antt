@@ -1,5 +1,5 @@
--- `traced::pass::over_eights` meets its contract: each turn passes eight bytes with which no match can
--- begin, and each turn in it asks one of them.
+-- `traced::pass::over_eights` meets its contract: each turn passes eight bytes with which no match
+-- can begin, and each turn in it asks one of them.
 use mathlib.Core.Path.{_≡_, refl, sym, ap, _∙_}
 use mathlib.Core.Bool.{Bool, true, false, true≢false, _||_}
 use mathlib.Core.List.{List}

@@ -1,5 +1,5 @@
--- `traced::reports::give_run` meets its contract: the run is written with the starts that were worked
--- out for it (`wrote-by`).
+-- `traced::reports::give_run` meets its contract: the run is written with the starts that were
+-- worked out for it (`wrote-by`).
 use mathlib.Core.Path.{_≡_}
 use Prim.Native.Nat.{ℕ, _≤_}
 use denote.Ref.{now}

@@ -1,4 +1,5 @@
--- `traced::reports::write_closing` meets its contract: the held pairs, then those that need the end.
+-- `traced::reports::write_closing` meets its contract: the held pairs, then those that need the
+-- end.
 use mathlib.Core.Path.{_≡_, _∙_}
 use Prim.Native.Nat.{ℕ, _*_, _^_, _<_, _≤_}
 use borrow.Author.Needs.{needs}

@@ -1,5 +1,5 @@
--- `traced::scan::carry_live` meets its contract: nothing keeps a start before the byte nor after it,
--- or the starts are stepped.
+-- `traced::scan::carry_live` meets its contract: nothing keeps a start before the byte nor after
+-- it, or the starts are stepped.
 use mathlib.Core.Path.{_≡_, refl, sym, ap, ap₂, _∙_}
 use mathlib.Core.Bool.{Bool, true, false, not}
 use mathlib.Core.List.{List}

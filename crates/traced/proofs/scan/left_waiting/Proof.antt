@@ -1,5 +1,5 @@
--- `traced::scan::left_waiting` meets its contract: nothing waits after any byte but a newline, and no
--- pair before the first byte.
+-- `traced::scan::left_waiting` meets its contract: nothing waits after any byte but a newline, and
+-- no pair before the first byte.
 use denote.Ref.{now}
 use lib.ListN.{length}
 use Rattle.table.specs.Automaton.{automaton}

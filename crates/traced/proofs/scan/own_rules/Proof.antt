@@ -1,5 +1,5 @@
--- `traced::scan::own_rules` meets its contract: a live set that does not meet the last positions ends
--- no rule.
+-- `traced::scan::own_rules` meets its contract: a live set that does not meet the last positions
+-- ends no rule.
 use mathlib.Core.Path.{_≡_, sym, ap, _∙_}
 use mathlib.Core.Bool.{Bool, false, _&&_}
 use mathlib.Core.List.{List}

@@ -1,5 +1,5 @@
--- `traced::scan::report` meets its contract: the reports do not fit, or the late run is written, the
--- starts are carried along, and the byte's own run is written.
+-- `traced::scan::report` meets its contract: the reports do not fit, or the late run is written,
+-- the starts are carried along, and the byte's own run is written.
 use mathlib.Core.Path.{_≡_, refl, sym, ap, subst, _∙_}
 use mathlib.Core.Bool.{false, not, _&&_}
 use mathlib.Core.List.{List}

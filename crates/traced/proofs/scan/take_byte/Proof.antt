@@ -26,7 +26,8 @@ use Rattle.traced.proofs.Taking.{offered-end, offered-unpaid, offered-f
 use Rattle.traced.proofs.scan.take_byte.Statement.{statement}
 use Rattle.traced.proofs.scan.take_byte.Tie as tie
 
--- the words are enough, the set is that of the positions there are, and the side is that of the byte
+-- the words are enough, the set is that of the positions there are, and the side is that of the
+-- byte
 stepping : (t live : List ℕ) (old new : Side) (among next : List ℕ) (taken x : ℕ) → among ≡ keptBelow fullSet (positionsOf t) → new ≡ sideOf x → tableWords ≤ length t
     → next ≡ setOn t (intersectionOf (stepped (automaton t) false old new maxPositions live taken x) among)
     → next ≡ stepped (automaton t) false old (sideOf x) (automaton t .positions) live taken x
