@@ -12,7 +12,7 @@ const TEXT: &[u8; 64] = b"00000417 ch2 load=01234.567 ok\n00000418 ch3 load=0432
 
 /// Scans of this block, again and again in one stream. Each run has a stream of its own, so the
 /// stream's limit is far away.
-struct Scans(&'static [u8]);
+pub struct Scans(pub &'static [u8]);
 
 impl Task for Scans {
     fn run<M: Matcher>(&self, matcher: &mut M, reports: &mut Reports) -> f64 {

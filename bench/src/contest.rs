@@ -17,7 +17,7 @@ pub struct Contest {
 }
 
 /// What the first run reported, sorted.
-type Wanted = RefCell<Option<Reports>>;
+pub type Wanted = RefCell<Option<Reports>>;
 
 impl Contest {
     /// Of all matchers that there are, or of the library alone.
@@ -60,7 +60,7 @@ impl Contest {
     }
 }
 
-fn entrant<'a, M: Matcher>(
+pub fn entrant<'a, M: Matcher>(
     matcher: &'a mut M,
     task: &'a impl Task,
     wanted: &'a Wanted,

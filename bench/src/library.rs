@@ -6,7 +6,7 @@ use crate::matcher::{Matcher, Reports};
 use crate::rules::Rule;
 
 /// The report slots that a call is lent.
-const SLOTS: usize = 1_024;
+pub const SLOTS: usize = 1_024;
 
 pub struct Library {
     table: Vec<u64>,

@@ -19,6 +19,7 @@ mod page;
 mod rules;
 mod scans;
 mod short;
+mod starts;
 mod streams;
 mod turns;
 
@@ -45,6 +46,7 @@ fn main() {
     let mut contest = Contest::new(&faults.rules, page.alone);
     calls::rows(&page, &mut contest);
     streams::rows(&page, &mut contest, &[&quiet, &busy]);
+    starts::rows(&page, &faults, &[&quiet, &busy]);
     additions::rows(&page, &faults);
     memory(&page, &contest);
 }

@@ -57,7 +57,7 @@ pub fn row(cells: &[&str]) -> String {
 }
 
 /// A number to about three digits, and no fewer than its whole part has.
-fn figure(number: f64) -> String {
+pub fn figure(number: f64) -> String {
     match number {
         _ if number < 0.1 => format!("{number:.3}"),
         _ if number < 10.0 => format!("{number:.2}"),

@@ -8,11 +8,11 @@ use crate::page::{whole, Page};
 use crate::rules::Set;
 use crate::short;
 
-const BLOCKS: [usize; 3] = [64, 512, 65_536];
+pub const BLOCKS: [usize; 3] = [64, 512, 65_536];
 
-struct WholeLog<'a> {
-    log: &'a [u8],
-    block: usize,
+pub struct WholeLog<'a> {
+    pub log: &'a [u8],
+    pub block: usize,
 }
 
 impl Task for WholeLog<'_> {
