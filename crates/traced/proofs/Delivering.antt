@@ -1,16 +1,15 @@
 -- The reports of one byte. The words of the rules that end say what the tests say, and the start
 -- for each place is that of the definition wherever a rule reports.
 use mathlib.Core.Path.{_≡_, refl, sym, ap, ap₂, subst, _∙_}
-use mathlib.Core.Bool.{Bool, true, false, true≢false, cond, not, _&&_, _||_, and-eq-true-iff}
+use mathlib.Core.Bool.{Bool, true, false, true≢false, cond, not, _&&_, and-eq-true-iff}
 use mathlib.Core.List.{List, [], _∷_, _++_}
 use Prim.Native.Nat.{ℕ, zero, suc, _+_, _-_, _^_, _<_, _≤_}
 use native.Mathlib.Nat.{add-zero, lt-of-le-of-lt}
 use native.Mathlib.Omega.{arith}
 use lib.Bits.{bitAnd, bitOr}
-use lib.Dec.{eqb, ltb}
 use lib.ListN.{length}
-use borrow.Author.Tests.{lt-ltb, le-ltb, eqb-true}
-use Rattle.sets.specs.Set.{on, has, smallest, count}
+use borrow.Author.Tests.{lt-ltb, le-ltb}
+use Rattle.sets.specs.Set.{on, has, count}
 use Rattle.sets.proofs.Digits.{on-and, on-zero}
 use Rattle.sets.proofs.Smallest.{smallest-under}
 use Rattle.table.specs.Layout.{maxRules, maxPositions}

@@ -3,7 +3,7 @@
 -- What waits for the stream's end is asked of the last of them alone, which is no newline.
 use mathlib.Core.Path.{_≡_, refl, sym, ap, ap₂, subst, _∙_}
 use mathlib.Core.Bool.{Bool, true, false, true≢false, cond, not, _&&_, _||_}
-use mathlib.Core.Logic.{_⊎_, inl, inr}
+use mathlib.Core.Logic.{inl, inr}
 use mathlib.Core.List.{List, [], _++_, append-nil}
 use Prim.Native.Nat.{ℕ, zero, suc, _+_, _-_, _^_, _<_, _≤_, min}
 use native.Mathlib.Nat.{add-zero, add-suc, le-trans}
@@ -16,7 +16,6 @@ use borrow.Author.Tests.{eqb-false, ne-eqb, lt-ltb, le-ltb}
 use Rattle.sets.specs.Set.{on, has, emptySet, isEmpty}
 use Rattle.sets.proofs.Laws.{has-empty, has-intersection, any-never}
 use Rattle.sets.proofs.Digits.{on-zero}
-use Rattle.kinds.specs.declared.Side.{Side}
 use Rattle.kinds.specs.Side.{sideOf}
 use Rattle.table.specs.Layout.{maxRules, maxPositions}
 use Rattle.table.specs.Gaps.{between, beforeLast, unsettled}
@@ -34,7 +33,7 @@ use Rattle.traced.specs.declared.Traced.{Traced}
 use Rattle.traced.specs.declared.scan.Turn.{Turn}
 use Rattle.traced.specs.Byte.{Report, given, keeping, lateStart, ownStart, nextStarts, nextState, byteReports, traced}
 use Rattle.traced.specs.Calls.{Lists, noStarts}
-use Rattle.traced.specs.Invariants.{zeros, Quietly, passTo, BackOver, PassEnd, Passes, Passed, Filled, Running}
+use Rattle.traced.specs.Invariants.{zeros, Quietly, passTo, BackOver, PassEnd, Passes, Passed, Running}
 use Rattle.traced.proofs.Carrying.{stepped-none, list-ext}
 use Rattle.traced.proofs.Lists.{filled-same}
 

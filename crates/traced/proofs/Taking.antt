@@ -27,7 +27,7 @@ use Rattle.traced.specs.declared.Traced.{Traced}
 use Rattle.traced.specs.declared.scan.Turn.{Turn}
 use Rattle.traced.specs.Byte.{Report, nextStarts, nextState, byteReports, traced}
 use Rattle.traced.specs.Calls.{Lists, space, written}
-use Rattle.traced.specs.Invariants.{zeros, InOrder, writtenAt, free, back, stopAt, Filled, Gone, Delivered, Stops, Takes, Offered, Running, Ran}
+use Rattle.traced.specs.Invariants.{InOrder, writtenAt, free, back, stopAt, Filled, Gone, Delivered, Stops, Takes, Offered, Running, Ran}
 use Rattle.traced.proofs.Carrying.{only-next, none-only, none-pairs}
 use Rattle.traced.proofs.Lists.{written-none, written-part, written-at-none, free-space, filled-start, filled-space, filled-more, filled-same}
 

@@ -1,8 +1,8 @@
 // Bytes that are passed over: where nothing is live inside the stream and no start is kept, a byte
 // with which no match can begin changes nothing but how far the stream is. As a newline may leave
 // something that waits for the stream's end, the last byte that is passed over is none; newlines
-// before it need no look. The code that looks for such bytes is that of the crate `stream`, whose
-// loop would be slower if it had a second caller.
+// before it need no look. The crate `stream` passes over such bytes too, by functions of its own:
+// its loop would be slower if they had a second caller.
 use super::scan::Turn;
 use kinds::Side;
 use kinds::side_of;

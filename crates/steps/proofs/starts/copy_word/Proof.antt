@@ -1,7 +1,6 @@
 -- `steps::starts::copy_word` meets its contract: each turn copies the start at the lowest digit
 -- that is left, and clears it.
-use native.Mathlib.Omega.{arith}
-use Prim.Native.Nat.{ℕ, _<_}
+use Prim.Native.Nat.{_<_}
 use denote.Ref.{now}
 use lib.Count.{trailingZeros}
 use Rattle.steps.proofs.Carrying.{digit, falls, base-fits, digit-fits, place-fits, bytes-fit, place-inside, at-least-one}

@@ -1,6 +1,5 @@
 -- `traced::pass::is_quiet` meets its contract: it asks each part.
-use mathlib.Core.Path.{_≡_, sym, _∙_}
-use mathlib.Core.Bool.{true}
+use mathlib.Core.Path.{sym, _∙_}
 use Rattle.sets.proofs.Laws.{empty-is}
 use Rattle.steps.proofs.Bounds.{words-good}
 use Rattle.traced.proofs.Passing.{quietly}

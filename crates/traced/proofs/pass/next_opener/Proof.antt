@@ -1,7 +1,7 @@
 -- `traced::pass::next_opener` meets its contract: each turn passes one byte with which no match can
 -- begin.
 use mathlib.Core.Path.{_≡_, sym, ap, _∙_}
-use Prim.Native.Nat.{ℕ, _-_, _<_}
+use Prim.Native.Nat.{ℕ, _-_}
 use native.Mathlib.Omega.{arith}
 use denote.Ref.{now}
 use lib.ListN.{getD}

@@ -1,7 +1,6 @@
 -- `traced::pass::pass_end` meets its contract: it does not begin, or it goes up to the next opener
 -- and back over the newlines before that.
-use mathlib.Core.Path.{_≡_, refl, subst}
-use mathlib.Core.Bool.{true}
+use mathlib.Core.Path.{refl, subst}
 use Prim.Native.Nat.{ℕ, _+_, _≤_, min}
 use native.Mathlib.Nat.{le-trans}
 use borrow.Author.Tests.{not-false}

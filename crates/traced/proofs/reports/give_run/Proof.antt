@@ -1,9 +1,7 @@
 -- `traced::reports::give_run` meets its contract: the run is written with the starts that were
 -- worked out for it (`wrote-by`).
-use mathlib.Core.Path.{_≡_}
 use Prim.Native.Nat.{ℕ, _≤_}
 use denote.Ref.{now}
-use lib.Bits.{bitAnd}
 use Rattle.table.specs.Automaton.{Automaton, automaton}
 use Rattle.table.proofs.Test.{passes}
 use Rattle.steps.specs.Step.{startAt}

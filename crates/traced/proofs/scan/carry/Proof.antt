@@ -1,5 +1,4 @@
 -- `traced::scan::carry` meets its contract: what is held first, and then the live positions.
-use denote.Ref.{now}
 use Rattle.traced.specs.Byte.{nextStarts}
 use Rattle.traced.specs.Invariants.{startsOf}
 use Rattle.traced.proofs.Delivering.{carried}

@@ -1,8 +1,8 @@
 -- `traced::scan::take_byte` meets its contract: each of its four ways has one law (`Offered`).
-use mathlib.Core.Path.{_≡_, refl, ap, ap₂, _∙_}
+use mathlib.Core.Path.{_≡_, refl, ap₂, _∙_}
 use mathlib.Core.Bool.{false}
 use mathlib.Core.List.{List}
-use Prim.Native.Nat.{ℕ, _+_, _-_, _*_, _^_, _<_, _≤_}
+use Prim.Native.Nat.{ℕ, _+_, _-_, _<_, _≤_}
 use native.Mathlib.Nat.{le-refl}
 use native.Mathlib.Omega.{arith}
 use denote.Ref.{now}
@@ -193,19 +193,23 @@ part-report-start-3 c = starts-there (c .before .before .before .before .before 
 part-report-end-3 : tie.Need-part-report-end-3
 part-report-end-3 c = le-refl (length (now (start (c .before .before .before .before .before .before) .args .starts)))
 
+-- from the last part that is lent
+abbrev last-part : tie.After-report-arg7 → tie.After-left-waiting
+last-part c = let i = c .before .before .before in i .before .before .before .before
+
 mul-report-4 : tie.Need-mul-report-4
 mul-report-4 c =
-    let o = c .before .before .before .before .before .before .before in
+    let o = last-part c in
     places-fit-8 (count o) (length (now (start o .args .relatives))) (relatives-there o) (start o .good .1 .1 .1 .1 .1 .1 .1 .1 .1 .1 .1 .1 .0 .1)
 
 sub-report-4 : tie.Need-sub-report-4
-sub-report-4 c = relatives-there (c .before .before .before .before .before .before .before)
+sub-report-4 c = relatives-there (last-part c)
 
 part-report-start-4 : tie.Need-part-report-start-4
-part-report-start-4 c = relatives-there (c .before .before .before .before .before .before .before)
+part-report-start-4 c = relatives-there (last-part c)
 
 part-report-end-4 : tie.Need-part-report-end-4
-part-report-end-4 c = le-refl (length (now (start (c .before .before .before .before .before .before .before) .args .relatives)))
+part-report-end-4 c = le-refl (length (now (start (last-part c) .args .relatives)))
 
 report-requires : tie.Need-report-requires
 report-requires c κs =

@@ -5,7 +5,7 @@ use Prim.Native.Nat.{ℕ, _+_, _≤_}
 use native.Mathlib.Omega.{arith}
 use lib.Bits.{bitAnd, bitOr}
 use lib.Dec.{ltb}
-use Rattle.sets.specs.Set.{on, count}
+use Rattle.sets.specs.Set.{on}
 use Rattle.sets.proofs.Laws.{count-le}
 use Rattle.stream.proofs.Bounds.{dues-fit}
 use Rattle.traced.proofs.Counting.{none-due}
