@@ -1,6 +1,6 @@
 // The plain second matcher: pattern bytes, flags, bounds and a whole log in; a refusal, or the end
 // offsets and starts of the rule's reports in their order. It uses no table and no automaton: marks
-// are moved through the pattern's tree, byte by byte.
+// are moved along the rows of the rule as it is written out, byte by byte.
 mod run;
 
 use run::Wanted;
