@@ -60,7 +60,7 @@ fn caret(line: &[u8], refused: Refused) -> usize {
     let Some(parts) = rules::parts(line) else { return malformed(line).0 };
     let pattern = line.len() - parts.pattern.len();
     match refused.number {
-        2 => line.iter().position(|&byte| byte == b' ').map_or(0, |space| space + 1),
+        2 | 24 => line.iter().position(|&byte| byte == b' ').map_or(0, |space| space + 1),
         3 => 0,
         5 => pattern + parts.pattern.len().min(1024),
         _ => pattern + refused.place,
@@ -168,6 +168,7 @@ fn hint(lines: &[&[u8]], all: &[Refused], line: &[u8], refused: Refused) -> Opti
         10 => Some(nothing_to_repeat(&parts.pattern[..refused.place.min(parts.pattern.len())])),
         14 => unsupported(rest).map(str::to_string),
         23 => raw_byte(parts.pattern, refused.place),
+        24 => Some("Leave out 8 for every match with its start, or 256 for the first end.".into()),
         _ => None,
     }
 }
@@ -179,7 +180,6 @@ fn flags(flags: u32) -> String {
         32 => " (UTF-8)",
         64 => " (Unicode properties)",
         128 => " (prefilter)",
-        256 => " (start of match)",
         512 => " (combination)",
         1024 => " (quiet)",
         _ => "",
@@ -262,6 +262,7 @@ mod tests {
         assert_eq!(told(b"8 0 a**").1, 6);
         assert_eq!(told(b"8 0 (a").1, 6);
         assert_eq!(told(b"81 32 a").1, 3);
+        assert_eq!(told(b"81 264 a").1, 3);
         assert_eq!(
             told("8 0 é\t".as_bytes()),
             ("8 0 é\\x09".into(), 5, "Byte 9, a tab: write \\t.".into())
