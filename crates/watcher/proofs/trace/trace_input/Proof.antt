@@ -32,8 +32,9 @@ open-requires c κs = tt
 
 loop-holds : tie.Need-loop-holds Inv-loop μ-loop
 loop-holds c =
-    let start = c .before .before .before .before .before .before .before in
-    let runs = subst (Running traces _) (sym (ap (λ (o : Opened). o .traced) (c .before .«open» .ensures))) (opened-traces _ (start .pre .0)) in
+    let opened = c .before in
+    let start = opened .before .before .before .before .before .before in
+    let runs = subst (Running traces _) (sym (ap (λ (o : Opened). o .traced) (opened .«open» .ensures))) (opened-traces _ (start .pre .0)) in
     (record { runs = runs; block-same = refl; lent = record { ids-same = refl; offsets-same = refl; out-same = refl } }, refl, refl)
 
 read-block-requires : tie.Need-read-block-requires Inv-loop μ-loop

@@ -28,8 +28,9 @@ open-requires c κs = tt
 
 loop-holds : tie.Need-loop-holds Inv-loop μ-loop
 loop-holds c =
-    let start = c .before .before .before .before .before .before .before in
-    let runs = subst (Running pairs _) (sym (ap (λ (o : Opened). o .stream) (c .before .«open» .ensures))) (opened-runs _ (start .pre .0) (start .pre .1)) in
+    let opened = c .before in
+    let start = opened .before .before .before .before .before .before in
+    let runs = subst (Running pairs _) (sym (ap (λ (o : Opened). o .stream) (opened .«open» .ensures))) (opened-runs _ (start .pre .0) (start .pre .1)) in
     record { runs = runs; block-same = refl; lent = record { ids-same = refl; offsets-same = refl; out-same = refl } }
 
 read-block-requires : tie.Need-read-block-requires Inv-loop μ-loop

@@ -17,7 +17,7 @@ called c =
 
 -- the test of the words, and what was handed in
 abbrev tested : tie.After-scan → tie.Else1
-tested c = c .before .before .before .before .before .before .before
+tested c = let at-load = c .before .before .before .before .before in at-load .before .before
 
 abbrev begun : tie.After-slice-known4 → tie.Start
 begun c = c .before .before .before .before .before .before
