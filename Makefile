@@ -25,7 +25,7 @@ SHARED := libwatcher.so.$(VERSION)
 SONAME := libwatcher.so.$(MAJOR)
 
 out := target/install
-archive := target/staticlib/libwatcher_c.a
+archive := target/staticlib/libwatcher.a
 
 .PHONY: all built install uninstall check-install
 

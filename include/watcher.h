@@ -130,7 +130,7 @@ typedef uint32_t watcher_error_t;
  * What a number means, in a few words: "a quantifier with nothing to repeat" for
  * 10, "an unknown refusal" for a number without a meaning. Never NULL; the text is
  * not to be freed. This and watcher_version are not among the proved functions, and
- * stand in the installed libraries, not in the bare archive of `rt staticlib`.
+ * stand in the installed libraries, not in the bare archive of `tools/library`.
  */
 const char *watcher_error_text(watcher_error_t number);
 

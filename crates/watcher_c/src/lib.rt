@@ -1,14 +1,12 @@
 // The functions for C and Rust, over numbers and slices only: a slice is a pointer and a length
-// there. The state is fifteen words that the caller owns; those for a stream with starts are in
-// trace.rt. Nothing is required of a caller but that its slices are what they say.
-// specs/Interface.antt has each answer and every lent word afterwards.
-mod state;
-mod trace;
-
+// there. The state is fifteen words that the caller owns; the functions on a stream with starts are
+// in the crate watcher_trace_c. Nothing is required of a caller but that its slices are what they
+// say. specs/Interface.antt has each answer and every lent word afterwards.
 use plain::Bounds;
-use state::STATE_WORDS;
-use state::load;
-use state::store;
+use states::SHORT_STATE;
+use states::STATE_WORDS;
+use states::load;
+use states::store;
 use stream::Stream;
 use stream::needs_starts;
 ghost use mathlib.Core.Path.{_≡_};
@@ -19,12 +17,9 @@ ghost use Rattle.stream.specs.Calls.{opened, lists, call};
 ghost use Rattle.matched.specs.Matched.{matchedPart, matchedNumber};
 ghost use Rattle.plain.specs.Run.{lent};
 ghost use Rattle.plain.specs.Answer.{question, Matches};
-ghost use Rattle.watcher_c.specs.State.{streamForm};
-ghost use Rattle.watcher_c.specs.Interface.{bounds, matched, testNumber, needsNumber, openNumber, openState, left, onState, scan, closing, scanCall, closeCall, busyFigure, matchedSource};
-
-// The number for a state of too few words. Numbers from 100 on are the interface's own, not the
-// rules'.
-const SHORT_STATE: u32 = 100;
+ghost use Rattle.states.specs.State.{streamForm};
+ghost use Rattle.states.specs.Call.{openNumber, storedIn, busyFigure, left, onState, scan, closing};
+ghost use Rattle.watcher_c.specs.Interface.{bounds, matched, testNumber, needsNumber, scanCall, closeCall, matchedSource};
 
 // Where the bytes of a match stand.
 const IN_BLOCK: u32 = 0;
@@ -83,7 +78,7 @@ pub extern "C" fn watcher_add(
 #[no_mangle]
 pub extern "C" fn watcher_open(table: &[u64], state: &mut [u64]) -> u32
     ensures answer { λ r. ⌜ r ≡ openNumber streamForm (opened (now (table .entry)) .number) (now (state .entry)) ⌝ }
-    ensures state { λ r. ⌜ now (state .exit) ≡ openState streamForm (opened (now (table .entry)) .stream) (now (state .entry)) ⌝ }
+    ensures state { λ r. ⌜ now (state .exit) ≡ storedIn streamForm (opened (now (table .entry)) .stream) (now (state .entry)) ⌝ }
 {
     if state.len() < STATE_WORDS {
         return SHORT_STATE;

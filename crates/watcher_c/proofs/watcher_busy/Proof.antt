@@ -1,9 +1,9 @@
 -- `watcher_c::watcher_busy` meets its contract: the state is the one in the words.
-use mathlib.Core.Path.{ap, _∙_}
+use mathlib.Core.Path.{sym, ap, _∙_}
 use denote.Ref.{now}
 use Rattle.stream.specs.Byte.{busyOf}
-use Rattle.watcher_c.specs.State.{streamForm}
-use Rattle.watcher_c.proofs.Answers.{busy-short, busy-long}
+use Rattle.states.specs.State.{streamForm}
+use Rattle.states.proofs.Answers.{read-long, busy-short, busy-long}
 use borrow.Author.Needs.{needs}
 use Rattle.watcher_c.proofs.watcher_busy.Statement.{statement}
 use Rattle.watcher_c.proofs.watcher_busy.Tie as tie
@@ -21,7 +21,8 @@ returns-2 : tie.Need-returns-2
 returns-2 c =
     let a = c .before .before .before .before .args in
     let s = c .before .load in
-    c .busy .ensures ∙ ap busyOf (s .ensures) ∙ busy-long streamForm (now (a .state)) (c .before .before .if1 .left)
+    let enough = c .before .before .if1 .left in
+    c .busy .ensures ∙ ap busyOf (s .ensures ∙ sym (read-long streamForm (now (a .state)) enough)) ∙ busy-long streamForm (now (a .state)) enough
 
 pub watcher-busy-spec : {M : Type 1} → statement M
 watcher-busy-spec = tie.close (tie.spec returns load-requires busy-requires returns-2)

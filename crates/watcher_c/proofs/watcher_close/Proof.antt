@@ -4,7 +4,7 @@ use mathlib.Core.Path.{ap₂}
 use denote.Ref.{now}
 use Rattle.stream.specs.Calls.{lists}
 use Rattle.watcher_c.specs.Interface.{closeCall, closeGiven}
-use Rattle.watcher_c.proofs.Answers.{call-short, call-accepted, call-refused}
+use Rattle.states.proofs.Answers.{call-short, call-accepted, call-refused}
 use borrow.Author.Needs.{needs}
 use Rattle.watcher_c.proofs.watcher_close.Statement.{statement}
 use Rattle.watcher_c.proofs.watcher_close.Tie as tie

@@ -4,9 +4,9 @@ use mathlib.Core.Path.{ap, _∙_}
 use denote.Ref.{now}
 use Rattle.stream.specs.declared.Opened.{Opened}
 use Rattle.stream.specs.Calls.{opened}
-use Rattle.watcher_c.specs.State.{streamForm, stored}
-use Rattle.watcher_c.specs.Interface.{openNumber}
-use Rattle.watcher_c.proofs.Answers.{open-short, open-long}
+use Rattle.states.specs.State.{streamForm}
+use Rattle.states.specs.Call.{storedIn}
+use Rattle.states.proofs.Answers.{open-short, open-long, store-short}
 use borrow.Author.Needs.{needs}
 use Rattle.watcher_c.proofs.watcher_open.Statement.{statement}
 use Rattle.watcher_c.proofs.watcher_open.Tie as tie
@@ -15,7 +15,7 @@ returns : tie.Need-returns
 returns c =
     let a = c .before .before .before .args in
     let o = opened (now (a .table)) in
-    open-short streamForm (now (a .state)) (o .number) (o .stream) (c .if1 .taken)
+    (open-short streamForm (now (a .state)) (o .number) (c .if1 .taken), store-short streamForm (now (a .state)) (o .stream) (c .if1 .taken))
 
 open-requires : tie.Need-open-requires
 open-requires c κs = search needs
@@ -33,10 +33,9 @@ returns-2 c =
     let at-if = at-open .before in
     let a = at-if .before .before .before .args in
     let o = opened (now (a .table)) in
-    let l = open-long streamForm (now (a .state)) (o .number) (o .stream) (at-if .if1 .left) in
     let e = at-open .«open» .ensures in (
-      ap (λ (r : Opened). r .number) e ∙ l .0,
-      at-store .store .ensures ∙ ap (λ (r : Opened). stored (streamForm .words (r .stream)) (now (a .state))) e ∙ l .1,
+      ap (λ (r : Opened). r .number) e ∙ open-long streamForm (now (a .state)) (o .number) (at-if .if1 .left),
+      at-store .store .ensures ∙ ap (λ (r : Opened). storedIn streamForm (r .stream) (now (a .state))) e,
     )
 
 pub watcher-open-spec : {M : Type 1} → statement M
