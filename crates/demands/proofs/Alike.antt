@@ -32,7 +32,7 @@ use Rattle.traced.specs.declared.Scanned as of-scan
 use Rattle.traced.specs.declared.Closed as of-close
 use Rattle.traced.specs.Byte.{Report, traced, endStart, closeReports, given}
 use Rattle.traced.specs.Valid as traced-valid
-use Rattle.traced.specs.Valid.{startsOk}
+use Rattle.starts.specs.Order.{startsOk}
 use Rattle.traced.specs.Calls as traced-calls
 use Rattle.traced.specs.Calls.{Lists, Call, noStarts, space, inStream, fromOffset, written, scanNumber, closeNumber}
 use Rattle.traced.proofs.Accepting.{inOrder}

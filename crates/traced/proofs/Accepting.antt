@@ -18,8 +18,10 @@ use Rattle.stream.specs.declared.Stream.{Stream}
 use Rattle.stream.specs.Valid.{streamLimit, sound}
 use Rattle.stream.specs.Calls.{spaceNumber}
 use Rattle.stream.proofs.Accepting.{Fitting, fitting}
+use Rattle.starts.specs.Order as order
+use Rattle.starts.specs.Order.{startOk, startsOk}
 use Rattle.traced.specs.declared.Traced.{Traced}
-use Rattle.traced.specs.Valid.{startOk, startsOk, valid}
+use Rattle.traced.specs.Valid.{valid}
 use Rattle.traced.specs.Calls.{scanNumber, closeNumber}
 use Rattle.traced.specs.Invariants.{InOrder}
 
@@ -27,10 +29,7 @@ use Rattle.traced.specs.Invariants.{InOrder}
 
 -- its starts are in order
 abbrev pub inOrder : Traced → Bool
-inOrder z =
-    startsOk maxPositions (has (z .stream .live)) (z .stream .taken) (z .starts .live)
-    && (startsOk maxPositions (has (z .stream .held)) (z .stream .taken) (z .starts .held)
-    && startsOk maxRules (on (z .stream .pending)) (z .stream .taken) (z .starts .pairs))
+inOrder z = order.inOrder (z .stream) (z .starts .live) (z .starts .held) (z .starts .pairs)
 
 module _ (w : Automaton) (z : Traced) where
   pub not-sound : sound w (z .stream) ≡ false → valid w z ≡ false

@@ -29,7 +29,7 @@ use Rattle.traced.specs.declared.Scanned.{Scanned}
 use Rattle.traced.specs.declared.Closed.{Closed}
 use Rattle.traced.specs.declared.scan.Turn.{Turn}
 use Rattle.traced.specs.Byte.{Report, given, endStart, closeReports, traced}
-use Rattle.traced.specs.Valid.{startOk, startsOk}
+use Rattle.starts.specs.Order.{startOk, startsOk}
 use Rattle.traced.specs.Calls.{Lists, Call, space, written, takenBy, callNumber, scanned, scannedLists, closeNumber, closed, closedLists}
 use Rattle.traced.specs.Invariants.{at, Small, RuleStarts, WroteTwo, Ended, Ran}
 use Rattle.traced.proofs.Accepting.{inOrder}

@@ -1,12 +1,10 @@
--- The laws of the calls on a stream with starts: Bounds (numbers that fit), Checking (the tests of
--- the starts), Accepting (when a call is accepted), Lists (the four lent lists), Runs (a run of
--- reports, and two), Carrying (the starts along a byte), Counting and Delivering (the reports of a
--- byte), Taking (a byte that is offered, and the loop), Passing (bytes that are passed over),
--- Closing (a closing, and the answers), Same (the same pairs at the same moments as a stream),
--- Without (where no rule needs a start), Ordered (starts stay in order), Results (what calls give,
--- and that valid states stay valid).
+-- The laws of the calls on a stream with starts: Bounds (numbers that fit), Accepting (when a call
+-- is accepted), Lists (the four lent lists), Runs (a run of reports, and two), Carrying (the starts
+-- along a byte), Counting and Delivering (the reports of a byte), Taking (a byte that is offered,
+-- and the loop), Passing (bytes that are passed over), Closing (a closing, and the answers), Same
+-- (the same pairs at the same moments as a stream), Without (where no rule needs a start), Ordered
+-- (starts stay in order), Results (what calls give, and that valid states stay valid).
 pub mod Bounds
-pub mod Checking
 pub mod Accepting
 pub mod Lists
 pub mod Runs

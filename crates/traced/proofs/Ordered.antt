@@ -22,7 +22,7 @@ use Rattle.stream.specs.declared.Stream.{Stream}
 use Rattle.stream.specs.Byte.{after, nextLive, nextHeld, nextPending, byteState}
 use Rattle.traced.specs.declared.Traced.{Traced}
 use Rattle.traced.specs.Byte.{keeping, nextStarts, nextState, traced}
-use Rattle.traced.specs.Valid.{startOk, startsOk}
+use Rattle.starts.specs.Order.{startOk, startsOk}
 use Rattle.traced.specs.Calls.{noStarts}
 use Rattle.traced.proofs.Accepting.{inOrder}
 use Rattle.steps.proofs.Carrying.{list-at}

@@ -25,7 +25,6 @@ use Rattle.traced.specs.declared.scan.Gates.{Gates}
 use Rattle.traced.specs.declared.scan.Turn.{Turn}
 use Rattle.traced.specs.declared.scan.Waiting.{Waiting}
 use Rattle.traced.specs.Byte.{Report, keeping, traced, nextStarts, byteReports, closeReports}
-use Rattle.traced.specs.Valid.{startOk}
 use Rattle.traced.specs.Calls.{Lists, lists, space, inStream, fromOffset, written}
 
 -- the sets and rules of a table that a scan asks for once
@@ -40,16 +39,6 @@ pub record GatesOf (t : List ℕ) (g : Gates) : Type 0 where
 -- a state by its parts
 abbrev pub stateOf : Stream → (live held pairs : List ℕ) → Traced
 stateOf s live held pairs = record { stream = s; starts = record { live = live; held = held; pairs = pairs } }
-
--- ---- the starts of a state
-
--- the n starts from `base` on are 0 if all their binary digits are
-abbrev pub NoneIn : (starts : List ℕ) → (base n digits : ℕ) → Type 0
-NoneIn starts base n digits = digits ≡ 0 → (k : ℕ) → k < n → getD starts (base + k) 0 ≡ 0
-
--- they are in order
-unfoldable pub startsIn : (starts : List ℕ) → (base n : ℕ) → (there : ℕ → Bool) → (taken : ℕ) → Bool
-startsIn starts base n there taken = not (any n (λ k. not (startOk (there k) taken (getD starts (base + k) 0))))
 
 -- ---- the lent lists
 

@@ -1,9 +1,9 @@
--- `traced::checks::start_ok` meets its contract: the two ways through it.
+-- `starts::start_ok` meets its contract: the two ways through it.
 use mathlib.Core.Path.{sym, ap}
 use mathlib.Core.Bool.{Bool, cond}
 use lib.Dec.{eqb, ltb}
-use Rattle.traced.proofs.checks.start_ok.Statement.{statement}
-use Rattle.traced.proofs.checks.start_ok.Tie as tie
+use Rattle.starts.proofs.start_ok.Statement.{statement}
+use Rattle.starts.proofs.start_ok.Tie as tie
 
 returns : tie.Need-returns
 returns c =

@@ -1,4 +1,4 @@
--- `traced::checks::block_ok` meets its contract: where all are 0 they are in order, and else each
+-- `starts::block_ok` meets its contract: where all are 0 they are in order, and else each
 -- is asked.
 use mathlib.Core.Path.{_≡_, refl}
 use mathlib.Core.Bool.{Bool, true, false, _&&_, _||_, and-eq-true-iff}
@@ -7,9 +7,9 @@ use Prim.Native.Nat.{ℕ, _<_}
 use denote.Ref.{now}
 use lib.Dec.{eqb, ltb}
 use borrow.Author.Tests.{eqb-true, ltb-true}
-use Rattle.traced.proofs.Checking.{order-none}
-use Rattle.traced.proofs.checks.block_ok.Statement.{statement}
-use Rattle.traced.proofs.checks.block_ok.Tie as tie
+use Rattle.starts.proofs.Checking.{order-none}
+use Rattle.starts.proofs.block_ok.Statement.{statement}
+use Rattle.starts.proofs.block_ok.Tie as tie
 
 -- none is there, or a byte is taken
 why : (there taken : ℕ) → (eqb there 0 || ltb 0 taken) ≡ true → (there ≡ 0) ⊎ (0 < taken)

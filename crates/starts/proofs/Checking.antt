@@ -17,8 +17,8 @@ use Rattle.sets.specs.Set.{on, has, any}
 use Rattle.sets.proofs.Digits.{on-zero}
 use Rattle.sets.proofs.Laws.{any-ext, any-never}
 use Rattle.table.specs.Layout.{maxRules, maxPositions}
-use Rattle.traced.specs.Valid.{startOk, startsOk}
-use Rattle.traced.specs.Invariants.{NoneIn, startsIn}
+use Rattle.starts.specs.Order.{startOk, startsOk}
+use Rattle.starts.specs.Invariants.{NoneIn, startsIn}
 
 -- ---- the digits of some starts
 

@@ -1,7 +1,7 @@
--- `traced::checks::starts_ok` meets its contract: the three tests.
+-- `starts::starts_ok` meets its contract: the three tests.
 use mathlib.Core.Bool.{_&&_}
-use Rattle.traced.proofs.checks.starts_ok.Statement.{statement}
-use Rattle.traced.proofs.checks.starts_ok.Tie as tie
+use Rattle.starts.proofs.starts_ok.Statement.{statement}
+use Rattle.starts.proofs.starts_ok.Tie as tie
 
 set-ok-requires : tie.Need-set-ok-requires
 set-ok-requires c κs = tt

@@ -1,9 +1,9 @@
--- `traced::checks::set_ok` meets its contract: the four words of the set, one after the other.
+-- `starts::set_ok` meets its contract: the four words of the set, one after the other.
 use native.Mathlib.Omega.{arith}
 use denote.Ref.{now}
-use Rattle.traced.proofs.Checking.{set-order}
-use Rattle.traced.proofs.checks.set_ok.Statement.{statement}
-use Rattle.traced.proofs.checks.set_ok.Tie as tie
+use Rattle.starts.proofs.Checking.{set-order}
+use Rattle.starts.proofs.set_ok.Statement.{statement}
+use Rattle.starts.proofs.set_ok.Tie as tie
 use borrow.Author.Needs.{needs}
 
 array-read-block-ok : tie.Need-array-read-block-ok

@@ -1,10 +1,10 @@
--- `traced::checks::pairs_ok` meets its contract: it is the test of 64 starts.
+-- `starts::pairs_ok` meets its contract: it is the test of 64 starts.
 use mathlib.Core.Path.{_∙_}
 use borrow.Author.Needs.{needs}
 use denote.Ref.{now}
-use Rattle.traced.proofs.Checking.{rules-order}
-use Rattle.traced.proofs.checks.pairs_ok.Statement.{statement}
-use Rattle.traced.proofs.checks.pairs_ok.Tie as tie
+use Rattle.starts.proofs.Checking.{rules-order}
+use Rattle.starts.proofs.pairs_ok.Statement.{statement}
+use Rattle.starts.proofs.pairs_ok.Tie as tie
 
 block-ok-requires : tie.Need-block-ok-requires
 block-ok-requires c κs = search needs

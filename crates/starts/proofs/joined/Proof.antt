@@ -1,4 +1,4 @@
--- `traced::checks::joined` meets its contract: each turn joins one start more.
+-- `starts::joined` meets its contract: each turn joins one start more.
 use Prim.Native.Nat.{ℕ, _+_, _-_, _*_, _^_, _≤_, _<_}
 use native.Mathlib.Omega.{arith}
 use denote.Ref.{now}
@@ -6,11 +6,11 @@ use lib.ListN.{length}
 use mir.Syntax.{w64}
 use mir.Val.{Fits}
 use mathlib.Core.Path.{_≡_, subst}
-use Rattle.traced.specs.Invariants.{NoneIn}
-use Rattle.traced.proofs.Checking.{none-start, none-more}
-use Rattle.traced.proofs.Bounds.{block-fits, block-bytes-fit, block-inside, turn-fits, turn-less, whole}
-use Rattle.traced.proofs.checks.joined.Statement.{statement}
-use Rattle.traced.proofs.checks.joined.Tie as tie
+use Rattle.starts.specs.Invariants.{NoneIn}
+use Rattle.starts.proofs.Checking.{none-start, none-more}
+use Rattle.starts.proofs.Bounds.{block-fits, block-bytes-fit, block-inside, turn-fits, turn-less, whole}
+use Rattle.starts.proofs.joined.Statement.{statement}
+use Rattle.starts.proofs.joined.Tie as tie
 
 abbrev Inv-loop : tie.InvT-loop
 Inv-loop starts base all₀ i₀ all i = (i ≤ 64) × NoneIn starts base i all

@@ -1,4 +1,4 @@
--- `traced::checks::each_ok` meets its contract: each turn asks one start more.
+-- `starts::each_ok` meets its contract: each turn asks one start more.
 use mathlib.Core.Path.{_≡_, ap, subst, _∙_}
 use mathlib.Core.Bool.{Bool}
 use Prim.Native.Nat.{ℕ, _-_, _≤_}
@@ -6,11 +6,11 @@ use native.Mathlib.Omega.{arith}
 use denote.Ref.{now}
 use lib.ListN.{length}
 use Rattle.sets.specs.Set.{on}
-use Rattle.traced.specs.Invariants.{startsIn}
-use Rattle.traced.proofs.Checking.{order-start, order-more}
-use Rattle.traced.proofs.Bounds.{block-fits, block-bytes-fit, block-inside, digit-fits, turn-fits-32, turn-less, whole}
-use Rattle.traced.proofs.checks.each_ok.Statement.{statement}
-use Rattle.traced.proofs.checks.each_ok.Tie as tie
+use Rattle.starts.specs.Invariants.{startsIn}
+use Rattle.starts.proofs.Checking.{order-start, order-more}
+use Rattle.starts.proofs.Bounds.{block-fits, block-bytes-fit, block-inside, digit-fits, turn-fits-32, turn-less, whole}
+use Rattle.starts.proofs.each_ok.Statement.{statement}
+use Rattle.starts.proofs.each_ok.Tie as tie
 
 abbrev Inv-loop : tie.InvT-loop
 Inv-loop starts base there taken ok₀ i₀ ok i = (i ≤ 64) × (ok ≡ startsIn starts base i (on there) taken)

@@ -1,0 +1,4 @@
+-- The laws of the tests of starts: Bounds (numbers that fit), Checking (sixty-four at a time, and a
+-- set's).
+pub mod Bounds
+pub mod Checking
