@@ -6,7 +6,6 @@
 mod byte;
 mod line;
 mod rows;
-mod starts;
 mod walk;
 
 pub use byte::Stepped;
@@ -25,6 +24,3 @@ pub use rows::line_ending;
 pub use rows::meets;
 pub use rows::rule_id;
 pub use rows::singles;
-pub use starts::carry_starts;
-pub use starts::rule_starts;
-pub use starts::step_starts;

@@ -1,10 +1,10 @@
 // Runs of reports with starts: a run has one end offset, and the rules that end there by rising
 // place, each a digit of a word, with a start for each place. A byte has two of them, and so has
 // the closing.
+use carried::rule_starts;
 use steps::closing;
 use steps::leftmosts;
 use steps::rule_id;
-use steps::rule_starts;
 use steps::singles;
 use stream::Stream;
 ghost use mathlib.Core.Path.{_≡_};
