@@ -1,5 +1,5 @@
-// The starts that a state keeps, and whether they are in order: below the bytes taken where there is
-// something to keep one for, and 0 elsewhere. Most starts are 0, so each 64 of them are joined
+// The starts that a state keeps, and whether they are in order: below the bytes taken where there
+// is something to keep one for, and 0 elsewhere. Most starts are 0, so each 64 of them are joined
 // first, and looked at one by one only if one is not. Nothing is required of a caller: the promise
 // holds for any state. specs/Order.antt says what is asked.
 use stream::Stream;
