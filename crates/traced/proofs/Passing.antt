@@ -2,17 +2,17 @@
 -- each brings no report, costs a unit and leaves nothing live, and no start of a live position.
 -- What waits for the stream's end is asked of the last of them alone, which is no newline.
 use mathlib.Core.Path.{_≡_, refl, sym, ap, ap₂, subst, _∙_}
-use mathlib.Core.Bool.{Bool, true, false, true≢false, cond, not, _&&_, _||_}
+use mathlib.Core.Bool.{Bool, true, false, cond, not, _&&_}
 use mathlib.Core.Logic.{inl, inr}
 use mathlib.Core.List.{List, [], _++_, append-nil}
 use Prim.Native.Nat.{ℕ, zero, suc, _+_, _-_, _^_, _<_, _≤_, min}
-use native.Mathlib.Nat.{add-zero, add-suc, le-trans}
+use native.Mathlib.Nat.{add-zero, add-suc}
 use native.Mathlib.Numerals.{add-one}
 use native.Mathlib.Decide.{decLt}
 use native.Mathlib.Omega.{arith}
 use lib.Dec.{eqb, ltb}
 use lib.ListN.{length, getD}
-use borrow.Author.Tests.{eqb-false, ne-eqb, lt-ltb, le-ltb}
+use borrow.Author.Tests.{ne-eqb, lt-ltb, le-ltb}
 use Rattle.sets.specs.Set.{on, has, emptySet, isEmpty}
 use Rattle.sets.proofs.Laws.{has-empty, has-intersection, any-never}
 use Rattle.sets.proofs.Digits.{on-zero}
@@ -24,34 +24,18 @@ use Rattle.steps.specs.Step.{keepersOf, ends, endsNewly, lateIn, startAt}
 use Rattle.steps.proofs.Steps.{next-quiet}
 use Rattle.stream.specs.declared.Stream.{Stream}
 use Rattle.stream.specs.Byte.{after, reportsBy, costBy, nextLive, nextHeld, nextPending, lateTest, ownTest, byteState, busyOf}
-use Rattle.stream.specs.Invariants.{NoOpener}
 use Rattle.stream.proofs.Machines.{after-more, reports-more, cost-more}
 use Rattle.stream.proofs.Quiet.{ends-empty, late-empty, size-empty}
 use Rattle.stream.proofs.TwoRuns.{two-none, two-marks-none}
+use Rattle.quiet.specs.Pass.{Quietly, PassEnd}
 use Rattle.traced.specs.declared.Starts.{Starts}
 use Rattle.traced.specs.declared.Traced.{Traced}
 use Rattle.traced.specs.declared.scan.Turn.{Turn}
 use Rattle.traced.specs.Byte.{Report, given, keeping, lateStart, ownStart, nextStarts, nextState, byteReports, traced}
 use Rattle.traced.specs.Calls.{Lists, noStarts}
-use Rattle.traced.specs.Invariants.{zeros, Quietly, passTo, BackOver, PassEnd, Passes, Passed, Running}
+use Rattle.traced.specs.Invariants.{zeros, passTo, Passes, Passed, Running}
 use Rattle.traced.proofs.Carrying.{stepped-none, list-ext}
 use Rattle.traced.proofs.Lists.{filled-same}
-
--- ---- where a pass ends
-
-unopened-less : (w : Automaton) (block : List ℕ) (from end to r : ℕ) → from ≤ r → r ≤ to → NoOpener w block from end to → NoOpener w block from end r
-unopened-less w block from end to r h l n = record { rises = h; inside = le-trans l (n .inside); none = λ j f g. n .none j f (omega arith) }
-
-pub pass-none : (w : Automaton) (quiet : Bool) (block : List ℕ) (from end : ℕ) → NoOpener w block from end from → PassEnd w quiet block from end from
-pass-none w quiet block from end h = record { unopened = h; quiet-is = λ l. absurd (omega arith); other = λ l. absurd (omega arith) }
-
-pub pass-back : {w : Automaton} {quiet : Bool} {block : List ℕ} {from end to r : ℕ} → quiet ≡ true → NoOpener w block from end to → BackOver block from to r
-    → PassEnd w quiet block from end r
-pass-back {w} {quiet} {block} {from} {end} {to} {r} e n b = record {
-  unopened = unopened-less w block from end to r (b .rises) (b .inside) n;
-  quiet-is = λ l. e;
-  other = b .other;
-}
 
 -- ---- one byte
 
@@ -265,21 +249,6 @@ module _ (w : Automaton) (z : Traced) (block : List ℕ) (at : ℕ) where
         })
 
 -- ---- the loop
-
--- a turn asks each of them
-pub quietly : (some waits : Bool) (live : List ℕ) (taken : ℕ) (empty : Bool) → (empty ≡ true → live ≡ emptySet) → (not (some || waits) && (empty && not (eqb taken 0))) ≡ true
-    → Quietly some waits live taken
-quietly some waits live taken empty is = go some waits empty is (eqb taken 0) refl
-  where
-    positive : (n : ℕ) → eqb n 0 ≡ false → 0 < n
-    positive n e = omega (arith, eqb-false n 0 e)
-
-    go : (a b c : Bool) → (c ≡ true → live ≡ emptySet) → (d : Bool) → eqb taken 0 ≡ d → (not (a || b) && (c && not d)) ≡ true → Quietly a b live taken
-    go false false true is false e q = record { none-live = refl; none-waits = refl; empty = is refl; begun = positive taken e }
-    go false false true is true e q = absurd (true≢false (sym q))
-    go false false false is d e q = absurd (true≢false (sym q))
-    go false true c is d e q = absurd (true≢false (sym q))
-    go true b c is d e q = absurd (true≢false (sym q))
 
 pub passed : {w : Automaton} {block : List ℕ} {y : Turn} {to : ℕ} (quiet : Bool) → (quiet ≡ true → Quietly (y .some) (y .waits) (y .stream .live) (y .stream .taken))
     → PassEnd w quiet block (y .at) (min (length block) (y .at + y .left)) to → y .stream .reported < 2 ^ 64 → (r : Turn) → r ≡ passTo block y to → Passed w block y r

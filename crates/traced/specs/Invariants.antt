@@ -17,7 +17,8 @@ use Rattle.table.specs.Automaton.{Automaton, automaton, single}
 use Rattle.steps.specs.Step.{listFrom, lastsOf, latesOf, keepersOf, rulesWhere, steppedStarts, startAt, OnlyIn}
 use Rattle.stream.specs.declared.Stream.{Stream}
 use Rattle.stream.specs.Byte.{after, reportsBy, costBy, runReports, runMarks, twoReports, twoMarks, nextLive, nextHeld, nextPending, byteState, busyOf}
-use Rattle.stream.specs.Invariants.{columnAt, partAt, passedSide, NoOpener, Over}
+use Rattle.stream.specs.Invariants.{columnAt, partAt, passedSide, Over}
+use Rattle.quiet.specs.Pass.{Quietly}
 use Rattle.traced.specs.declared.Starts.{Starts}
 use Rattle.traced.specs.declared.Traced.{Traced}
 use Rattle.traced.specs.declared.reports.Marks.{Marks}
@@ -155,26 +156,6 @@ pub record Delivered (w : Automaton) (z : Traced) (x first : ℕ) (l : Lists) (f
   pub goes : full ≡ false → Gone w z x first l reports marks some waits k l′
 
 -- ---- bytes that are passed over
-
--- nothing is live inside the stream, and no start is kept
-pub record Quietly (some waits : Bool) (live : List ℕ) (taken : ℕ) : Type 0 where
-  pub none-live : some ≡ false
-  pub none-waits : waits ≡ false
-  pub empty : live ≡ emptySet
-  pub begun : 0 < taken
-
--- a place from `from` on, at most `to`, before which no newline stands, unless it is `from`
-pub record BackOver (block : List ℕ) (from to r : ℕ) : Type 0 where
-  pub rises : from ≤ r
-  pub inside : r ≤ to
-  pub other : from < r → ¬ (getD block (r - 1) 0 ≡ 10)
-
--- where a pass ends: it may begin, no match can begin with the bytes up to there, which are at most
--- those up to `end`, and the last of them is no newline
-pub record PassEnd (w : Automaton) (quiet : Bool) (block : List ℕ) (from end r : ℕ) : Type 0 where
-  pub unopened : NoOpener w block from end r
-  pub quiet-is : from < r → quiet ≡ true
-  pub other : from < r → ¬ (getD block (r - 1) 0 ≡ 10)
 
 -- a turn that passes bytes over, up to place `to`: a unit each, and nothing is held, if there are
 -- any

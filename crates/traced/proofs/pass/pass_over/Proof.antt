@@ -1,9 +1,11 @@
 -- `traced::pass::pass_over` meets its contract: the bytes up to where a pass ends change nothing.
-use Prim.Native.Nat.{ℕ, _+_, _-_, _^_, _<_, _≤_}
+use Prim.Native.Nat.{ℕ, _+_, _-_, _^_, _<_, _≤_, min}
 use native.Mathlib.Omega.{arith}
 use borrow.Author.Needs.{needs}
 use denote.Ref.{now}
 use lib.ListN.{length}
+use Rattle.table.specs.Automaton.{automaton}
+use Rattle.quiet.specs.Pass.{PassEnd}
 use Rattle.traced.proofs.Bounds.{pass-fits}
 use Rattle.traced.proofs.Passing.{passed}
 use Rattle.traced.proofs.pass.pass_over.Statement.{statement}
@@ -20,17 +22,20 @@ module _ (c : tie.After-pass-end) where
   abbrev to : ℕ
   to = c .pass-end .result
 
+  ends : PassEnd (automaton (now (begun .args .words))) (c .before .is-quiet .result) (now (begun .args .block)) (begun .args .y .at) (min n (begun .args .y .at + begun .args .y .left)) to
+  ends = c .pass-end .ensures .inside (begun .pre .0)
+
   in-block : to ≤ n
-  in-block = let e = c .pass-end .ensures .unopened .inside in omega (arith, e)
+  in-block = let e = ends .unopened .inside in omega (arith, e)
 
   paid : to - begun .args .y .at ≤ begun .args .y .left
-  paid = let e = c .pass-end .ensures .unopened .inside in omega (arith, e)
+  paid = let e = ends .unopened .inside in omega (arith, e)
 
 is-quiet-requires : tie.Need-is-quiet-requires
 is-quiet-requires c κs = tt
 
 pass-end-requires : tie.Need-pass-end-requires
-pass-end-requires c κs = c .before .before .before .before .before .before .pre .0
+pass-end-requires c κs = tt
 
 passed-set-requires : tie.Need-passed-set-requires
 passed-set-requires c κs = tt
@@ -42,7 +47,7 @@ passed-side-requires : tie.Need-passed-side-requires
 passed-side-requires c κs = in-block (c .before .before)
 
 sub-passed : tie.Need-sub-passed
-sub-passed c = c .before .before .before .pass-end .ensures .unopened .rises
+sub-passed c = ends (c .before .before .before) .unopened .rises
 
 add-t17 : tie.Need-add-t17
 add-t17 c =
@@ -59,7 +64,7 @@ returns c =
     let o = side .before .before .before in
     let y = begun o .args .y in
     let small : y .stream .reported < 2 ^ 64 = search needs in
-    passed (o .before .is-quiet .result) (o .before .is-quiet .ensures) (o .pass-end .ensures) small _
+    passed (o .before .is-quiet .result) (o .before .is-quiet .ensures .1) (ends o) small _
     (λ i. record {
       stream = record {
         live = y .stream .live;

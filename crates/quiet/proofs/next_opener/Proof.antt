@@ -1,4 +1,4 @@
--- `traced::pass::next_opener` meets its contract: each turn passes one byte with which no match can
+-- `quiet::next_opener` meets its contract: each turn passes one byte with which no match can
 -- begin.
 use mathlib.Core.Path.{_≡_, sym, ap, _∙_}
 use Prim.Native.Nat.{ℕ, _-_}
@@ -8,8 +8,8 @@ use lib.ListN.{getD}
 use Rattle.table.specs.Automaton.{automaton}
 use Rattle.stream.specs.Invariants.{NoOpener}
 use Rattle.stream.proofs.Quiet.{unopened-none, unopened-more}
-use Rattle.traced.proofs.pass.next_opener.Statement.{statement}
-use Rattle.traced.proofs.pass.next_opener.Tie as tie
+use Rattle.quiet.proofs.next_opener.Statement.{statement}
+use Rattle.quiet.proofs.next_opener.Tie as tie
 
 abbrev Inv-loop : tie.InvT-loop
 Inv-loop words block from end at₀ at = NoOpener (automaton words) block from end at

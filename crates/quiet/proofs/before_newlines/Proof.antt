@@ -1,9 +1,9 @@
--- `traced::pass::before_newlines` meets its contract: each turn goes back over one newline.
+-- `quiet::before_newlines` meets its contract: each turn goes back over one newline.
 use Prim.Native.Nat.{_-_, _≤_}
 use native.Mathlib.Nat.{le-refl}
 use native.Mathlib.Omega.{arith}
-use Rattle.traced.proofs.pass.before_newlines.Statement.{statement}
-use Rattle.traced.proofs.pass.before_newlines.Tie as tie
+use Rattle.quiet.proofs.before_newlines.Statement.{statement}
+use Rattle.quiet.proofs.before_newlines.Tie as tie
 
 abbrev Inv-loop : tie.InvT-loop
 Inv-loop block from to at₀ at = (from ≤ at) × (at ≤ to)

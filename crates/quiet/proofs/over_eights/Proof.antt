@@ -1,4 +1,4 @@
--- `traced::pass::over_eights` meets its contract: each turn passes eight bytes with which no match
+-- `quiet::over_eights` meets its contract: each turn passes eight bytes with which no match
 -- can begin, and each turn in it asks one of them.
 use mathlib.Core.Path.{_≡_, refl, sym, ap, _∙_}
 use mathlib.Core.Bool.{Bool, true, false, true≢false, _||_}
@@ -11,8 +11,8 @@ use lib.ListN.{getD}
 use Rattle.table.specs.Automaton.{Automaton, automaton}
 use Rattle.stream.specs.Invariants.{NoOpener}
 use Rattle.stream.proofs.Quiet.{unopened-none, unopened-more}
-use Rattle.traced.proofs.pass.over_eights.Statement.{statement}
-use Rattle.traced.proofs.pass.over_eights.Tie as tie
+use Rattle.quiet.proofs.over_eights.Statement.{statement}
+use Rattle.quiet.proofs.over_eights.Tie as tie
 
 -- none of the first n bytes from `at` on
 abbrev NoneOf : (w : Automaton) (block : List ℕ) (at n : ℕ) → Type 0
