@@ -2,8 +2,7 @@
 -- comes from), Carried (what additions built), TwoRuns (what one moment reports), Endings (where
 -- matches end), Tracked and Whole (a stream follows the meaning), Others and Lawful (lists of
 -- calls), Bytewise, Short and Streams (streams without starts), Busy, Theorems; Ends, Allowances,
--- Demand1, Alone. From words to values, for the worked cases: Agreeing, Computing and Outcomes
--- (calls followed by an automaton that computes), Logs, Cases, Example.
+-- Demand1, Alone.
 pub mod Acceptance
 pub mod Origins
 pub mod Carried
@@ -23,11 +22,5 @@ pub mod Theorems
 pub mod Ends
 pub mod Allowances
 pub mod Demand1
-pub mod Agreeing
-pub mod Computing
-pub mod Outcomes
-pub mod Logs
-pub mod Cases
-pub mod Example
 pub mod Alone
 pub mod Alike

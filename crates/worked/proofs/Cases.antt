@@ -37,9 +37,9 @@ use Rattle.rules.specs.Additions.{Narrow, Accepted, used, taken, nextAnswer, wi
 use Rattle.rules.specs.Encoded.{addAll}
 use Rattle.rules.proofs.Sorted.{laid, insert, into}
 use Rattle.rules.proofs.Additions.{Built, built-none, built-next, answer-built, words-built}
-use Rattle.demands.specs.Cases.{bytes, Log, Case, Gives, AllGive, answerIn, logsIn, Alone, answersOf, additionsIn, cases, logs, WorkedCases}
-use Rattle.demands.proofs.Computing.{owner, ownerPlace, computed, computedOf}
-use Rattle.demands.proofs.Logs.{same, pass, passed, final, follows, withoutStarts, startOf, log-gives}
+use Rattle.worked.specs.Cases.{bytes, Log, Case, Gives, AllGive, answerIn, logsIn, Alone, answersOf, additionsIn, cases, logs, WorkedCases}
+use Rattle.worked.proofs.Computing.{owner, ownerPlace, computed, computedOf}
+use Rattle.worked.proofs.Logs.{same, pass, passed, final, follows, withoutStarts, startOf, log-gives}
 
 -- ---- the cases without a table, which compute
 

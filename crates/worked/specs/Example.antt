@@ -11,10 +11,10 @@ use lib.ListN.{length}
 use Rattle.table.specs.Layout.{tableWords}
 use Rattle.stream.specs.Calls.{Lists, lists, Call, call}
 use Rattle.regex.specs.Ordered.{Report, Ordered}
 use Rattle.demands.specs.Chain.{this, those, adding, scanning, Step, addition, another, Item, scan, close, other, Outcome, by-scan, by-close, outcomesOf}
 use Rattle.demands.specs.Kinds.{short}
 use Rattle.demands.specs.Demands.{Setting, tableIn, streamIn, rulesIn, Calls, closes, taken, joined}
-use Rattle.demands.specs.Cases.{bytes, rule}
+use Rattle.worked.specs.Cases.{bytes, rule}
 
 -- a list with one slot, fewer than one rule needs, and one with two
 abbrev slot : List ℕ

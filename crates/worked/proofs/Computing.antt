@@ -21,8 +21,8 @@ use Rattle.rules.specs.Additions.{Accepted, size, used}
 use Rattle.rules.proofs.Sorted.{Placed, at, byId}
 use Rattle.rules.proofs.Encodes.{Encodes, Of, formOf, itemOf, worldAt, starts-first, last-out}
 use Rattle.rules.proofs.Additions.{Built}
 use Rattle.demands.proofs.Carried.{positions-at}
-use Rattle.demands.proofs.Agreeing.{Agree}
+use Rattle.worked.proofs.Agreeing.{Agree}
 
 -- the first rule that has position q
 unfoldable pub owner : List Placed → ℕ → Placed

@@ -27,15 +27,15 @@ use Rattle.regex.proofs.Logic.{and-T, true-T, false-T}
 use Rattle.rules.specs.Words.{isLeftmost}
 use Rattle.rules.specs.Additions.{Accepted, ruleOf, used}
 use Rattle.rules.proofs.Additions.{Built}
 use Rattle.demands.specs.Kinds.{short}
 use Rattle.demands.specs.Chain.{Outcome, by-scan, by-close, outcomesOf, OthersRefused, Bytes}
-use Rattle.demands.specs.Cases.{bytes, Log, callsOn, expected, Gives}
+use Rattle.worked.specs.Cases.{bytes, Log, callsOn, expected, Gives}
 use Rattle.demands.proofs.Carried.{Carried, carried, none-needed, rules-at}
 use Rattle.demands.proofs.Bytewise.{startless, givenTo, givenAtEnd, givenOf}
 use Rattle.demands.proofs.Lawful.{given-append}
-use Rattle.demands.proofs.Agreeing.{Agree, Inside}
-use Rattle.demands.proofs.Computing.{computedOf, built-agrees}
-use Rattle.demands.proofs.Outcomes.{scans, closes, callsIn, scanLeft, closeLeft, gives, moves, run, followed, BytesIn, runs-same}
+use Rattle.worked.proofs.Agreeing.{Agree, Inside}
+use Rattle.worked.proofs.Computing.{computedOf, built-agrees}
+use Rattle.worked.proofs.Outcomes.{scans, closes, callsIn, scanLeft, closeLeft, gives, moves, run, followed, BytesIn, runs-same}
 
 -- whether two lists of reports are the same
 unfoldable pub same : List Report → List Report → Bool

@@ -40,17 +40,17 @@ use Rattle.rules.specs.Add.{unknownFlag, singleStart, placed}
 use Rattle.rules.specs.Additions.{Accepted, used, taken, nextAnswer, withNew, afterNext, acceptedAfter}
 use Rattle.rules.proofs.Sorted.{laid, insert, into}
 use Rattle.rules.proofs.Additions.{Built}
 use Rattle.demands.specs.Kinds.{short}
 use Rattle.demands.specs.Chain.{numberOf, additionsOf, OthersRefusedBefore, bytesOf, reportsOf, outcomesOf, OthersRefused, Blocks}
 use Rattle.demands.specs.Demands.{Setting, Between, tableIn, acceptedIn, streamIn, rulesIn}
-use Rattle.demands.specs.Cases.{bytes, rule}
-use Rattle.demands.specs.Example.{steps, items, outcomes, list, setting, Instance}
+use Rattle.worked.specs.Cases.{bytes, rule}
+use Rattle.worked.specs.Example.{steps, items, outcomes, list, setting, Instance}
 use Rattle.demands.proofs.Lawful.{Refused, refused-others}
 use Rattle.demands.proofs.Short.{shut-scan}
-use Rattle.demands.proofs.Computing.{owner, ownerPlace, computed, computedOf, built-agrees}
-use Rattle.demands.proofs.Outcomes.{callsIn, scanLeft, closeLeft, gives, moves, run, followed, BytesIn, runs-same, reportsIn-all, reports-joined, bytesIn-all, bytes-joined, Shuts, closes-seen}
-use Rattle.demands.proofs.Logs.{bytes-tested, withoutStarts, startOf, opened-is, start-inside, without}
+use Rattle.worked.proofs.Computing.{owner, ownerPlace, computed, computedOf, built-agrees}
+use Rattle.worked.proofs.Outcomes.{callsIn, scanLeft, closeLeft, gives, moves, run, followed, BytesIn, runs-same, reportsIn-all, reports-joined, bytesIn-all, bytes-joined, Shuts, closes-seen}
+use Rattle.worked.proofs.Logs.{bytes-tested, withoutStarts, startOf, opened-is, start-inside, without}
 use Rattle.demands.proofs.Theorems.{built, table, acceptance, short-streams}
 
 module _ (words : List ℕ) (long : tableWords ≤ length words) where
   abbrev c : Setting

@@ -22,12 +22,12 @@ use Rattle.stream.specs.Calls.{Lists, Call, space, spaceNumber, scanNumber, clo
 use Rattle.stream.proofs.Machines.{fits-le}
 use Rattle.stream.proofs.Results.{accepted-scan, refused-scan, accepted-close, refused-close}
 use Rattle.regex.specs.Ordered.{Report}
 use Rattle.demands.specs.Kinds.{reportsIn, short}
 use Rattle.demands.specs.Chain.{Item, scan, close, other, tableAfter, bytesOf, reportsOf, Outcome, by-scan, by-close, outcomesOf, OthersRefused, Closes, Bytes}
 use Rattle.demands.proofs.Bytewise.{startless, givenTo, givenAtEnd}
 use Rattle.demands.proofs.Others.{kept}
 use Rattle.demands.proofs.Short.{scan-reports, close-reports, scan-valid, close-valid}
-use Rattle.demands.proofs.Agreeing.{Agree, Inside, states-agree, all-agree, fits-agree, inside-after, closing-agrees}
+use Rattle.worked.proofs.Agreeing.{Agree, Inside, states-agree, all-agree, fits-agree, inside-after, closing-agrees}
 
 -- a call of the stream, of whose lent lists only the space counts
 pub data Asked : Type 0 where
