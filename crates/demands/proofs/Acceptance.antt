@@ -9,9 +9,9 @@ use Prim.Native.Nat.{ℕ, _+_, _≤_, _<_}
 use native.Mathlib.Decide.{ℕ-discrete, decLt, decLe}
 use native.Mathlib.Omega.{arith}
 use lib.Bits.{bitAnd}
-use lib.Dec.{eqb}
+use lib.Dec.{eqb, ltb}
 use lib.ListN.{length}
-use borrow.Author.Tests.{eq-eqb, eqb-true}
+use borrow.Author.Tests.{eq-eqb, eqb-true, lt-ltb, le-ltb}
 use Rattle.table.specs.Layout.{maxRules, maxPositions}
 use Rattle.table.specs.Table.{knownFlags}
 use Rattle.regex.specs.Form.{write, positions}
@@ -19,10 +19,10 @@ use Rattle.nodes.specs.Nodes.{Syntax}
 use Rattle.pattern.specs.Walk.{Read, tree, refused}
 use Rattle.pattern.specs.Read.{longest, optionsOf}
 use Rattle.pattern.proofs.Accepted.{reads-if}
-use Rattle.rules.specs.Add.{Addition, readingOf, singleStart}
+use Rattle.rules.specs.Add.{Addition, readingOf, singleStart, emptyWindow}
 use Rattle.rules.specs.Additions.{Accepted, used, taken, nextAnswer}
 use Rattle.rules.proofs.Additions.{Accepts, accepts}
-use Rattle.demands.specs.Demands.{Refusal, unknown-flag, single-start, id-there, all-there, too-long, in-pattern, no-room}
+use Rattle.demands.specs.Demands.{Refusal, unknown-flag, single-start, id-there, all-there, too-long, empty-window, in-pattern, no-room}
 
 -- a rule that has the id is in the list exactly if the id is taken
 taken-by : (rs : List Accepted) (id : ℕ) → taken rs id ≡ true → (r : Accepted) × List·Memᴰ r rs × (r .id ≡ id)
@@ -50,12 +50,25 @@ module _ (rs : List Accepted) (a : Addition) where
   one-tree : (x y : Syntax) → tree x ≡ tree y → x ≡ y
   one-tree x y e = ap (λ (r : Read). elim r [ tree z ↦ z | refused i j ↦ x ]) e
 
+  not-empty : Accepts rs a → a .highest < a .lowest → ⊥
+  unfolding emptyWindow
+  not-empty c h = true≢false (sym (lt-ltb (a .highest) (a .lowest) h) ∙ c .open-window)
+
+  ordered : ¬ Refusal rs a → emptyWindow a ≡ false
+  unfolding emptyWindow
+  ordered none = go (decLt (a .highest) (a .lowest))
+    where
+      go : Dec (a .highest < a .lowest) → ltb (a .highest) (a .lowest) ≡ false
+      go (yes l) = absurd (none (empty-window l))
+      go (no n) = le-ltb (a .highest) (a .lowest) (omega arith)
+
   none-left : Accepts rs a → ¬ Refusal rs a
   none-left c (unknown-flag h) = h (c .known)
   none-left c (single-start e) = true≢false (sym e ∙ c .not-both)
   none-left c (id-there r m e) = true≢false (sym (taken-at rs (a .id) r m e) ∙ c .free)
   none-left c (all-there h) = omega (arith, c .few)
   none-left c (too-long h) = omega (arith, c .short)
+  none-left c (empty-window h) = not-empty c h
   none-left c (in-pattern n p r) = reads-if (a .pattern) (optionsOf (a .flags)) .0 (c .read, c .reading) n p r
   none-left c (no-room x e h) =
       let same : positions (write (c .read)) ≡ positions (write x) = ap (λ (t : Syntax). positions (write t)) (one-tree (c .read) x (sym (c .reading) ∙ e)) in
@@ -70,6 +83,7 @@ module _ (rs : List Accepted) (a : Addition) where
         free = free (taken rs (a .id)) refl;
         few = few (decLt (length rs) maxRules);
         short = short (decLe (length (a .pattern)) longest);
+        open-window = ordered none;
         read = x .0;
         reading = x .1;
         room = room (x .0) (x .1) (decLe (used rs + positions (write (x .0))) maxPositions);

@@ -45,7 +45,7 @@ all-undisturbed =
 -- what one table accepts, an emptied one does
 accepts-first : (rs : List Accepted) (a : Addition) → Accepts rs a → nextAnswer [] a .number ≡ 0
 unfolding used Rattle.rules.specs.Additions.taken
-accepts-first rs a h = accepts [] a .1 (record { known = h .known; not-both = h .not-both; free = refl; few = omega arith; short = h .short; read = h .read; reading = h .reading; room = omega (arith, h .room) })
+accepts-first rs a h = accepts [] a .1 (record { known = h .known; not-both = h .not-both; free = refl; few = omega arith; short = h .short; open-window = h .open-window; read = h .read; reading = h .reading; room = omega (arith, h .room) })
 
 pub accepted-alone : AcceptedAlone
 unfolding acceptedAfter afterNext

@@ -6,10 +6,10 @@ use mathlib.Core.Path.{_≡_, refl, sym, subst, ap, ap₂, _∙_}
 use mathlib.Core.Logic.{_↔_}
 use mathlib.Core.Bool.{Bool, true, false, true≢false, _&&_, _||_, and-false}
 use mathlib.Core.List.{List, [], _∷_, map, List·Memᴰ, List·Memᴰ·head, List·Memᴰ·tail, Memᴰ·of-map, Memᴰ·map, Memᴰ·cast}
-use Prim.Native.Nat.{ℕ, _+_, _≤_, _<_}
+use Prim.Native.Nat.{ℕ, _+_, _^_, _≤_, _<_}
 use native.Mathlib.Decide.{decLt}
 use native.Mathlib.Omega.{arith}
-use lib.Dec.{T, ltb}
+use lib.Dec.{T, leb, ltb, leb→le, le→leb}
 use lib.ListN.{length}
 use borrow.Author.Tests.{lt-ltb, le-ltb}
 use Rattle.sets.specs.Set.{has, any}
@@ -20,14 +20,16 @@ use Rattle.table.specs.Automaton.{Automaton, automaton, single, starts, last as
 use Rattle.table.proofs.Lates.{LatesAre}
 use Rattle.stream.specs.Valid.{needsStarts}
 use Rattle.regex.specs.Form.{Form, write, positions}
-use Rattle.regex.specs.Rule.{Rule, no-windows, ByteSet, Assertion}
+use Rattle.regex.specs.Rule.{Rule, ByteSet, Assertion}
 use Rattle.regex.specs.Automaton.{first, last, follow}
 use Rattle.regex.proofs.Relations.{First, Last, Follow, Takes}
-use Rattle.regex.proofs.Logic.{true-T}
+use Rattle.regex.proofs.Logic.{true-T, and-T}
+use Rattle.regex.proofs.Offsets.{AtOffset}
 use Rattle.regex.proofs.Computed.{first-T, last-T, follow-T}
 use Rattle.rules.specs.Additions.{Accepted, ruleOf, size, used}
 use Rattle.rules.proofs.Sorted.{Placed, at, laid, byId, byId-rule, byId-mem, mem-at, laid-mem}
 use Rattle.rules.proofs.Additions.{Built}
+use Rattle.rules.proofs.Windows.{insideOf, inside-within}
 use Rattle.rules.proofs.Encodes.{Encodes, Of, itemOf, worldAt, takes-same, items-taken, starts-first}
 
 -- the written-out form of a rule
@@ -47,7 +49,8 @@ pub record Carries (w : Automaton) (rule : ℕ → Rule) (from : ℕ → ℕ) (t
   pub single-is : (a : ℕ) → a < w .rules → single w a ≡ rule a .single
   pub leftmost-is : (a : ℕ) → a < w .rules → w .leftmost a ≡ rule a .starts
   pub keeps-is : (a : ℕ) → a < w .rules → (q : ℕ) → Within (from a) (rule a) q → w .keeps q ≡ rule a .starts
-  pub windows-are : (a : ℕ) → a < w .rules → rule a .windows ≡ no-windows
+  pub inside-is : (a : ℕ) → a < w .rules → (e : ℕ) → e < 2 ^ 64 → T (w .inside a e) ↔ AtOffset (rule a .windows) e
+  pub no-length : (a : ℕ) → a < w .rules → rule a .windows .smallest-length ≡ 0
   pub rising : (a b : ℕ) → a < b → b < w .rules → rule a .id < rule b .id
   pub inside : (a : ℕ) → a < w .rules → from a + positions (formOf (rule a)) ≤ w .positions
   pub covered : (q : ℕ) → q < w .positions → (a : ℕ) × (a < w .rules) × Within (from a) (rule a) q
@@ -137,6 +140,9 @@ module _ (t : List ℕ) (rs : List Accepted) (b : Built t rs) where
   abbrev from : ℕ → ℕ
   from a = at ps a .from
 
+  b-inside : (a : ℕ) → a < w .rules → (i : ℕ) → w .inside a i ≡ insideOf (at ps a .rule .lowest) (at ps a .rule .highest) i
+  b-inside a lt i = e .rule a (in-list a lt) .inside-is i
+
   carries : Carries w rule from tab
   carries = record {
     few-rules = omega (arith, b .passed .rules, rules-at t);
@@ -145,7 +151,13 @@ module _ (t : List ℕ) (rs : List Accepted) (b : Built t rs) where
     single-is = λ a lt. e .rule a (in-list a lt) .once-is;
     leftmost-is = λ a lt. e .rule a (in-list a lt) .leftmost-is;
     keeps-is = λ a lt q i. e .rule a (in-list a lt) .keeps-is q i;
-    windows-are = λ a lt. refl;
+    inside-is = λ a lt e small.
+        let r = at ps a .rule in
+        by-set (w .inside a e) (leb (r .lowest) e && leb e (r .highest)) (b-inside a lt e ∙ inside-within (r .lowest) (r .highest) e small) (
+          λ h. let x = and-T (leb (r .lowest) e) (leb e (r .highest)) .0 h in (leb→le (r .lowest) e (x .0), leb→le e (r .highest) (x .1)),
+          λ h. and-T (leb (r .lowest) e) (leb e (r .highest)) .1 (le→leb (r .lowest) e (h .0), le→leb e (r .highest) (h .1)),
+        );
+    no-length = λ a lt. refl;
     rising = λ a c l m. e .rising a c l (in-list c m);
     inside = λ a lt. e .rule a (in-list a lt) .within;
     covered = λ q l. let c = e .covered q l in (c .0, in-table (c .0) (c .1), c .2);

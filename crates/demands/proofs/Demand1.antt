@@ -12,6 +12,7 @@ use Rattle.table.proofs.empty.Met.{met as empty-met}
 use Rattle.table.proofs.is_table.Met.{met as is_table-met}
 use Rattle.rules.proofs.Checks.{accepted-place}
 use Rattle.rules.proofs.add.Met.{met as add-met}
+use Rattle.rules.proofs.add_within.Met.{met as add-within-met}
 use Rattle.card.specs.declared.Stored.{Stored}
 use Rattle.card.proofs.Theorems.{write-kept}
 use Rattle.card.proofs.write_block.Met.{met as card-write-met}
@@ -50,6 +51,7 @@ answers = record {
   emptying = empty-met;
   testing = is_table-met;
   adding = add-met;
+  adding-within = add-within-met;
   opening = open-met;
   scanning = scan-met;
   closing = close-met;

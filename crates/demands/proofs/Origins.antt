@@ -8,7 +8,7 @@ use lib.Dec.{eqb}
 use borrow.Author.Tests.{eqb-true}
 use Rattle.pattern.specs.Walk.{Read, tree, refused}
 use Rattle.rules.specs.Add.{Addition, readingOf}
-use Rattle.rules.specs.Additions.{Accepted, nextAnswer, withNew, afterNext, acceptedAfter}
+use Rattle.rules.specs.Additions.{Accepted, nextAnswer, withNew, afterNext, acceptedAfter, acceptedOf}
 use Rattle.rules.proofs.Additions.{Accepts, accepts}
 
 -- an addition that some table accepts, and the rule that it gives
@@ -27,7 +27,7 @@ next r rs a m = go (eqb (nextAnswer rs a .number) 0) refl m
       | inr k ↦ inr (rs, h, ap (withNew [] a) e ∙ ap (λ (s : Accepted). s ∷ []) (sym (only k)))
     ]
       where
-        only : List·Memᴰ r (record { id = a .id; flags = a .flags; tree = x } ∷ []) → r ≡ record { id = a .id; flags = a .flags; tree = x }
+        only : List·Memᴰ r (acceptedOf a x ∷ []) → r ≡ acceptedOf a x
         only k = elim (List·Memᴰ·cases-cons k) [ inl q ↦ q | inr q ↦ absurd (List·Memᴰ·not-nil q) ]
 
     go : (b : Bool) → eqb (nextAnswer rs a .number) 0 ≡ b → List·Memᴰ r (cond b (withNew rs a (readingOf a)) rs) → List·Memᴰ r rs ⊎ Gives a r

@@ -41,6 +41,7 @@ use Rattle.regex.proofs.Range.{reach-inside, last-inside, follow-inside}
 use Rattle.regex.proofs.Local.{reach-up}
 use Rattle.regex.proofs.Stream.{Same}
 use Rattle.regex.proofs.Base.{open-same, same}
+use Rattle.regex.proofs.Offsets.{falls-apart}
 use Rattle.regex.proofs.Moments.{EndsAt, EndsLast, falls-own, falls-late, falls-end}
 use Rattle.regex.proofs.Starts.{Beside, EndingFrom, least-next, least-ending, closing-least, FromByte, ends-at-base, ends-last-base, start-without, start-own, start-late, start-line, start-end}
 use Rattle.rules.proofs.Encodes.{worldAt}
@@ -48,7 +49,7 @@ use Rattle.rules.proofs.Worlds.{world-between, world-before-last, world-unsettl
 use Rattle.demands.proofs.Carried.{Carries, Within, formOf}
 use Rattle.demands.proofs.TwoRuns.{Told, Turn}
 use Rattle.demands.proofs.Endings.{newline-side, Late, last-byte, late-falls}
-use Rattle.demands.proofs.Tracked.{Alive, Tracked, last-at, comes-is, tracks, byte-tested, closing-tested}
+use Rattle.demands.proofs.Tracked.{Alive, Tracked, last-at, comes-is, tracks, byte-tested, closing-tested, free}
 
 -- what a traced stream goes by at byte x, and at the closing: the starts of rules that report none
 -- are 0
@@ -103,31 +104,31 @@ module _ (w : Automaton) (rule : ℕ → Rule) (from : ℕ → ℕ) (tab : ℕ �
       (beside : Kept a lt (stream (take k bytes) false) k starts) where
     live-least : (g : ℕ) → g < lastGaps → (rest : List ℕ) (e : Bool) → Same has holds (take k bytes) rest false e
         → ((x : Assertion) → worldAt g x ≡ world (byte (s .last)) (known-after rest e) (e && last-line rest) x)
-        → EndsAt bytes (rule a) k (known-after rest e) (e && last-line rest)
+        → EndsAt bytes (free w rule from tab enc bytes short a) k (known-after rest e) (e && last-line rest)
         → Least (FromByte bytes (rule a) (from a) maxPositions (few a lt) k (world (known-before (take k bytes)) (known-after rest e) (e && last-line rest)))
         (startAt w g (s .live) starts k a)
     unfolding startAt
     live-least g there rest e stays at-g ends =
         let f : Form ByteSet Assertion = formOf (rule a) in
         let v : Assertion → Bool = world (known-before (take k bytes)) (known-after rest e) (e && last-line rest) in
-        let h = ends-at-base bytes (rule a) (from a) maxPositions (few a lt) k le rest e stays .0 ends in
+        let h = ends-at-base bytes (free w rule from tab enc bytes short a) (from a) maxPositions (few a lt) k le rest e stays .0 ends in
         least-ending f (from a) maxPositions (few a lt) (stream (take k bytes) false) k v (λ q. getD starts q 0) beside (λ p. has (s .live) p && lastIn w g a p)
         (last-at w rule from tab enc bytes short a lt (s .live) (stream (take k bytes) false) k (track .inside) (track .live a lt) g there v
         (λ some. fun-ext at-g ∙ ap (λ (u : Known). world u (known-after rest e) (e && last-line rest)) (sym (track .last some))))
         k (omega arith) (h .0) (h .1)
 
     -- whatever follows, where byte x follows, and where the last line ends
-    own-least : EndsAt bytes (rule a) k unknown false
+    own-least : EndsAt bytes (free w rule from tab enc bytes short a) k unknown false
         → Least (FromByte bytes (rule a) (from a) maxPositions (few a lt) k (world (known-before (take k bytes)) unknown false)) (startAt w unsettled (s .live) starts k a)
     own-least = live-least unsettled (lit< tt) [] false (open-same (take k bytes) []) (world-unsettled (s .last))
 
-    late-least : (x : ℕ) → EndsAt bytes (rule a) k (byte (sideOf x)) false
+    late-least : (x : ℕ) → EndsAt bytes (free w rule from tab enc bytes short a) k (byte (sideOf x)) false
         → Least (FromByte bytes (rule a) (from a) maxPositions (few a lt) k (world (known-before (take k bytes)) (byte (sideOf x)) false)) (startAt w (between (s .last) (sideOf x)) (s .live) starts k a)
     late-least x =
         live-least (between (s .last) (sideOf x)) (lt-trans (between-inner (s .last) (sideOf x)) (lit< tt)) (x ∷ []) false (open-same (take k bytes) (x ∷ []))
         (world-between (s .last) (sideOf x))
 
-    line-least : EndsAt bytes (rule a) k (byte Newline) true
+    line-least : EndsAt bytes (free w rule from tab enc bytes short a) k (byte Newline) true
         → Least (FromByte bytes (rule a) (from a) maxPositions (few a lt) k (world (known-before (take k bytes)) (byte Newline) true)) (startAt w (beforeLast (s .last)) (s .live) starts k a)
     unfolding sideOf
     line-least =
@@ -220,9 +221,9 @@ module _ (w : Automaton) (rule : ℕ → Rule) (from : ℕ → ℕ) (tab : ℕ �
         → Least (FromByte bytes (rule a) (from a) maxPositions (few a lt) k (world (known-before (take k bytes)) (byte Newline) true)) (getD (nextStarts w z x .pairs) a 0)
     unfolding nextStarts byteState
     next-pairs a lt reports pending =
-        let late : Late bytes (rule a) (suc k) = after-it .waits .pending a lt .0 pending in
+        let late : Late bytes (free w rule from tab enc bytes short a) (suc k) = after-it .waits .pending a lt .0 pending in
         let at : late .0 ≡ k = omega (arith, late .1) in
-        let ends : EndsAt bytes (rule a) k (byte Newline) true = subst (λ (n : ℕ). EndsAt bytes (rule a) n (byte Newline) true) at (late .3) in
+        let ends : EndsAt bytes (free w rule from tab enc bytes short a) k (byte Newline) true = subst (λ (n : ℕ). EndsAt bytes (free w rule from tab enc bytes short a) n (byte Newline) true) at (late .3) in
         let new : ℕ = startAt w (beforeLast (s .last)) (s .live) (z .starts .live) (s .taken) a in
         let value : getD (nextStarts w z x .pairs) a 0 ≡ startAt w (beforeLast (s .last)) (s .live) (z .starts .live) k a =
         list-entry maxRules (λ a. cond (on (nextPending w s x) a && w .leftmost a) (startAt w (beforeLast (s .last)) (s .live) (z .starts .live) (s .taken) a) 0) a (omega (arith, enc .few-rules))
@@ -272,7 +273,7 @@ module _ (w : Automaton) (rule : ℕ → Rule) (from : ℕ → ℕ) (tab : ℕ �
         (λ reports. start-late bytes (rule a) (from a) maxPositions (few a lt) k lk (lateStart w z (getD bytes k 0) a)
         (subst (λ (d : ℕ). Least (FromByte bytes (rule a) (from a) maxPositions (few a lt) k (world (known-before (take k bytes)) (byte (sideOf (getD bytes k 0))) false))
         (startAt w (between (z .stream .last) (sideOf (getD bytes k 0))) (z .stream .live) (z .starts .live) d a)) (sym (track .alive .taken))
-        (late-least k (omega arith) (z .stream) (track .alive) (z .starts .live) a lt (st .live a lt reports) (getD bytes k 0) (falls-late bytes (rule a) k lk .0 f .0))))
+        (late-least k (omega arith) (z .stream) (track .alive) (z .starts .live) a lt (st .live a lt reports) (getD bytes k 0) (falls-late bytes (free w rule from tab enc bytes short a) k lk .0 (falls-apart bytes (rule a) short (suc k) k .0 f .0) .0))))
 
     own-is : Falls bytes (rule a) (suc k) (suc k) → StartIs bytes (rule a) (suc k) (suc k) (cond (w .leftmost a) (ownStart w z (getD bytes k 0) a) 0)
     unfolding byteState
@@ -283,7 +284,7 @@ module _ (w : Automaton) (rule : ℕ → Rule) (from : ℕ → ℕ) (tab : ℕ �
         (subst (λ (d : ℕ). Least (FromByte bytes (rule a) (from a) maxPositions (few a lt) (suc k) (world (known-before (take (suc k) bytes)) unknown false))
         (startAt w unsettled (nextLive w (z .stream) x) (nextStarts w z x .live) d a)) (sym (ap suc (track .alive .taken)))
         (own-least (suc k) lk (byteState w (z .stream) x) (tracks w rule from tab enc bytes short k lk small (z .stream) track .alive) (nextStarts w z x .live) a lt
-        (next-live k lk small z track st a lt reports) (falls-own bytes (rule a) (suc k) lk .0 f))))
+        (next-live k lk small z track st a lt reports) (falls-own bytes (free w rule from tab enc bytes short a) (suc k) lk .0 (falls-apart bytes (rule a) short (suc k) (suc k) .0 f .0)))))
 
   -- of the closing's held pairs, and of those at the end
   module _ (z : Traced) (track : Tracked w rule from tab enc bytes short (length bytes) (z .stream)) (st : Started (length bytes) z) (a : ℕ) (lt : a < w .rules) where
@@ -335,13 +336,13 @@ module _ (w : Automaton) (rule : ℕ → Rule) (from : ℕ → ℕ) (tab : ℕ �
           λ h. absurd (other (h .0)),
         )
 
-    end-least : T (rule a .starts) → EndsLast bytes (rule a)
+    end-least : T (rule a .starts) → EndsLast bytes (free w rule from tab enc bytes short a)
         → Least (EndingFrom (formOf (rule a)) (from a) maxPositions (few a lt) (stream bytes true) n at-end) (endStart w z a)
     unfolding startAt
     end-least reports ends =
         let f : Form ByteSet Assertion = formOf (rule a) in
         let b : ℕ = from a in
-        let h = ends-last-base bytes (rule a) b maxPositions (few a lt) .0 ends in
+        let h = ends-last-base bytes (free w rule from tab enc bytes short a) b maxPositions (few a lt) .0 ends in
         let some : h .0 < n = reach-up (stream bytes true) f b (h .0) (h .1 .0) n (h .1 .1) in
         let e : ℕ = n - 1 in
         let q : n ≡ suc e = omega arith in
@@ -370,7 +371,7 @@ module _ (w : Automaton) (rule : ℕ → Rule) (from : ℕ → ℕ) (tab : ℕ �
     end-is : Falls bytes (rule a) (closing-moment bytes) n → StartIs bytes (rule a) (closing-moment bytes) n (cond (w .leftmost a) (endStart w z a) 0)
     end-is g =
         by-flag a lt (closing-moment bytes) n (endStart w z a)
-        (λ reports. start-end bytes (rule a) (from a) maxPositions (few a lt) (endStart w z a) (end-least reports (falls-end bytes (rule a) .0 g .0)))
+        (λ reports. start-end bytes (rule a) (from a) maxPositions (few a lt) (endStart w z a) (end-least reports (falls-end bytes (free w rule from tab enc bytes short a) .0 (falls-apart bytes (rule a) short (closing-moment bytes) n .0 g .0) .0)))
 
     held-start : n - 1 < n → Falls bytes (rule a) (closing-moment bytes) (n - 1)
         → StartIs bytes (rule a) (closing-moment bytes) (n - 1) (cond (w .leftmost a) (getD (z .starts .pairs) a 0) 0)
@@ -382,8 +383,8 @@ module _ (w : Automaton) (rule : ℕ → Rule) (from : ℕ → ℕ) (tab : ℕ �
         (ap byte (sym (newline-side (getD bytes e 0) (late .2)))) (sym (eq-eqb (getD bytes e 0) 10 (late .2)))
         (st .pairs a lt reports (track .waits .pending a lt .1 late) e (late .1)))))
       where
-        late : Late bytes (rule a) n
-        late = late-falls bytes (rule a) .1 (some, g)
+        late : Late bytes (free w rule from tab enc bytes short a) n
+        late = late-falls bytes (free w rule from tab enc bytes short a) .1 (some, falls-apart bytes (rule a) short (closing-moment bytes) (n - 1) .0 g .0)
 
         e : ℕ
         e = late .0

@@ -25,7 +25,7 @@ use Rattle.table.specs.Layout.{maxPositions}
 use Rattle.table.specs.Gaps.{between, beforeLast, unsettled, atEnd, atStart, startOfLast, gapOf, firstGap, lastGaps}
 use Rattle.table.specs.Automaton.{Automaton, last as lastIn, starts as startsIn}
 use Rattle.table.proofs.GapBounds.{between-inner, beforeLast-follow, atEnd-last, gapOf-follow, firstGap-first}
-use Rattle.steps.specs.Step.{stepped, ends, endsNewly, rulesWhere}
+use Rattle.steps.specs.Step.{stepped, ends, endsNewly, lateIn, rulesWhere}
 use Rattle.steps.proofs.Late.{late-newly}
 use Rattle.stream.specs.declared.Stream.{Stream}
 use Rattle.stream.specs.Byte.{after, nextLive, nextHeld, nextPending, lateTest, ownTest, heldTest, endTest, byteState, stateAfter}
@@ -33,7 +33,7 @@ use Rattle.regex.specs.Tree.{Text}
 use Rattle.regex.specs.Form.{Form, Reach, positions}
 use Rattle.regex.specs.Live.{Reached}
 use Rattle.regex.specs.Gap.{last-line, Known, byte, edge, unknown, known-before, known-after}
-use Rattle.regex.specs.Rule.{Rule, ByteSet, Assertion, world, holds, stream}
+use Rattle.regex.specs.Rule.{Rule, ByteSet, Assertion, no-windows, world, holds, stream}
 use Rattle.regex.specs.Ordered.{closing-moment, Falls}
 use Rattle.regex.proofs.Relations.{First, Last, Follow}
 use Rattle.regex.proofs.Logic.{and-T, or-T, true-T}
@@ -41,6 +41,7 @@ use Rattle.regex.proofs.Range.{last-inside, follow-inside}
 use Rattle.regex.proofs.Local.{reach-up}
 use Rattle.regex.proofs.Stream.{Same}
 use Rattle.regex.proofs.Base.{open-same, same, base-next, reach-ended}
+use Rattle.regex.proofs.Offsets.{AtOffset, unbounded, falls-apart}
 use Rattle.regex.proofs.Moments.{EndsAt, EndsLast, falls-own, falls-late, falls-end}
 use Rattle.rules.proofs.Encodes.{worldAt}
 use Rattle.rules.proofs.Worlds.{world-between, world-before-last, world-unsettled, world-at-end, world-at-start, world-start-of-last}
@@ -75,6 +76,13 @@ before-next (y ∷ []) x = refl
 before-next (y ∷ z ∷ l) x = before-next (z ∷ l) x
 
 module _ (w : Automaton) (rule : ℕ → Rule) (from : ℕ → ℕ) (tab : ℕ → ByteSet) (enc : Carries w rule from tab) (bytes : List ℕ) (short : length bytes < 2 ^ 64) where
+  -- a rule without its window of end offsets: held and live sets never see windows
+  abbrev pub free : ℕ → Rule
+  free a = unbounded (rule a)
+
+  open-window : (a : ℕ) → a < w .rules → free a .windows ≡ no-windows
+  open-window a lt = ap (λ (n : ℕ). record { smallest-end = no-windows .smallest-end; largest-end = no-windows .largest-end; smallest-length = n }) (enc .no-length a lt)
+
   -- what the state after the first k bytes says of positions ..
   pub record Alive (k : ℕ) (s : Stream) : Type 0 where
     pub taken : s .taken ≡ k
@@ -91,7 +99,7 @@ module _ (w : Automaton) (rule : ℕ → Rule) (from : ℕ → ℕ) (tab : ℕ �
     pub held-inside : (q : ℕ) → q < maxPositions → T (has (s .held) q) → q < w .positions
     pub held-alone : (a : ℕ) → a < w .rules → (q : ℕ) → Within (from a) (rule a) q
         → T (has (s .held) q) ↔ ((e : ℕ) × (k ≡ suc e) × (getD bytes e 0 ≡ 10) × Reached (stream (take k bytes) true) (formOf (rule a)) (from a) q k)
-    pub pending : (a : ℕ) → a < w .rules → T (on (s .pending) a) ↔ Late bytes (rule a) k
+    pub pending : (a : ℕ) → a < w .rules → T (on (s .pending) a) ↔ Late bytes (free a) k
 
   -- .. and of marks: those of the next moment
   pub record Tracked (k : ℕ) (s : Stream) : Type 0 where
@@ -138,36 +146,36 @@ module _ (w : Automaton) (rule : ℕ → Rule) (from : ℕ → ℕ) (tab : ℕ �
   module _ (k : ℕ) (le : k ≤ length bytes) (s : Stream) (track : Alive k s) (a : ℕ) (lt : a < w .rules) where
     live-ends : (g : ℕ) → g < lastGaps → (rest : List ℕ) (e : Bool) → Same has holds (take k bytes) rest false e
         → ((x : Assertion) → worldAt g x ≡ world (byte (s .last)) (known-after rest e) (e && last-line rest) x)
-        → T (ends w g (s .live) a) ↔ EndsAt bytes (rule a) k (known-after rest e) (e && last-line rest)
+        → T (ends w g (s .live) a) ↔ EndsAt bytes (free a) k (known-after rest e) (e && last-line rest)
     live-ends g there rest e stays at-g =
         both (by-last a lt (s .live) (stream (take k bytes) false) k (track .inside) (track .live a lt) g there
         (world (known-before (take k bytes)) (known-after rest e) (e && last-line rest))
         (λ some. fun-ext at-g ∙ ap (λ (u : Known). world u (known-after rest e) (e && last-line rest)) (sym (track .last some))))
-        (back (ends-from bytes (rule a) (enc .windows-are a lt) short k le rest e stays (from a)))
+        (back (ends-from bytes (free a) (open-window a lt) short k le rest e stays (from a)))
 
     -- whatever follows, where byte x follows, and where the last line ends
-    pub ends-is : T (ends w unsettled (s .live) a) ↔ EndsAt bytes (rule a) k unknown false
+    pub ends-is : T (ends w unsettled (s .live) a) ↔ EndsAt bytes (free a) k unknown false
     ends-is = live-ends unsettled (lit< tt) [] false (open-same (take k bytes) []) (world-unsettled (s .last))
 
-    ends-next-is : (x : ℕ) → T (ends w (between (s .last) (sideOf x)) (s .live) a) ↔ EndsAt bytes (rule a) k (byte (sideOf x)) false
+    ends-next-is : (x : ℕ) → T (ends w (between (s .last) (sideOf x)) (s .live) a) ↔ EndsAt bytes (free a) k (byte (sideOf x)) false
     ends-next-is x =
         live-ends (between (s .last) (sideOf x)) (lt-trans (between-inner (s .last) (sideOf x)) (lit< tt)) (x ∷ []) false (open-same (take k bytes) (x ∷ []))
         (world-between (s .last) (sideOf x))
 
-    ends-line-is : T (ends w (beforeLast (s .last)) (s .live) a) ↔ EndsAt bytes (rule a) k (byte Newline) true
+    ends-line-is : T (ends w (beforeLast (s .last)) (s .live) a) ↔ EndsAt bytes (free a) k (byte Newline) true
     unfolding sideOf
     ends-line-is =
         live-ends (beforeLast (s .last)) (lt-trans (beforeLast-follow (s .last)) (lit< tt)) (10 ∷ []) true (same (take k bytes) 10 [] true) (world-before-last (s .last))
 
   ends-at-end-is : (s : Stream) → Alive (length bytes) s → Waits (length bytes) s → (a : ℕ) → a < w .rules
-      → T (ends w (atEnd (s .last)) (unionOf (s .live) (s .held)) a) ↔ EndsLast bytes (rule a)
+      → T (ends w (atEnd (s .last)) (unionOf (s .live) (s .held)) a) ↔ EndsLast bytes (free a)
   ends-at-end-is s track waits a lt =
       let n : ℕ = length bytes in
       let whole : take n bytes ≡ bytes = take-all n bytes (omega arith) in
       both (by-last a lt (unionOf (s .live) (s .held)) (stream bytes true) n (waits .inside)
       (λ q i. subst (λ (l : List ℕ). T (has (unionOf (s .live) (s .held)) q) ↔ Reached (stream l true) (formOf (rule a)) (from a) q n) whole (waits .held a lt q i))
       (atEnd (s .last)) (atEnd-last (s .last)) (world (known-before bytes) edge true)
-      (λ some. fun-ext (world-at-end (s .last)) ∙ ap (λ (u : Known). world u edge true) (sym (track .last some) ∙ ap known-before whole))) (back (last-from bytes (rule a) (enc .windows-are a lt) short (from a)))
+      (λ some. fun-ext (world-at-end (s .last)) ∙ ap (λ (u : Known). world u edge true) (sym (track .last some) ∙ ap known-before whole))) (back (last-from bytes (free a) (open-window a lt) short (from a)))
 
   -- ---- one byte more
 
@@ -362,7 +370,7 @@ module _ (w : Automaton) (rule : ℕ → Rule) (from : ℕ → ℕ) (tab : ℕ �
         go false e h = inl h
 
     -- a held pair
-    pending-is : (a : ℕ) → a < w .rules → T (on (nextPending w s x) a) ↔ Late bytes (rule a) (suc k)
+    pending-is : (a : ℕ) → a < w .rules → T (on (nextPending w s x) a) ↔ Late bytes (free a) (suc k)
     unfolding nextPending endsNewly sideOf
     pending-is a lt = (
       λ h.
@@ -372,18 +380,18 @@ module _ (w : Automaton) (rule : ℕ → Rule) (from : ℕ → ℕ) (tab : ℕ �
       λ h.
           let e : h .0 ≡ k = omega (arith, h .1) in
           let newline : x ≡ 10 = ap (λ (n : ℕ). getD bytes n 0) (sym e) ∙ h .2 in
-          let ends-k : EndsAt bytes (rule a) k (byte Newline) true = subst (λ (n : ℕ). EndsAt bytes (rule a) n (byte Newline) true) e (h .3) in
+          let ends-k : EndsAt bytes (free a) k (byte Newline) true = subst (λ (n : ℕ). EndsAt bytes (free a) n (byte Newline) true) e (h .3) in
           let some : 0 < s .taken = omega (arith, track .taken, reach-up (stream (take k bytes) false) (formOf (rule a)) 0 (ends-k .0) (ends-k .1 .0) k (ends-k .1 .1)) in
           on-if (eqb x 10 && ltb 0 (s .taken)) .1 (
             and-T (eqb x 10) (ltb 0 (s .taken)) .1 (subst T (sym (eq-eqb x 10 newline)) tt, lt→ltb 0 (s .taken) some),
-            subst T (sym digit) (tests .1 (ends-k, λ y. h .4 (subst (λ (n : ℕ). EndsAt bytes (rule a) n (byte Newline) false) (sym e) y))),
+            subst T (sym digit) (tests .1 (ends-k, λ y. h .4 (subst (λ (n : ℕ). EndsAt bytes (free a) n (byte Newline) false) (sym e) y))),
           ),
     )
       where
         test : ℕ → Bool
         test = endsNewly w (beforeLast (s .last)) (s .live) (between (s .last) Newline) (s .live)
 
-        tests : T (test a) ↔ (EndsAt bytes (rule a) k (byte Newline) true × (¬ EndsAt bytes (rule a) k (byte Newline) false))
+        tests : T (test a) ↔ (EndsAt bytes (free a) k (byte Newline) true × (¬ EndsAt bytes (free a) k (byte Newline) false))
         tests =
             newly (ends w (beforeLast (s .last)) (s .live) a) (ends w (between (s .last) Newline) (s .live) a)
             (ends-line-is k (omega arith) s track a lt) (ends-next-is k (omega arith) s track a lt 10)
@@ -420,6 +428,15 @@ module _ (w : Automaton) (rule : ℕ → Rule) (from : ℕ → ℕ) (tab : ℕ �
 
   -- ---- the tests say which pairs fall
 
+  -- a test of pairs, kept to those in the window
+  windowed : (a : ℕ) → a < w .rules → (m e end : ℕ) → end ≡ e → e ≤ length bytes → (b : Bool) → T b ↔ Falls bytes (free a) m e → T (b && w .inside a end) ↔ Falls bytes (rule a) m e
+  windowed a lt m e end at le b i =
+      let in-it = enc .inside-is a lt end (omega arith) in
+      let apart = falls-apart bytes (rule a) short m e in (
+        λ h. let x = and-T b (w .inside a end) .0 h in apart .1 (i .0 (x .0), subst (AtOffset (rule a .windows)) at (in-it .0 (x .1))),
+        λ h. let x = apart .0 h in and-T b (w .inside a end) .1 (i .1 (x .0), in-it .1 (subst (AtOffset (rule a .windows)) (sym at) (x .1))),
+      )
+
   pub byte-tested : (k : ℕ) → k < length bytes → getD bytes k 0 < 256 → (s : Stream) → Tracked k s
       → Tested w rule from tab enc bytes (suc k) k (suc k) (lateTest w s (getD bytes k 0)) (ownTest w s (getD bytes k 0)) (s .reported)
   unfolding endsNewly byteState
@@ -428,12 +445,16 @@ module _ (w : Automaton) (rule : ℕ → Rule) (from : ℕ → ℕ) (tab : ℕ �
       record {
         only = λ a c lt f. only-byte bytes (rule a) k c lk f;
         one-is = λ a lt.
-            by-set (lateTest w s x a) (endsNewly w (between (s .last) (sideOf x)) (s .live) unsettled (s .live) a)
+            both (windowed a lt (suc k) k (s .taken) (track .alive .taken) (omega arith)
+            (endsNewly w (between (s .last) (sideOf x)) (lateIn w (s .live)) unsettled (s .live) a)
+            (by-set (endsNewly w (between (s .last) (sideOf x)) (lateIn w (s .live)) unsettled (s .live) a) (endsNewly w (between (s .last) (sideOf x)) (s .live) unsettled (s .live) a)
             (late-newly w (enc .lates-are) (s .live) (between (s .last) (sideOf x)) a (between-inner (s .last) (sideOf x)))
             (both (newly (ends w (between (s .last) (sideOf x)) (s .live) a) (ends w unsettled (s .live) a)
             (ends-next-is k (omega arith) s (track .alive) a lt x) (ends-is k (omega arith) s (track .alive) a lt))
-            (both (back (falls-late bytes (rule a) k lk)) (λ f. (omega arith, f), λ f. f .1)));
-        two-is = λ a lt. both (ends-is (suc k) lk (byteState w s x) (goes-on k lk small s (track .alive)) a lt) (back (falls-own bytes (rule a) (suc k) lk));
+            (back (falls-late bytes (free a) k lk))))) (λ f. (omega arith, f), λ f. f .1);
+        two-is = λ a lt.
+            windowed a lt (suc k) (suc k) (suc (s .taken)) (ap suc (track .alive .taken)) (omega arith) (ends w unsettled (nextLive w s x) a)
+            (both (ends-is (suc k) lk (byteState w s x) (goes-on k lk small s (track .alive)) a lt) (back (falls-own bytes (free a) (suc k) lk)));
         marks-are = track .marks;
       }
 
@@ -444,13 +465,27 @@ module _ (w : Automaton) (rule : ℕ → Rule) (from : ℕ → ℕ) (tab : ℕ �
       let n : ℕ = length bytes in
       record {
         only = λ a c lt f. only-closing bytes (rule a) c f;
-        one-is = λ a lt. both (track .waits .pending a lt) (late-falls bytes (rule a));
+        one-is = λ a lt. held a lt (on (s .pending) a) (both (track .waits .pending a lt) (late-falls bytes (free a)));
         two-is = λ a lt.
-            both (newly (ends w (atEnd (s .last)) (unionOf (s .live) (s .held)) a) (ends w unsettled (s .live) a)
+            windowed a lt (closing-moment bytes) n (s .taken) (track .alive .taken) (omega arith)
+            (endsNewly w (atEnd (s .last)) (unionOf (s .live) (s .held)) unsettled (s .live) a)
+            (both (newly (ends w (atEnd (s .last)) (unionOf (s .live) (s .held)) a) (ends w unsettled (s .live) a)
             (ends-at-end-is s (track .alive) (track .waits) a lt) (ends-is n (omega arith) s (track .alive) a lt))
-            (back (falls-end bytes (rule a)));
+            (back (falls-end bytes (free a))));
         marks-are = track .marks;
       }
+    where
+      held : (a : ℕ) → a < w .rules → (b : Bool) → T b ↔ ((length bytes - 1 < length bytes) × Falls bytes (free a) (closing-moment bytes) (length bytes - 1))
+          → T (b && w .inside a (s .taken - 1)) ↔ ((length bytes - 1 < length bytes) × Falls bytes (rule a) (closing-moment bytes) (length bytes - 1))
+      held a lt b i =
+          let at : s .taken - 1 ≡ length bytes - 1 = ap (λ (m : ℕ). m - 1) (track .alive .taken) in
+          let in-it = enc .inside-is a lt (s .taken - 1) (omega (arith, track .alive .taken)) in
+          let apart = falls-apart bytes (rule a) short (closing-moment bytes) (length bytes - 1) in (
+            λ h. let x = and-T b (w .inside a (s .taken - 1)) .0 h in
+                (i .0 (x .0) .0, apart .1 (i .0 (x .0) .1, subst (AtOffset (rule a .windows)) at (in-it .0 (x .1)))),
+            λ h. let x = apart .0 (h .1) in
+                and-T b (w .inside a (s .taken - 1)) .1 (i .1 (h .0, x .0), in-it .1 (subst (AtOffset (rule a .windows)) (sym at) (x .1))),
+          )
 
   -- ---- the state after any number of the bytes
 

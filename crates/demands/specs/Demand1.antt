@@ -14,6 +14,7 @@ use Rattle.table.proofs.empty.Statement.{statement as empty}
 use Rattle.table.proofs.is_table.Statement.{statement as is_table}
 use Rattle.rules.specs.Add.{Addition, addAnswer, addWords}
 use Rattle.rules.proofs.add.Statement.{statement as add}
+use Rattle.rules.proofs.add_within.Statement.{statement as add-within}
 use Rattle.card.specs.Calls.{writeAnswer, writtenBlock, readAnswer, readWords}
 use Rattle.card.proofs.write_block.Statement.{statement as card-write}
 use Rattle.card.proofs.read_block.Statement.{statement as card-read}
@@ -46,6 +47,8 @@ pub record Answers : Type 2 where
   -- adding a rule (crates/rules/src/lib.rt): number and place are `addAnswer`, the words are
   -- `addWords`
   pub adding : {M : Type 1} → add M
+  -- adding a rule with a window: the same two
+  pub adding-within : {M : Type 1} → add-within M
   -- opening a stream (crates/stream/src/lib.rt): number and state are `opened`
   pub opening : {M : Type 1} → stream-open M
   -- scanning a block: number, bytes taken, count of reports, units used and next state are

@@ -110,6 +110,8 @@ pub data Refusal (rules : List Accepted) (a : Addition) : Type 0 where
   -- move with them."
   all-there : maxRules ≤ length rules → Refusal rules a
   too-long : longest < length (a .pattern) → Refusal rules a
+  -- 26: "A smallest offset above the largest"
+  empty-window : a .highest < a .lowest → Refusal rules a
   -- 6 to 16 and 23, each a predicate of its own: crates/pattern/specs/Reasons.antt
   in-pattern : (number place : ℕ) → Reason (a .pattern) (optionsOf (a .flags)) number place → Refusal rules a
   -- 17: "over 256 positions with those in the table"

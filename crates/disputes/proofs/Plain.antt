@@ -11,7 +11,7 @@ use lib.Bits.{bitAnd}
 use lib.Dec.{eqb, ltb}
 use lib.ListN.{length, take, drop}
 use Rattle.regex.specs.Form.{write, positions}
-use Rattle.regex.specs.Rule.{Rule, Windows, no-windows}
+use Rattle.regex.specs.Rule.{Rule}
 use Rattle.regex.specs.Ordered.{Report, Ordered, ofId}
 use Rattle.regex.specs.Count.{limit}
 use Rattle.regex.proofs.Counted.{within-limit}
@@ -26,9 +26,9 @@ use Rattle.pattern.specs.Read.{tooLong, readOf, optionsOf}
 use Rattle.pattern.specs.Reasons.{Reason, among}
 use Rattle.pattern.proofs.Accepted.{refusal-reason}
 use Rattle.rules.specs.Words.{isSingle, isLeftmost}
-use Rattle.rules.specs.Add.{Addition, addition, answer, unknownFlag, singleStart, placed, readingOf}
+use Rattle.rules.specs.Add.{Addition, additionIn, answer, unknownFlag, singleStart, emptyWindow, placed, readingOf}
 use Rattle.rules.specs.Additions as additions
-use Rattle.rules.specs.Additions.{Accepted, used, nextAnswer, withNew, afterNext, acceptedAfter}
+use Rattle.rules.specs.Additions.{Accepted, used, nextAnswer, acceptedOf, withNew, afterNext, acceptedAfter}
 use Rattle.rules.specs.declared.Added.{Added}
 use Rattle.rules.proofs.Encodes.{distinct}
 use Rattle.rules.proofs.Readings.{reads}
@@ -39,7 +39,7 @@ use Rattle.plain.specs.Answer.{Question, knownFlags, longestLog, leastSpace, ha
 use Rattle.plain.proofs.matches.Met.{met as matches-met}
 use Rattle.demands.specs.Kinds.{Kind, short, traces}
 use Rattle.demands.specs.Demands.{tableIn, acceptedIn, rulesIn, taken, joined, Demand3}
-use Rattle.disputes.specs.Plain.{Asked, additionOf, listOf, SameList, SameAmong, SameRefusals, Never, OneAnswer, Plain}
+use Rattle.disputes.specs.Plain.{Asked, AnyLength, additionOf, listOf, SameList, SameAmong, SameRefusals, Never, OneAnswer, Plain}
 use Rattle.demands.proofs.Theorems.{built, short-streams, traced-streams}
 
 -- ---- the checks
@@ -55,26 +55,26 @@ fits a x e =
     let r = reads (a .pattern) (optionsOf (a .flags)) x .0 e in
     omega (arith, r .fits, within-limit x (r .fits))
 
--- the checks of an addition to an emptied table are the matcher's: 2, 24, 5, then the reader's
-module _ (q : Question) (space id : ℕ) (none : q .windows ≡ no-windows) (short : length (q .log) ≤ longestLog) (room : leastSpace ≤ space) where
+-- the checks of an addition to an emptied table are the matcher's: 2, 24, 5, 26, then the reader's
+module _ (q : Question) (space id : ℕ) (short : length (q .log) ≤ longestLog) (room : leastSpace ≤ space) where
   abbrev a : Addition
-  a = addition id (q .flags) (q .pattern)
+  a = additionIn id (q .flags) (q .windows .smallest-end) (q .windows .largest-end) (q .pattern)
 
   same-checks : nextAnswer [] a ≡ said (verdict q space)
-  unfolding verdict nextAnswer additions.taken used unknownFlag singleStart placed said
+  unfolding verdict nextAnswer additions.taken used unknownFlag singleStart emptyWindow placed said
   same-checks =
-      let ordered : ltb (q .windows .largest-end) (q .windows .smallest-end) ≡ false = ap (λ (w : Windows). ltb (w .largest-end) (w .smallest-end)) none in
-      rw (ordered, le-ltb longestLog (length (q .log)) short, le-ltb space leastSpace room, and-comm (isSingle (q .flags)) (isLeftmost (q .flags)))
-      (go (unknownFlag (q .flags)) (hasLeftmost (q .flags) && hasSingle (q .flags)) (tooLong (q .pattern)) (readingOf a) refl)
+      rw (le-ltb longestLog (length (q .log)) short, le-ltb space leastSpace room, and-comm (isSingle (q .flags)) (isLeftmost (q .flags)))
+      (go (unknownFlag (q .flags)) (hasLeftmost (q .flags) && hasSingle (q .flags)) (tooLong (q .pattern)) (ltb (q .windows .largest-end) (q .windows .smallest-end)) (readingOf a) refl)
     where
-      go : (u b t : Bool) (d : Read) → readingOf a ≡ d
-          → cond u (answer 2 0) (cond b (answer 24 0) (cond t (answer 5 0) (placed 0 (length (q .pattern)) d)))
-          ≡ said (cond u (refused 2 0) (cond b (refused 24 0) (cond t (refused 5 0) d)))
-      go true b t d e = refl
-      go false true t d e = refl
-      go false false true d e = refl
-      go false false false (refused number place) e = refl
-      go false false false (tree x) e =
+      go : (u b t w : Bool) (d : Read) → readingOf a ≡ d
+          → cond u (answer 2 0) (cond b (answer 24 0) (cond t (answer 5 0) (cond w (answer 26 0) (placed 0 (length (q .pattern)) d))))
+          ≡ said (cond u (refused 2 0) (cond b (refused 24 0) (cond t (refused 5 0) (cond w (refused 26 0) d))))
+      go true b t w d e = refl
+      go false true t w d e = refl
+      go false false true w d e = refl
+      go false false false true d e = refl
+      go false false false false (refused number place) e = refl
+      go false false false false (tree x) e =
           ap (λ (v : Bool). cond v (answer 17 (length (q .pattern))) (answer 0 0)) (le-ltb limit (0 + positions (write x)) (fits a x e))
 
 -- ---- the numbers
@@ -151,9 +151,9 @@ said-is q old new m (refused number place) h = ap₂ answer (sym (ap (λ (x : Ma
 said-is q old new m (tree t) h = ap₂ answer (sym (h .0)) (sym (h .1))
 
 refusals : SameRefusals
-refusals q none short room words long id =
+refusals q short room words long id =
     answer-built _ [] (built-none words long) (additionOf id q)
-    ∙ same-checks (q .question) (spaceOf (q .old)) id none short room
+    ∙ same-checks (q .question) (spaceOf (q .old)) id short room
     ∙ said-is (q .question) (q .old) (q .new) (q .answer) (verdict (q .question) (spaceOf (q .old))) (q .answered)
 
 never : Never
@@ -212,17 +212,17 @@ its-list q id s =
     rw (s .counted, s .offsets, s .starts) (paired id (s .list) (drop (length (s .list)) (q .old .offsets)) (drop (length (s .list)) (q .old .starts)))
 
 -- a table with that rule alone
-module _ (q : Asked) (none : q .question .windows ≡ no-windows) (id : ℕ) where
+module _ (q : Asked) (none : AnyLength q) (id : ℕ) where
   abbrev space : ℕ
   space = spaceOf (q .old)
 
   abbrev ruleIn : Syntax → Accepted
-  ruleIn t = record { id = id; flags = q .question .flags; tree = t }
+  ruleIn t = acceptedOf (additionOf id q) t
 
   only-rule : (t : Syntax) → verdict (q .question) space ≡ tree t → Judged (q .question) space (tree t) → acceptedAfter [] (additionOf id q ∷ []) ≡ ruleIn t ∷ []
   unfolding acceptedAfter afterNext withNew Judged said
   only-rule t e j =
-      let passed : nextAnswer [] (additionOf id q) ≡ answer 0 0 = same-checks (q .question) space id none (j .0) (j .1) ∙ ap said e in
+      let passed : nextAnswer [] (additionOf id q) ≡ answer 0 0 = same-checks (q .question) space id (j .0) (j .1) ∙ ap said e in
       rw (passed, j .2)
 
   -- the matcher's list, with the id, is the ordered list of that rule
@@ -230,7 +230,13 @@ module _ (q : Asked) (none : q .question .windows ≡ no-windows) (id : ℕ) whe
       → Ordered (additions.ruleOf (ruleIn t) ∷ []) (q .question .log) (listOf id q)
   its-ordered t s =
       subst (Ordered (additions.ruleOf (ruleIn t) ∷ []) (q .question .log)) (sym (its-list q id s))
-      (subst (λ (w : Windows). Ordered (record { id = id; single = hasSingle (q .question .flags); starts = hasLeftmost (q .question .flags); windows = w; tree = t } ∷ []) (q .question .log) (map (reportBy id) (s .list)))
+      (subst (λ (n : ℕ). Ordered (record {
+        id = id;
+        single = hasSingle (q .question .flags);
+        starts = hasLeftmost (q .question .flags);
+        windows = record { smallest-end = q .question .windows .smallest-end; largest-end = q .question .windows .largest-end; smallest-length = n };
+        tree = t;
+      } ∷ []) (q .question .log) (map (reportBy id) (s .list)))
       none (ordered-as (q .question .log) (ruleOf (q .question) t) 0 id (s .list) (s .ordered)))
 
 same-list : {S L C : Type 0} (k : Kind S L C) → Demand3 k → SameList k

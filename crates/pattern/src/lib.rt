@@ -31,7 +31,7 @@ pub struct Reading {
 }
 
 // The longest pattern that is read, in bytes.
-const LONGEST: usize = 1024;
+pub const LONGEST: usize = 1024;
 
 // The answer that refuses.
 fn refused(number: u32, place: usize) -> Reading

@@ -21,6 +21,7 @@ pub mod Alone
 pub mod Named
 pub mod Finite
 pub mod Moments
+pub mod Offsets
 pub mod Starts
 pub mod Reports
 pub mod Ways

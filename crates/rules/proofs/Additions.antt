@@ -25,14 +25,15 @@ use Rattle.automaton.specs.Parts.{formParts}
 use Rattle.automaton.specs.declared.Parts.{Parts}
 use Rattle.automaton.proofs.Padded.{parts-whole}
 use Rattle.rules.specs.Gaps.{holdingAt, partsAt}
-use Rattle.rules.specs.Words.{placeOf, added}
+use Rattle.rules.specs.Words.{placeOf, withWindow, added}
 use Rattle.rules.specs.Add.{Addition, readingOf, answer, hasId, addAnswer, withRule, addWords}
-use Rattle.rules.specs.Additions.{Narrow, Accepted, size, used, taken, nextAnswer, withNew, afterNext, acceptedAfter}
+use Rattle.rules.specs.Additions.{Narrow, Accepted, size, used, taken, nextAnswer, acceptedOf, withNew, afterNext, acceptedAfter}
 use Rattle.rules.specs.Encoded.{addAll, encode}
 use Rattle.rules.specs.declared.Added.{Added}
 use Rattle.rules.proofs.Place.{count-to}
 use Rattle.rules.proofs.Kept.{passes-added, has-id-added}
-use Rattle.rules.proofs.Views.{extended}
+use Rattle.rules.proofs.Views.{extended-in, inside-in}
+use Rattle.rules.proofs.Windows.{window-passes, window-rules, window-positions, window-has-id}
 use Rattle.rules.proofs.Parts.{sized-parts}
 use Rattle.rules.proofs.Sorted.{Placed, at, insert, laid, into, byId, byId-more, place, place-within, smaller-before, larger-there}
 use Rattle.rules.proofs.Encodes.{Encodes, encodes-none, encodes-more}
@@ -52,10 +53,10 @@ unfolding taken
 taken-more [] r id = or-false (eqb (r .id) id)
 taken-more (x ∷ xs) r id = ap (λ (b : Bool). eqb (x .id) id || b) (taken-more xs r id) ∙ sym (or-assoc (eqb (x .id) id) (taken xs id) (eqb (r .id) id))
 
-encode-more : (t : List ℕ) (rs : List Accepted) (r : Accepted) → encode t (rs ++ (r ∷ [])) ≡ added (encode t rs) (r .id) (r .flags) (partsAt (r .tree) (positionsOf (encode t rs)))
+encode-more : (t : List ℕ) (rs : List Accepted) (r : Accepted) → encode t (rs ++ (r ∷ [])) ≡ added (withWindow (encode t rs) (r .id) (r .lowest) (r .highest)) (r .id) (r .flags) (partsAt (r .tree) (positionsOf (encode t rs)))
 unfolding encode
 encode-more t [] r = refl
-encode-more t (x ∷ xs) r = encode-more (added t (x .id) (x .flags) (partsAt (x .tree) (positionsOf t))) xs r
+encode-more t (x ∷ xs) r = encode-more (added (withWindow t (x .id) (x .lowest) (x .highest)) (x .id) (x .flags) (partsAt (x .tree) (positionsOf t))) xs r
 
 -- ---- what a list leaves
 
@@ -91,7 +92,7 @@ module _ (t : List ℕ) (rs : List Accepted) (b : Built t rs) (a : Addition) (na
   x = ok .read
 
   abbrev r : Accepted
-  r = record { id = a .id; flags = a .flags; tree = x }
+  r = acceptedOf a x
 
   abbrev n : ℕ
   n = positionsOf t
@@ -140,24 +141,45 @@ module _ (t : List ℕ) (rs : List Accepted) (b : Built t rs) (a : Addition) (na
           let z : place new ps ≡ c = omega arith in
           subst (λ (j : ℕ). a .id ≤ at ps j .rule .id) z (larger-there new ps (omega arith))
 
-  encoded : Encodes (automaton (added t (a .id) (a .flags) parts)) (byId (rs ++ (r ∷ [])))
+  -- the table with the window
+  abbrev s : List ℕ
+  s = withWindow t (a .id) (a .lowest) (a .highest)
+
+  few-rules : rulesOf t < maxRules
+  few-rules = omega (arith, b .rules, ok .few)
+
+  passed-s : Passes s
+  passed-s = window-passes t (a .id) (a .lowest) (a .highest) (b .passed .long) few-rules (b .passed)
+
+  rules-s : rulesOf s ≡ rulesOf t
+  rules-s = window-rules t (a .id) (a .lowest) (a .highest) (b .passed .long) few-rules
+
+  positions-s : positionsOf s ≡ positionsOf t
+  positions-s = window-positions t (a .id) (a .lowest) (a .highest) (b .passed .long) few-rules
+
+  ids-s : (id : ℕ) → hasId s id ≡ hasId t id
+  ids-s = window-has-id t (a .id) (a .lowest) (a .highest) (b .passed .long) few-rules
+
+  encoded : Encodes (automaton (added s (a .id) (a .flags) parts)) (byId (rs ++ (r ∷ [])))
   unfolding automaton
   encoded =
-      subst (Encodes (automaton (added t (a .id) (a .flags) parts))) (sym (byId-more rs r ∙ ap (λ (k : ℕ). insert (record { rule = r; from = k }) ps) (sym (b .positions))))
-      (encodes-more (automaton t) (automaton (added t (a .id) (a .flags) parts)) (placeOf t (a .id)) r parts
-      (extended t (a .id) (a .flags) parts (b .passed .long) (omega (arith, b .rules)) (omega (arith, b .positions, more)))
+      subst (Encodes (automaton (added s (a .id) (a .flags) parts))) (sym (byId-more rs r ∙ ap (λ (k : ℕ). insert (record { rule = r; from = k }) ps) (sym (b .positions))))
+      (encodes-more (automaton t) (automaton (added s (a .id) (a .flags) parts)) (placeOf t (a .id)) r parts
+      (extended-in t (a .id) (a .flags) (a .lowest) (a .highest) parts (b .passed .long) few-rules (omega (arith, b .positions, more)))
       are (omega (arith, b .positions)) ps (b .encodes) here (read .full)
-      (λ c h e. fresh c (omega (arith, b .encodes .rules)) (word-id c (omega (arith, b .encodes .rules)) ∙ e)))
+      (λ c h e. fresh c (omega (arith, b .encodes .rules)) (word-id c (omega (arith, b .encodes .rules)) ∙ e))
+      (inside-in t (a .id) (a .flags) (a .lowest) (a .highest) parts (b .passed .long) few-rules (omega (arith, b .positions, more))))
 
-  pub built-more : Built (added t (a .id) (a .flags) (partsAt x (positionsOf t))) (rs ++ (record { id = a .id; flags = a .flags; tree = x } ∷ []))
+  pub built-more : Built (added (withWindow t (a .id) (a .lowest) (a .highest)) (a .id) (a .flags) (partsAt x (positionsOf t))) (rs ++ (acceptedOf a x ∷ []))
   built-more =
       record {
-        passed = passes-added t (a .id) (a .flags) parts (b .passed) (omega (arith, b .rules)) (omega (arith, b .positions, more)) narrow fresh;
-        rules = added-rules t (a .id) (a .flags) parts (b .passed .long) ∙ ap (λ (k : ℕ). k + 1) (b .rules) ∙ sym (length-append rs (r ∷ []));
-        positions = added-positions t (a .id) (a .flags) parts (b .passed .long) ∙ ap₂ (λ (j k : ℕ). j + k) (b .positions) more ∙ sym (used-more rs r);
+        passed = passes-added s (a .id) (a .flags) parts passed-s (omega (arith, rules-s, b .rules)) (omega (arith, positions-s, b .positions, more)) narrow
+            (no-record s (a .id) (ids-s (a .id) ∙ b .ids (a .id) ∙ ok .free));
+        rules = added-rules s (a .id) (a .flags) parts (passed-s .long) ∙ ap (λ (k : ℕ). k + 1) (rules-s ∙ b .rules) ∙ sym (length-append rs (r ∷ []));
+        positions = added-positions s (a .id) (a .flags) parts (passed-s .long) ∙ ap₂ (λ (j k : ℕ). j + k) (positions-s ∙ b .positions) more ∙ sym (used-more rs r);
         ids = λ id.
-            has-id-added t (a .id) (a .flags) parts (b .passed .long) (omega (arith, b .rules)) id
-            ∙ ap (λ (y : Bool). y || eqb (a .id) id) (b .ids id) ∙ sym (taken-more rs r id);
+            has-id-added s (a .id) (a .flags) parts (passed-s .long) (omega (arith, rules-s, b .rules)) id
+            ∙ ap (λ (y : Bool). y || eqb (a .id) id) (ids-s id ∙ b .ids id) ∙ sym (taken-more rs r id);
         encodes = encoded;
       }
 
@@ -212,7 +234,7 @@ encode-next t rs b a =
     go : (c : Bool) (d : Read) → encode t (cond c (withNew rs a d) rs) ≡ cond c (withRule (encode t rs) a d) (encode t rs)
     go false d = refl
     go true (refused number place) = refl
-    go true (tree x) = encode-more t rs (record { id = a .id; flags = a .flags; tree = x })
+    go true (tree x) = encode-more t rs (acceptedOf a x)
 
 encode-all : (t : List ℕ) (rs : List Accepted) → Built (encode t rs) rs → (l : List Addition) → Narrow l → addAll (encode t rs) l ≡ encode t (acceptedAfter rs l)
 unfolding addAll acceptedAfter Narrow

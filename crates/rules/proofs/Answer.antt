@@ -12,7 +12,7 @@ use lib.ListN.{length}
 use borrow.Author.Tests.{eq-eqb, ne-eqb, le-leb, lt-leb, lt-ltb, le-ltb, leb-false}
 use Rattle.sets.specs.Set.{any}
 use Rattle.sets.proofs.Laws.{any-at}
-use Rattle.table.specs.Layout.{maxRules, maxPositions, rulesOf, positionsOf, idWord}
+use Rattle.table.specs.Layout.{tableWords, maxRules, maxPositions, rulesOf, positionsOf, idWord}
 use Rattle.table.specs.Table.{isTable, knownFlags}
 use Rattle.table.proofs.Test.{Passes, passes}
 use Rattle.regex.specs.Form.{write, positions}
@@ -24,10 +24,11 @@ use Rattle.pattern.specs.Read.{tooLong, optionsOf, limitedRead, answerOf}
 use Rattle.pattern.specs.declared.Reading.{Reading}
 use Rattle.pattern.proofs.Answers.{within, accepted-tree}
 use Rattle.rules.specs.Gaps.{partsAt}
-use Rattle.rules.specs.Words.{added}
-use Rattle.rules.specs.Add.{Addition, readingOf, answer, unknownFlag, singleStart, hasId, placed, addAnswer, withRule, addWords}
-use Rattle.rules.specs.Invariants.{firstFault}
+use Rattle.rules.specs.Words.{withWindow, added}
+use Rattle.rules.specs.Add.{Addition, readingOf, answer, unknownFlag, singleStart, emptyWindow, hasId, placed, addAnswer, withRule, addWords}
+use Rattle.rules.specs.Invariants.{firstFault, sizeFault}
 use Rattle.rules.specs.declared.Added.{Added}
+use Rattle.rules.proofs.Windows.{length-window, window-rules, window-positions}
 
 -- ---- an id among those of the table
 
@@ -102,7 +103,7 @@ module _ (t : List ℕ) (a : Addition) where
   early f e n = kept (answer f 0) (go (isTable t) (unknownFlag (a .flags)) (singleStart (a .flags)) (hasId t (a .id)) (leb maxRules (rulesOf t)) e) n
     where
       last : Added
-      last = cond (tooLong (a .pattern)) (answer 5 0) (placed (positionsOf t) (length (a .pattern)) (readingOf a))
+      last = cond (tooLong (a .pattern)) (answer 5 0) (cond (emptyWindow a) (answer 26 0) (placed (positionsOf t) (length (a .pattern)) (readingOf a)))
 
       go : (t b s c d : Bool) → f ≡ cond t (cond b 2 (cond s 24 (cond c 3 (cond d 4 0)))) 1
           → answer f 0 ≡ cond t (cond b (answer 2 0) (cond s (answer 24 0) (cond c (answer 3 0) (cond d (answer 4 0) last)))) (answer 1 0)
@@ -134,72 +135,108 @@ module _ (t : List ℕ) (a : Addition) where
     pub passed-few : rulesOf t < maxRules
     passed-few = leb-false maxRules (rulesOf t) (checks .4)
 
-    -- what the reader gives of the pattern
-    abbrev given : Read
-    given = limitedRead (a .pattern) (optionsOf (a .flags))
+    after-size : addAnswer t a ≡ cond (tooLong (a .pattern)) (answer 5 0) (cond (emptyWindow a) (answer 26 0) (placed (positionsOf t) (length (a .pattern)) (readingOf a)))
+    unfolding addAnswer
+    after-size = rw (checks .0, checks .1, checks .2, checks .3, checks .4)
 
-    then-read : addAnswer t a ≡ placed (positionsOf t) (length (a .pattern)) given
-    unfolding addAnswer limitedRead placed
-    then-read = rw (checks .0, checks .1, checks .2, checks .3, checks .4) (go (tooLong (a .pattern)))
+    -- by the length and the window
+    pub unfit : (f : ℕ) → f ≡ sizeFault a → (f ≡ 0 → ⊥) → Answers (answer f 0) t
+    unfolding sizeFault
+    unfit f e n = kept (answer f 0) (go (tooLong (a .pattern)) (emptyWindow a) e ∙ sym after-size) n
       where
-        go : (b : Bool) → cond b (answer 5 0) (placed (positionsOf t) (length (a .pattern)) (readingOf a)) ≡ placed (positionsOf t) (length (a .pattern)) (cond b (refused 5 0) (readingOf a))
-        go true = refl
-        go false = refl
+        go : (l w : Bool) → f ≡ cond l 5 (cond w 26 0)
+            → answer f 0 ≡ cond l (answer 5 0) (cond w (answer 26 0) (placed (positionsOf t) (length (a .pattern)) (readingOf a)))
+        go true w z = ap (λ (k : ℕ). answer k 0) z
+        go false true z = ap (λ (k : ℕ). answer k 0) z
+        go false false z = absurd (n z)
 
-    -- by the reader
-    pub unread : (r : Reading) → r ≡ answerOf given → (r .number ≡ 0 → ⊥) → Answers (answer (r .number) (r .place)) t
-    unfolding answerOf placed
-    unread r e n = kept (answer (r .number) (r .place)) (go given refl ∙ sym then-read) n
-      where
-        go : (d : Read) → given ≡ d → answer (r .number) (r .place) ≡ placed (positionsOf t) (length (a .pattern)) given
-        go (refused number place) z =
-            let q : r ≡ answerOf (refused number place) = e ∙ ap answerOf z in
-            ap₂ answer (ap (λ (x : Reading). x .number) q) (ap (λ (x : Reading). x .place) q) ∙ sym (ap (placed (positionsOf t) (length (a .pattern))) z)
-        go (tree x) z = absurd (n (ap (λ (x : Reading). x .number) (e ∙ ap answerOf z)))
+    module _ (fitting : 0 ≡ sizeFault a) where
+      -- what the reader gives of the pattern
+      abbrev given : Read
+      given = limitedRead (a .pattern) (optionsOf (a .flags))
 
-    -- the pattern is read
-    module _ (r : Reading) (is : r ≡ answerOf given) (fine : r .number ≡ 0) where
-      x : Syntax
-      x = accepted-tree (a .pattern) (optionsOf (a .flags)) r is fine .0
+      then-read : addAnswer t a ≡ placed (positionsOf t) (length (a .pattern)) given
+      unfolding limitedRead sizeFault
+      then-read = after-size ∙ go (tooLong (a .pattern)) (emptyWindow a) fitting
+        where
+          go : (b c : Bool) → _≡_ {A = ℕ} 0 (cond b 5 (cond c 26 0))
+              → cond b (answer 5 0) (cond c (answer 26 0) (placed (positionsOf t) (length (a .pattern)) (readingOf a))) ≡ placed (positionsOf t) (length (a .pattern)) (cond b (refused 5 0) (readingOf a))
+          go true c z = absurd (omega (arith, z))
+          go false true z = absurd (omega (arith, z))
+          go false false z = refl
 
-      given-is : given ≡ tree x
-      unfolding x
-      given-is = accepted-tree (a .pattern) (optionsOf (a .flags)) r is fine .1
+      -- by the reader
+      pub unread : (r : Reading) → r ≡ answerOf given → (r .number ≡ 0 → ⊥) → Answers (answer (r .number) (r .place)) t
+      unfolding answerOf placed
+      unread r e n = kept (answer (r .number) (r .place)) (go given refl ∙ sym then-read) n
+        where
+          go : (d : Read) → given ≡ d → answer (r .number) (r .place) ≡ placed (positionsOf t) (length (a .pattern)) given
+          go (refused number place) z =
+              let q : r ≡ answerOf (refused number place) = e ∙ ap answerOf z in
+              ap₂ answer (ap (λ (x : Reading). x .number) q) (ap (λ (x : Reading). x .place) q) ∙ sym (ap (placed (positionsOf t) (length (a .pattern))) z)
+          go (tree x) z = absurd (n (ap (λ (x : Reading). x .number) (e ∙ ap answerOf z)))
 
-      read : readingOf a ≡ tree x
-      read = within (a .pattern) (optionsOf (a .flags)) x given-is .1
+      -- the pattern is read
+      module _ (r : Reading) (is : r ≡ answerOf given) (fine : r .number ≡ 0) where
+        x : Syntax
+        x = accepted-tree (a .pattern) (optionsOf (a .flags)) r is fine .0
 
-      here : treeAt (r .nodes) (r .root) ≡ x
-      unfolding x
-      here = accepted-tree (a .pattern) (optionsOf (a .flags)) r is fine .2 .tree
+        given-is : given ≡ tree x
+        unfolding x
+        given-is = accepted-tree (a .pattern) (optionsOf (a .flags)) r is fine .1
 
-      -- the reader has counted the positions, and there are at most 256
-      counted : r .positions ≡ positions (write x)
-      unfolding x
-      counted =
-          let y = accepted-tree (a .pattern) (optionsOf (a .flags)) r is fine .2 in
-          y .positions ∙ within-limit x (y .few)
+        read : readingOf a ≡ tree x
+        read = within (a .pattern) (optionsOf (a .flags)) x given-is .1
 
-      last-answer : addAnswer t a ≡ cond (ltb limit (positionsOf t + positions (write x))) (answer 17 (length (a .pattern))) (answer 0 0)
-      unfolding placed
-      last-answer = then-read ∙ ap (placed (positionsOf t) (length (a .pattern))) given-is
+        here : treeAt (r .nodes) (r .root) ≡ x
+        unfolding x
+        here = accepted-tree (a .pattern) (optionsOf (a .flags)) r is fine .2 .tree
 
-      -- its positions do not fit
-      pub too-many : limit < positionsOf t + r .positions → Answers (answer 17 (length (a .pattern))) t
-      too-many h =
-          let over : limit < positionsOf t + positions (write x) = omega (arith, counted) in
-          kept (answer 17 (length (a .pattern))) (sym (last-answer ∙ ap (λ (b : Bool). cond b (answer 17 (length (a .pattern))) (answer 0 0)) (lt-ltb limit (positionsOf t + positions (write x)) over))) (λ z. omega arith)
+        -- the reader has counted the positions, and there are at most 256
+        counted : r .positions ≡ positions (write x)
+        unfolding x
+        counted =
+            let y = accepted-tree (a .pattern) (optionsOf (a .flags)) r is fine .2 in
+            y .positions ∙ within-limit x (y .few)
 
-      -- they do
-      module _ (h : positionsOf t + r .positions ≤ limit) where
-        room : positionsOf t + positions (write x) ≤ limit
-        room = omega (arith, counted)
+        last-answer : addAnswer t a ≡ cond (ltb limit (positionsOf t + positions (write x))) (answer 17 (length (a .pattern))) (answer 0 0)
+        unfolding placed
+        last-answer = then-read ∙ ap (placed (positionsOf t) (length (a .pattern))) given-is
 
-        pub fits-room : positionsOf t + positions (write (treeAt (r .nodes) (r .root))) ≤ maxPositions
-        fits-room = subst (λ (y : Syntax). positionsOf t + positions (write y) ≤ maxPositions) (sym here) room
+        -- its positions do not fit
+        pub too-many : limit < positionsOf t + r .positions → Answers (answer 17 (length (a .pattern))) t
+        too-many h =
+            let over : limit < positionsOf t + positions (write x) = omega (arith, counted) in
+            kept (answer 17 (length (a .pattern))) (sym (last-answer ∙ ap (λ (b : Bool). cond b (answer 17 (length (a .pattern))) (answer 0 0)) (lt-ltb limit (positionsOf t + positions (write x)) over))) (λ z. omega arith)
 
-        pub accepted : (u : List ℕ) → u ≡ added t (a .id) (a .flags) (partsAt (treeAt (r .nodes) (r .root)) (positionsOf t)) → Answers (answer 0 0) u
-        unfolding addWords withRule
-        accepted u w =
-            let z : addAnswer t a ≡ answer 0 0 = last-answer ∙ ap (λ (b : Bool). cond b (answer 17 (length (a .pattern))) (answer 0 0)) (le-ltb limit (positionsOf t + positions (write x)) room) in
-            (sym z, w ∙ ap (λ (y : Syntax). added t (a .id) (a .flags) (partsAt y (positionsOf t))) here ∙ sym (ap₂ (λ (d : Added) (o : Read). cond (eqb (d .number) 0) (withRule t a o) t) z read))
+        -- they do
+        module _ (h : positionsOf t + r .positions ≤ limit) where
+          room : positionsOf t + positions (write x) ≤ limit
+          room = omega (arith, counted)
+
+          -- the table with the window has as many rules and positions
+          abbrev s : List ℕ
+          s = withWindow t (a .id) (a .lowest) (a .highest)
+
+          positions-s : positionsOf s ≡ positionsOf t
+          positions-s = window-positions t (a .id) (a .lowest) (a .highest) (passed-table .long) passed-few
+
+          pub long-room : tableWords ≤ length s
+          long-room = omega (arith, length-window t (a .id) (a .lowest) (a .highest) (passed-table .long) passed-few, passed-table .long)
+
+          pub few-room : rulesOf s < maxRules
+          few-room = omega (arith, window-rules t (a .id) (a .lowest) (a .highest) (passed-table .long) passed-few, passed-few)
+
+          pub fits-room : positionsOf s + positions (write (treeAt (r .nodes) (r .root))) ≤ maxPositions
+          fits-room =
+              subst (λ (n : ℕ). n + positions (write (treeAt (r .nodes) (r .root))) ≤ maxPositions) (sym positions-s)
+              (subst (λ (y : Syntax). positionsOf t + positions (write y) ≤ maxPositions) (sym here) room)
+
+          pub same-positions : positionsOf t ≡ positionsOf s
+          same-positions = sym positions-s
+
+          pub accepted : (u : List ℕ) → u ≡ added s (a .id) (a .flags) (partsAt (treeAt (r .nodes) (r .root)) (positionsOf s)) → Answers (answer 0 0) u
+          unfolding addWords withRule
+          accepted u w =
+              let z : addAnswer t a ≡ answer 0 0 = last-answer ∙ ap (λ (b : Bool). cond b (answer 17 (length (a .pattern))) (answer 0 0)) (le-ltb limit (positionsOf t + positions (write x)) room) in
+              (sym z, w ∙ ap₂ (λ (y : Syntax) (n : ℕ). added s (a .id) (a .flags) (partsAt y n)) here positions-s ∙ sym (ap₂ (λ (d : Added) (o : Read). cond (eqb (d .number) 0) (withRule t a o) t) z read))

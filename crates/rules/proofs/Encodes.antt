@@ -37,7 +37,8 @@ use Rattle.automaton.specs.declared.Parts.{Parts}
 use Rattle.rules.specs.Gaps.{holdingAt}
 use Rattle.rules.specs.Words.{raised, isSingle, isLeftmost}
 use Rattle.rules.specs.Additions.{Accepted, size, ruleOf}
-use Rattle.rules.proofs.Views.{putIn, Extended}
+use Rattle.rules.proofs.Views.{Extended}
+use Rattle.rules.proofs.Windows.{putIn, insideOf}
 use Rattle.rules.proofs.Parts.{parts-positions, parts-first, parts-last, parts-follow, parts-takes}
 use Rattle.rules.proofs.Sorted.{Placed, at, insert, byId, byId-mem, mem-at, laid-mem, place, length-insert, place-within, smaller-before, larger-there, insert-before, insert-there, insert-after}
 
@@ -65,6 +66,8 @@ pub record Stands (w : Automaton) (a : ℕ) (p : Placed) : Type 0 where
   pub once-is : w .once a ≡ isSingle (p .rule .flags)
   pub leftmost-is : w .leftmost a ≡ isLeftmost (p .rule .flags)
   pub keeps-is : (q : ℕ) → Of p q → w .keeps q ≡ isLeftmost (p .rule .flags)
+  -- it may report at the end offsets of its window
+  pub inside-is : (e : ℕ) → w .inside a e ≡ insideOf (p .rule .lowest) (p .rule .highest) e
   -- it takes a byte at least
   pub full : nullable (p .rule .tree) ≡ false
   pub within : p .from + size (p .rule) ≤ w .positions
@@ -181,6 +184,7 @@ module _ (w v : Automaton) (k : ℕ) (r : Accepted) (parts : ℕ → Parts) (x :
   -- ---- an old rule
 
   module _ (p : Placed) (a c : ℕ) (s : Stands w a p) (id-kept : v .id c ≡ w .id a) (once-kept : v .once c ≡ w .once a) (leftmost-kept : v .leftmost c ≡ w .leftmost a)
+      (inside-kept : (e : ℕ) → v .inside c e ≡ w .inside a e)
       (last-kept : (g q : ℕ) → g < lastGaps → q < n + positions f → lastIn v g c q ≡ (ltb q n && lastIn w g a q)) where
     -- its positions are old ones
     old : (q : ℕ) → Of p q → q < n
@@ -226,6 +230,7 @@ module _ (w v : Automaton) (k : ℕ) (r : Accepted) (parts : ℕ → Parts) (x :
               ∙ joined q below (w .keeps q) (isLeftmost (r .flags) && from-to n (n + parts 0 .positions) q)
               (ap (λ (b : Bool). isLeftmost (r .flags) && b) (from-to-below n (n + parts 0 .positions) q below) ∙ and-false (isLeftmost (r .flags)))
               ∙ s .keeps-is q h;
+          inside-is = λ e. inside-kept e ∙ s .inside-is e;
           full = s .full;
           within = omega (arith, s .within, grown);
           takes-is = λ y q l h.
@@ -246,7 +251,7 @@ module _ (w v : Automaton) (k : ℕ) (r : Accepted) (parts : ℕ → Parts) (x :
   -- ---- the new rule
 
   module _ (full : nullable (r .tree) ≡ false) (id-new : v .id k ≡ r .id) (once-new : v .once k ≡ isSingle (r .flags))
-      (leftmost-new : v .leftmost k ≡ isLeftmost (r .flags))
+      (leftmost-new : v .leftmost k ≡ isLeftmost (r .flags)) (inside-new : (e : ℕ) → v .inside k e ≡ insideOf (r .lowest) (r .highest) e)
       (last-here : (g q : ℕ) → g < lastGaps → q < n + positions f → lastIn v g k q ≡ has (parts g .last) q)
       (nothing-after : (g o q : ℕ) → n ≤ o → w .follow g o q ≡ false) where
     -- an old set has none of its positions
@@ -273,6 +278,7 @@ module _ (w v : Automaton) (k : ℕ) (r : Accepted) (parts : ℕ → Parts) (x :
               x .keeps-in q (omega arith)
               ∙ masked q (h .0) (w .keeps q) (isLeftmost (r .flags) && from-to n (n + parts 0 .positions) q)
               ∙ ap (λ (b : Bool). isLeftmost (r .flags) && b) (from-to-in n (n + parts 0 .positions) q (h .0) (omega (arith, more, h .1))) ∙ and-true (isLeftmost (r .flags));
+          inside-is = inside-new;
           full = full;
           within = omega (arith, grown);
           takes-is = λ y q l h.
@@ -288,7 +294,8 @@ module _ (w v : Automaton) (k : ℕ) (r : Accepted) (parts : ℕ → Parts) (x :
   -- ---- all the rules
 
   module _ (ps : List Placed) (e : Encodes w ps) (here : place new ps ≡ k) (full : nullable (r .tree) ≡ false)
-      (fresh : (a : ℕ) → a < length ps → at ps a .rule .id ≡ r .id → ⊥) where
+      (fresh : (a : ℕ) → a < length ps → at ps a .rule .id ≡ r .id → ⊥)
+      (inside-in : (a : ℕ) → a ≤ w .rules → (e : ℕ) → v .inside a e ≡ putIn k (insideOf (r .lowest) (r .highest)) (w .inside) a e) where
     abbrev qs : List Placed
     qs = insert new ps
 
@@ -416,6 +423,7 @@ module _ (w v : Automaton) (k : ℕ) (r : Accepted) (parts : ℕ → Parts) (x :
             (x .id-in a (omega (arith, e .rules)) ∙ put-before (r .id) (w .id) a l)
             (x .once-in a (omega (arith, e .rules)) ∙ put-before (isSingle (r .flags)) (w .once) a l)
             (x .leftmost-in a (omega (arith, e .rules)) ∙ put-before (isLeftmost (r .flags)) (w .leftmost) a l)
+            (λ z. inside-in a (omega (arith, e .rules)) z ∙ ap (λ (g : ℕ → Bool). g z) (put-before (insideOf (r .lowest) (r .highest)) (w .inside) a l))
             (last-old a a (inl (l, refl)) (omega (arith, k-le))))
         go (no l) (yes m) =
             subst (Stands v a) (sym (at-after a m))
@@ -423,6 +431,7 @@ module _ (w v : Automaton) (k : ℕ) (r : Accepted) (parts : ℕ → Parts) (x :
             (x .id-in a (omega (arith, e .rules)) ∙ put-after (r .id) (w .id) a m)
             (x .once-in a (omega (arith, e .rules)) ∙ put-after (isSingle (r .flags)) (w .once) a m)
             (x .leftmost-in a (omega (arith, e .rules)) ∙ put-after (isLeftmost (r .flags)) (w .leftmost) a m)
+            (λ z. inside-in a (omega (arith, e .rules)) z ∙ ap (λ (g : ℕ → Bool). g z) (put-after (insideOf (r .lowest) (r .highest)) (w .inside) a m))
             (last-old (a - 1) a (inr (omega arith, omega arith)) (omega arith)))
         go (no l) (no m) =
             let z : k ≡ a = omega arith in
@@ -432,6 +441,7 @@ module _ (w v : Automaton) (k : ℕ) (r : Accepted) (parts : ℕ → Parts) (x :
             (x .id-in k (omega (arith, e .rules)) ∙ put-here (r .id) (w .id))
             (x .once-in k (omega (arith, e .rules)) ∙ put-here (isSingle (r .flags)) (w .once))
             (x .leftmost-in k (omega (arith, e .rules)) ∙ put-here (isLeftmost (r .flags)) (w .leftmost))
+            (λ z. inside-in k (omega (arith, e .rules)) z ∙ ap (λ (g : ℕ → Bool). g z) (put-here (insideOf (r .lowest) (r .highest)) (w .inside)))
             last-new
             (e .rest)))
 

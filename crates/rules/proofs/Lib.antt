@@ -1,5 +1,6 @@
 -- The laws of an addition, from words to rules: Rows (sets in words), Steps (the private writers),
--- Place (the new rule's place), GapSets (the sets of the gaps, as they are written), Regions, Made,
+-- Place (the new rule's place), GapSets (the sets of the gaps, as they are written), Numbers (one for
+-- each rule), Windows (the table with a window more, and no rule yet), Regions, Made,
 -- Kept, Views (the table with one rule more: its words, how they are made, that they pass the test,
 -- their automaton), Worlds (what the numbers of the gaps mean), Parts (the builder's sets), Sorted
 -- and Encodes (rules by rising id, and the automaton that they are), Readings (what an accepted
@@ -9,6 +10,8 @@ pub mod Rows
 pub mod Steps
 pub mod Place
 pub mod GapSets
+pub mod Numbers
+pub mod Windows
 pub mod Regions
 pub mod Made
 pub mod Kept

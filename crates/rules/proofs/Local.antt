@@ -7,24 +7,27 @@ use mathlib.Core.List.{List, [], _∷_, _++_}
 use Prim.Native.Nat.{ℕ, zero, suc, _+_, _-_, _*_, _/_, _%_, _≤_, _<_}
 use native.Mathlib.Omega.{arith}
 use lib.Dec.{eqb, leb, ltb}
-use lib.ListN.{getD, take, drop}
-use lib.Seq.{take-at, drop-at}
-use borrow.Author.Tests.{leb-true, ltb-true}
+use lib.ListN.{length, getD, take, drop, length-take}
+use lib.Seq.{take-at, drop-at, ext-getD, getD-take}
+use borrow.Author.Tests.{leb-true, ltb-true, eqb-true}
 use Rattle.sets.specs.Set.{has, setOf, any, asOne, count}
 use Rattle.sets.proofs.Laws.{any-ext, count-ext, setOf-ext}
-use Rattle.table.specs.Layout.{tableWords, maxRules, maxPositions, bytes, rulesOf, positionsOf, leftmostsAt, keepersAt, firstAt, idAt, idWord, openerAt, ownerAt, lastAt, latesAt, followAt, takersAt, rowHas, from-to}
+use Rattle.table.specs.Layout.{tableWords, maxRules, maxPositions, bytes, rulesOf, positionsOf, leftmostsAt, windowedAt, lowestAt, highestAt, keepersAt, firstAt, idAt, idWord, openerAt, ownerAt, lastAt, latesAt, followAt, takersAt, rowHas, from-to}
 use Rattle.table.specs.Gaps.{firstGaps, followGaps, lastGaps, innerGaps, unsettled}
 use Rattle.table.specs.Table.{isTable}
 use Rattle.table.proofs.Rows.{row-same}
 use Rattle.table.proofs.Test.{passes}
-use Rattle.table.proofs.Local.{same-word, isTable-local}
+use Rattle.table.proofs.Local.{NoWindow, same-word, isTable-local}
 use Rattle.pattern.specs.Walk.{Read, tree, refused}
 use Rattle.automaton.specs.declared.Parts.{Parts}
 use Rattle.rules.specs.Gaps.{partsAt}
-use Rattle.rules.specs.Words.{wordsOf, oldRow, joinedRow, placeOf, digitsWith, ownerWith, isSingle, isLeftmost, idWords, singlesWord, leftmostsWord, newKeeper, keeperWords, ownerWords, lastWords, lateWords, opener, firstWords, followWords, newTaker, takersWords, addedWord, added}
+use Rattle.rules.specs.Words.{wordsOf, oldRow, joinedRow, placeOf, digitsWith, numbersWith, hasWindow, withWindow, ownerWith, isSingle, isLeftmost, idWords, singlesWord, leftmostsWord, newKeeper, keeperWords, ownerWords, lastWords, lateWords, opener, firstWords, followWords, newTaker, takersWords, addedWord, added}
 use Rattle.rules.specs.Add.{Addition, readingOf, hasId, addAnswer, withRule, addWords}
 use Rattle.rules.specs.declared.Added.{Added}
+use Rattle.rules.proofs.GapSets.{side, split}
 use Rattle.rules.proofs.Regions.{length-wordsOf}
+use Rattle.rules.proofs.Windows.{length-window, window-out, window-digits, window-lowest, window-highest, window-rules, window-beyond}
+use Rattle.rules.proofs.Checks.{accepted-few}
 
 -- what is asked in a range only is settled there
 within : (lo hi w : ℕ) (x y z u : ℕ) → (lo ≤ w → w < hi → x ≡ y) → z ≡ u → cond (from-to lo hi w) x z ≡ cond (from-to lo hi w) y u
@@ -63,12 +66,15 @@ module _ (t u : List ℕ) (same : take tableWords t ≡ take tableWords u) where
         any-ext (rulesOf t) (λ a. eqb (idWord t a) id) (λ a. eqb (idWord u a) id) (λ a h. ap (λ (x : ℕ). eqb x id) (field a (omega arith)))
         ∙ ap (λ (n : ℕ). any n (λ a. eqb (idWord u a) id)) rules
 
+    place-same : (id : ℕ) → placeOf t id ≡ placeOf u id
+    unfolding placeOf
+    place-same id =
+        count-ext (rulesOf t) (λ a. ltb (idWord t a) id) (λ a. ltb (idWord u a) id) (λ a h. ap (λ (x : ℕ). ltb x id) (field a (omega arith)))
+        ∙ ap (λ (n : ℕ). count n (λ a. ltb (idWord u a) id)) rules
+
     module _ (id flags : ℕ) (parts : ℕ → Parts) where
       place : placeOf t id ≡ placeOf u id
-      unfolding placeOf
-      place =
-          count-ext (rulesOf t) (λ a. ltb (idWord t a) id) (λ a. ltb (idWord u a) id) (λ a h. ap (λ (x : ℕ). ltb x id) (field a (omega arith)))
-          ∙ ap (λ (n : ℕ). count n (λ a. ltb (idWord u a) id)) rules
+      place = place-same id
 
       id-words : (a : ℕ) → a < maxRules → idWords t id flags parts a ≡ idWords u id flags parts a
       unfolding idWords
@@ -161,6 +167,66 @@ module _ (t u : List ℕ) (same : take tableWords t ≡ take tableWords u) where
           ∙ words-ext tableWords (addedWord t id flags parts) (addedWord u id flags parts) word
           ∙ sym (take-at (wordsOf tableWords (addedWord u id flags parts)) (drop tableWords u) tableWords (length-wordsOf tableWords (addedWord u id flags parts)))
 
+-- ---- the window
+
+window-local : (t u : List ℕ) → take tableWords t ≡ take tableWords u → tableWords ≤ length t → rulesOf t < maxRules → (a : Addition)
+    → take tableWords (withWindow t (a .id) (a .lowest) (a .highest)) ≡ take tableWords (withWindow u (a .id) (a .lowest) (a .highest))
+window-local t u same long few a =
+    ext-getD 0 (take tableWords s) (take tableWords r)
+    (omega (arith, long-u, length-take tableWords s, length-take tableWords r, length-window t (a .id) (a .lowest) (a .highest) long few, length-window u (a .id) (a .lowest) (a .highest) long-u few-u))
+    (λ w h. let l : w < tableWords = omega (arith, length-take tableWords s) in getD-take tableWords s w 0 l ∙ word-is w l ∙ sym (getD-take tableWords r w 0 l))
+  where
+    s : List ℕ
+    s = withWindow t (a .id) (a .lowest) (a .highest)
+
+    r : List ℕ
+    r = withWindow u (a .id) (a .lowest) (a .highest)
+
+    long-u : tableWords ≤ length u
+    long-u = omega (arith, length-take tableWords t, length-take tableWords u, ap length same)
+
+    few-u : rulesOf u < maxRules
+    few-u = omega (arith, rules t u same)
+
+    here : placeOf t (a .id) ≡ placeOf u (a .id)
+    here = place-same t u same (omega arith) (a .id)
+
+    numbers : (at new b : ℕ) → at + maxRules ≤ tableWords → b < maxRules
+        → numbersWith (rulesOf t) (placeOf t (a .id)) new (λ c. getD t (at + c) 0) b ≡ numbersWith (rulesOf u) (placeOf u (a .id)) new (λ c. getD u (at + c) 0) b
+    numbers at new b fits h = λ j.
+        cond (ltb b (here j)) (same-word t u same (at + b) (omega arith) j)
+        (cond (eqb b (here j)) new
+        (cond (leb b (rules t u same j)) (same-word t u same (at + (b - 1)) (omega arith) j)
+        (same-word t u same (at + b) (omega arith) j)))
+
+    lowest : (w : ℕ) → lowestAt 0 ≤ w → w < lowestAt maxRules → getD s w 0 ≡ getD r w 0
+    lowest w x y =
+        let e : w ≡ lowestAt (w - lowestAt 0) = omega arith in
+        ap (λ (i : ℕ). getD s i 0) e ∙ window-lowest t (a .id) (a .lowest) (a .highest) long few (w - lowestAt 0) (omega arith)
+        ∙ numbers (lowestAt 0) (a .lowest) (w - lowestAt 0) (omega arith) (omega arith)
+        ∙ sym (ap (λ (i : ℕ). getD r i 0) e ∙ window-lowest u (a .id) (a .lowest) (a .highest) long-u few-u (w - lowestAt 0) (omega arith))
+
+    highest : (w : ℕ) → highestAt 0 ≤ w → w < highestAt maxRules → getD s w 0 ≡ getD r w 0
+    highest w x y =
+        let e : w ≡ highestAt (w - highestAt 0) = omega arith in
+        ap (λ (i : ℕ). getD s i 0) e ∙ window-highest t (a .id) (a .lowest) (a .highest) long few (w - highestAt 0) (omega arith)
+        ∙ numbers (highestAt 0) (a .highest) (w - highestAt 0) (omega arith) (omega arith)
+        ∙ sym (ap (λ (i : ℕ). getD r i 0) e ∙ window-highest u (a .id) (a .lowest) (a .highest) long-u few-u (w - highestAt 0) (omega arith))
+
+    digits : (w : ℕ) → w ≡ windowedAt → getD s w 0 ≡ getD r w 0
+    digits w e =
+        ap (λ (i : ℕ). getD s i 0) e ∙ window-digits t (a .id) (a .lowest) (a .highest) long few
+        ∙ (λ j. digitsWith (here j) (hasWindow (a .lowest) (a .highest)) (same-word t u same windowedAt (omega arith) j))
+        ∙ sym (ap (λ (i : ℕ). getD r i 0) e ∙ window-digits u (a .id) (a .lowest) (a .highest) long-u few-u)
+
+    word-is : (w : ℕ) → w < tableWords → getD s w 0 ≡ getD r w 0
+    word-is w h =
+        split windowedAt (windowedAt + 1) w (λ x y. digits w (omega arith)) (λ d.
+        split (lowestAt 0) (lowestAt maxRules) w (lowest w) (λ l.
+        split (highestAt 0) (highestAt maxRules) w (highest w) (λ i.
+        let none : NoWindow w = (λ e. d (omega arith) (omega arith), λ x y. side (lowestAt 0) (lowestAt maxRules) w (λ z. omega arith) l (λ z. i z y)) in
+        window-out t (a .id) (a .lowest) (a .highest) long few w none ∙ same-word t u same w h ∙ sym (window-out u (a .id) (a .lowest) (a .highest) long-u few-u w none))))
+
 -- ---- an addition
 
 module _ (t u : List ℕ) (same : take tableWords t ≡ take tableWords u) where
@@ -174,14 +240,9 @@ module _ (t u : List ℕ) (same : take tableWords t ≡ take tableWords u) where
         go false e = rw (e, sym (isTable-local t u same) ∙ e)
         go true e = rw (e, sym (isTable-local t u same) ∙ e, has-id t u same (passes t e .rules) (a .id), rules t u same, positions t u same)
 
-    -- an accepted addition has found a table
-    few-rules : eqb (addAnswer t a .number) 0 ≡ true → rulesOf t ≤ maxRules
-    unfolding addAnswer
-    few-rules = go (isTable t) refl
-      where
-        go : (b : Bool) → isTable t ≡ b → eqb (addAnswer t a .number) 0 ≡ true → rulesOf t ≤ maxRules
-        go true e h = passes t e .rules
-        go false e h = absurd (true≢false (sym h ∙ rw e))
+    -- an accepted addition has found a table with room for a rule
+    few-rules : eqb (addAnswer t a .number) 0 ≡ true → (tableWords ≤ length t) × (rulesOf t < maxRules)
+    few-rules e = accepted-few t a (eqb-true (addAnswer t a .number) 0 e)
 
     -- so do the first 16,384 words afterwards
     pub addWords-local : take tableWords (addWords t a) ≡ take tableWords (addWords u a)
@@ -190,13 +251,14 @@ module _ (t u : List ℕ) (same : take tableWords t ≡ take tableWords u) where
         go (eqb (addAnswer t a .number) 0) (readingOf a) few-rules
         ∙ ap (λ (d : Added). take tableWords (cond (eqb (d .number) 0) (withRule u a (readingOf a)) u)) addAnswer-local
       where
-        go : (c : Bool) (d : Read) → (c ≡ true → rulesOf t ≤ maxRules)
+        go : (c : Bool) (d : Read) → (c ≡ true → (tableWords ≤ length t) × (rulesOf t < maxRules))
             → take tableWords (cond c (withRule t a d) t) ≡ take tableWords (cond c (withRule u a d) u)
         go false d few = same
         go true (refused number place) few = same
         go true (tree x) few =
-            added-local t u same (few refl) (a .id) (a .flags) (partsAt x (positionsOf t))
-            ∙ ap (λ (n : ℕ). take tableWords (added u (a .id) (a .flags) (partsAt x n))) (positions t u same)
+            added-local (withWindow t (a .id) (a .lowest) (a .highest)) (withWindow u (a .id) (a .lowest) (a .highest)) (window-local t u same (few refl .0) (few refl .1) a)
+            (omega (arith, window-rules t (a .id) (a .lowest) (a .highest) (few refl .0) (few refl .1), few refl .1)) (a .id) (a .flags) (partsAt x (positionsOf t))
+            ∙ ap (λ (n : ℕ). take tableWords (added (withWindow u (a .id) (a .lowest) (a .highest)) (a .id) (a .flags) (partsAt x n))) (positions t u same)
 
 -- "words beyond are never touched"
 pub addWords-beyond : (t : List ℕ) (a : Addition) → drop tableWords (addWords t a) ≡ drop tableWords t
@@ -207,5 +269,7 @@ addWords-beyond t a = go (eqb (addAnswer t a .number) 0) (readingOf a)
     go false d = refl
     go true (refused number place) = refl
     go true (tree x) =
-        drop-at (wordsOf tableWords (addedWord t (a .id) (a .flags) (partsAt x (positionsOf t)))) (drop tableWords t) tableWords
-        (length-wordsOf tableWords (addedWord t (a .id) (a .flags) (partsAt x (positionsOf t))))
+        let s : List ℕ = withWindow t (a .id) (a .lowest) (a .highest) in
+        drop-at (wordsOf tableWords (addedWord s (a .id) (a .flags) (partsAt x (positionsOf t)))) (drop tableWords s) tableWords
+        (length-wordsOf tableWords (addedWord s (a .id) (a .flags) (partsAt x (positionsOf t))))
+        ∙ window-beyond t (a .id) (a .lowest) (a .highest)

@@ -16,17 +16,17 @@ use Rattle.sets.proofs.Laws.{setOf-ext, any-ext}
 use Rattle.table.specs.Layout.{tableWords, maxRules, maxPositions, bytes, rulesOf, positionsOf, leftmostsAt, keepersAt, firstAt, idAt, openerAt, ownerAt, lastAt, latesAt, followAt, takersAt, rowHas}
 use Rattle.table.specs.Gaps.{firstGaps, lastGaps, followGaps, innerGaps, unsettled}
 use Rattle.table.proofs.Over.{length-over, over-in, over-below, over-above}
-use Rattle.table.specs.Invariants.{movedUp}
 use Rattle.regex.specs.Form.{write, positions}
 use Rattle.nodes.specs.Nodes.{Syntax}
 use Rattle.automaton.specs.declared.Parts.{Parts}
 use Rattle.rules.specs.Gaps.{holdingAt, partsAt}
 use Rattle.rules.specs.Words.{oldRow, joinedRow, placeOf, digitsWith, ownerWith, isSingle, isLeftmost, idWords, singlesWord, leftmostsWord, newKeeper, keeperWords, ownerWords, lastWords, lateWords, opener, firstWords, followWords, newTaker, takersWords, addedWord, added}
-use Rattle.rules.specs.Invariants.{merged, mergedRow, rowsWord, mergedRows, idPut, digitsPut, ownersPut, newKeepers, keepersPut, placePut, followPut, newTakers, takersPut, gapPut, gapsPut, openerOf, openersPut, lateSet, latesPut, countsPut}
+use Rattle.rules.specs.Invariants.{merged, mergedRow, rowsWord, mergedRows, numberPut, digitsPut, ownersPut, newKeepers, keepersPut, placePut, followPut, newTakers, takersPut, gapPut, gapsPut, openerOf, openersPut, lateSet, latesPut, countsPut}
 use Rattle.rules.proofs.Rows.{row-set, merged-same, merged-none, merged-new}
 use Rattle.rules.proofs.Parts.{sized-parts}
 use Rattle.rules.proofs.Place.{place-le}
 use Rattle.rules.proofs.Regions.{word-other, word-keeper, word-last, word-late, word-first, word-id, word-opener, word-owner, word-takers, word-follow, length-added, added-word, added-beyond}
+use Rattle.rules.proofs.Numbers.{length-number, number-out, number-in}
 use Rattle.rules.proofs.GapSets.{Out, side, split, from-to-out, over-out, follow-high, follow-old, follow-new, Free, withLast, length-last, first-out, last-out, gap-first, gap-last, gap-follow, length-gaps, gaps-out, gaps-at}
 
 -- ---- the takers of each byte
@@ -83,76 +83,6 @@ module _ (rules positions : ℕ) (s : List ℕ) where
   counts-positions : tableWords ≤ length s → getD counted 2 0 ≡ positions
   unfolding countsPut
   counts-positions m = over-in 1 (1 + 2) figures s 2 (omega arith) (omega arith) (omega arith)
-
--- ---- the ids
-
-module _ (t : List ℕ) (id flags : ℕ) (parts : ℕ → Parts) (long : tableWords ≤ length t) (few : rulesOf t < maxRules) where
-  abbrev k : ℕ
-  k = placeOf t id
-
-  k-le : k ≤ rulesOf t
-  k-le = place-le t id
-
-  abbrev moved : List ℕ
-  moved = movedUp (idAt k) (rulesOf t - k) t
-
-  abbrev up : ℕ → ℕ
-  up w = getD t (w - 1) 0
-
-  length-moved : length moved ≡ length t
-  length-moved = length-over (idAt k + 1) (idAt k + 1 + (rulesOf t - k)) up t
-
-  abbrev put : List ℕ
-  put = idPut (rulesOf t) k id t
-
-  abbrev new : ℕ → ℕ
-  new w = getD (id ∷ []) (w - idAt k) 0
-
-  length-put : length put ≡ length t
-  unfolding idPut
-  length-put = length-over (idAt k) (idAt k + 1) new moved ∙ length-moved
-
-  put-low : (w : ℕ) → w < idAt k → getD put w 0 ≡ getD t w 0
-  unfolding idPut
-  put-low w h = over-below (idAt k) (idAt k + 1) new moved w h ∙ over-below (idAt k + 1) (idAt k + 1 + (rulesOf t - k)) up t w (omega arith)
-
-  put-here : getD put (idAt k) 0 ≡ id
-  unfolding idPut
-  put-here =
-      let e : idAt k - idAt k ≡ 0 = omega arith in
-      over-in (idAt k) (idAt k + 1) new moved (idAt k) (omega arith) (omega arith) (omega (arith, length-moved, k-le)) ∙ ap (λ (j : ℕ). getD (id ∷ []) j 0) e
-
-  put-up : (w : ℕ) → idAt k < w → w ≤ idAt (rulesOf t) → getD put w 0 ≡ getD t (w - 1) 0
-  unfolding idPut
-  put-up w h l =
-      over-above (idAt k) (idAt k + 1) new moved w (omega arith)
-      ∙ over-in (idAt k + 1) (idAt k + 1 + (rulesOf t - k)) up t w (omega arith) (omega (arith, k-le)) (omega arith)
-
-  put-high : (w : ℕ) → idAt (rulesOf t) < w → getD put w 0 ≡ getD t w 0
-  unfolding idPut
-  put-high w h =
-      over-above (idAt k) (idAt k + 1) new moved w (omega (arith, k-le))
-      ∙ over-above (idAt k + 1) (idAt k + 1 + (rulesOf t - k)) up t w (omega (arith, k-le))
-
-  -- outside the ids nothing changes
-  put-out : (w : ℕ) → Out (idAt 0) (idAt maxRules) w → getD put w 0 ≡ getD t w 0
-  put-out w o = side (idAt 0) (idAt maxRules) w (λ h. put-low w (omega arith)) (λ x y. absurd (o x y)) (λ h. put-high w (omega arith))
-
-  put-id : (a : ℕ) → a < maxRules → getD put (idAt a) 0 ≡ idWords t id flags parts a
-  unfolding idWords
-  put-id a h = go (decLt a k) (decLt k a) (decLt (rulesOf t) a)
-    where
-      go : Dec (a < k) → Dec (k < a) → Dec (rulesOf t < a) → getD put (idAt a) 0 ≡ idWords t id flags parts a
-      go (yes p) q r = rw (lt-ltb a k p) (put-low (idAt a) (omega arith))
-      go (no p) (no q) r =
-          let e : a ≡ k = omega arith in
-          rw (le-ltb a k (omega arith), eq-eqb a k e) (ap (λ (j : ℕ). getD put (idAt j) 0) e ∙ put-here)
-      go (no p) (yes q) (no r) =
-          let e : idAt a - 1 ≡ idAt (a - 1) = omega arith in
-          rw (le-ltb a k (omega arith), ne-eqb a k (λ z. omega arith), le-leb a (rulesOf t) (omega arith))
-          (put-up (idAt a) (omega arith) (omega arith) ∙ ap (λ (j : ℕ). getD t j 0) e)
-      go (no p) (yes q) (yes r) =
-          rw (le-ltb a k (omega arith), ne-eqb a k (λ z. omega arith), lt-leb a (rulesOf t) r) (put-high (idAt a) (omega arith))
 
 -- ---- the digits of the single-match rules, and of those that report starts
 
@@ -301,7 +231,7 @@ module _ (t : List ℕ) (id flags : ℕ) (parts : ℕ → Parts) (even : (g : �
 
   -- the id, its digits, the owners, the keepers
   abbrev a1 : List ℕ
-  a1 = idPut (rulesOf t) place id t
+  a1 = numberPut (idAt 0) (rulesOf t) place id t
 
   abbrev a2 : List ℕ
   a2 = digitsPut 3 place (isSingle flags) a1
@@ -336,8 +266,11 @@ module _ (t : List ℕ) (id flags : ℕ) (parts : ℕ → Parts) (even : (g : �
   rooms : (g : ℕ) → n + parts g .positions ≤ maxPositions
   rooms g = omega (arith, even g)
 
+  ids-out : (w : ℕ) → Out (idAt 0) (idAt maxRules) w → getD a1 w 0 ≡ getD t w 0
+  ids-out = number-out (idAt 0) (rulesOf t) place id t (place-le t id) few (omega arith)
+
   length-a1 : length a1 ≡ length t
-  length-a1 = length-put t id flags parts long few
+  length-a1 = length-number (idAt 0) (rulesOf t) place id t (place-le t id) few (omega arith)
 
   length-a2 : length a2 ≡ length t
   length-a2 = length-digits 3 place (isSingle flags) a1 ∙ length-a1
@@ -382,7 +315,7 @@ module _ (t : List ℕ) (id flags : ℕ) (parts : ℕ → Parts) (even : (g : �
       → getD s1 w 0 ≡ getD t w 0
   untouched w i d o m k =
       keepers-out n more (isLeftmost flags) a4 w k ∙ owners-out n more place a3 w o ∙ digits-out leftmostsAt place (isLeftmost flags) a2 w m
-      ∙ digits-out 3 place (isSingle flags) a1 w d ∙ put-out t id flags parts long few w i
+      ∙ digits-out 3 place (isSingle flags) a1 w d ∙ ids-out w i
 
   still : (w : ℕ) → Out (idAt 0) (idAt maxRules) w → Out 3 4 w → Out (ownerAt 0) (keepersAt + 4) w → getD s1 w 0 ≡ getD t w 0
   still w i d o = untouched w i d (λ a b. o a (omega arith)) (λ a b. o (omega arith) (omega arith)) (λ a b. o (omega arith) b)
@@ -442,12 +375,13 @@ module _ (t : List ℕ) (id flags : ℕ) (parts : ℕ → Parts) (even : (g : �
       (λ h x. (λ a b. f (omega arith) (omega arith), λ c a b. r (omega arith) (omega arith), λ c a b. g (omega arith) (omega arith)))
 
   id-word : (w : ℕ) → idAt 0 ≤ w → w < idAt maxRules → getD s6 w 0 ≡ addedWord t id flags parts w
+  unfolding idWords
   id-word w h l =
       let e : w ≡ idAt (w - idAt 0) = omega arith in
       after-gaps w (omega arith) (λ a b. omega arith) (λ a b. omega arith) (λ a b. omega arith) ∙ no-gap w (λ a b. omega arith) (λ a b. omega arith) (λ a b. omega arith)
       ∙ keepers-out n more (isLeftmost flags) a4 w (λ a b. omega arith) ∙ owners-out n more place a3 w (λ a b. omega arith)
       ∙ digits-out leftmostsAt place (isLeftmost flags) a2 w (λ a b. omega arith) ∙ digits-out 3 place (isSingle flags) a1 w (λ a b. omega arith)
-      ∙ ap (λ (j : ℕ). getD a1 j 0) e ∙ put-id t id flags parts long few (w - idAt 0) (omega arith) ∙ sym (word-id t id flags parts w h l)
+      ∙ ap (λ (j : ℕ). getD a1 j 0) e ∙ number-in (idAt 0) (rulesOf t) place id t (place-le t id) few (omega arith) (w - idAt 0) (omega arith) ∙ sym (word-id t id flags parts w h l)
 
   owner-word : (w : ℕ) → ownerAt 0 ≤ w → w < ownerAt maxPositions → getD s6 w 0 ≡ addedWord t id flags parts w
   unfolding ownerWords
@@ -457,7 +391,7 @@ module _ (t : List ℕ) (id flags : ℕ) (parts : ℕ → Parts) (even : (g : �
       ∙ keepers-out n more (isLeftmost flags) a4 w (λ a b. omega arith) ∙ owners-in n more place a3 (omega (arith, length-a3)) w h l
       ∙ ap (ownerWith n more place (w - ownerAt 0))
       (digits-out leftmostsAt place (isLeftmost flags) a2 w (λ a b. omega arith) ∙ digits-out 3 place (isSingle flags) a1 w (λ a b. omega arith)
-      ∙ put-out t id flags parts long few w (λ a b. omega arith) ∙ ap (λ (j : ℕ). getD t j 0) e)
+      ∙ ids-out w (λ a b. omega arith) ∙ ap (λ (j : ℕ). getD t j 0) e)
       ∙ sym (word-owner t id flags parts w h l)
 
   follow-word : (w : ℕ) → followAt 0 0 ≤ w → w < followAt followGaps 0 → getD s6 w 0 ≡ addedWord t id flags parts w
@@ -532,7 +466,7 @@ module _ (t : List ℕ) (id flags : ℕ) (parts : ℕ → Parts) (even : (g : �
       after-gaps 3 (omega arith) (λ a b. omega arith) (λ a b. omega arith) (λ a b. omega arith) ∙ no-gap 3 (λ a b. omega arith) (λ a b. omega arith) (λ a b. omega arith)
       ∙ keepers-out n more (isLeftmost flags) a4 3 (λ a b. omega arith) ∙ owners-out n more place a3 3 (λ a b. omega arith)
       ∙ digits-out leftmostsAt place (isLeftmost flags) a2 3 (λ a b. omega arith) ∙ digits-in 3 place (isSingle flags) a1 (omega (arith, length-a1))
-      ∙ ap (digitsWith place (isSingle flags)) (put-out t id flags parts long few 3 (λ a b. omega arith))
+      ∙ ap (digitsWith place (isSingle flags)) (ids-out 3 (λ a b. omega arith))
   header-word (suc (suc (suc (suc w)))) h = absurd (omega arith)
 
   leftmosts-word : (w : ℕ) → leftmostsAt ≤ w → w < leftmostsAt + 1 → getD s6 w 0 ≡ addedWord t id flags parts w
@@ -543,7 +477,7 @@ module _ (t : List ℕ) (id flags : ℕ) (parts : ℕ → Parts) (even : (g : �
       ∙ after-gaps leftmostsAt (omega arith) (λ a b. omega arith) (λ a b. omega arith) (λ a b. omega arith) ∙ no-gap leftmostsAt (λ a b. omega arith) (λ a b. omega arith) (λ a b. omega arith)
       ∙ keepers-out n more (isLeftmost flags) a4 leftmostsAt (λ a b. omega arith) ∙ owners-out n more place a3 leftmostsAt (λ a b. omega arith)
       ∙ digits-in leftmostsAt place (isLeftmost flags) a2 (omega (arith, length-a2))
-      ∙ ap (digitsWith place (isLeftmost flags)) (digits-out 3 place (isSingle flags) a1 leftmostsAt (λ a b. omega arith) ∙ put-out t id flags parts long few leftmostsAt (λ a b. omega arith))
+      ∙ ap (digitsWith place (isLeftmost flags)) (digits-out 3 place (isSingle flags) a1 leftmostsAt (λ a b. omega arith) ∙ ids-out leftmostsAt (λ a b. omega arith))
       ∙ ap (addedWord t id flags parts) (sym here)
 
   keeper-word : (w : ℕ) → keepersAt ≤ w → w < keepersAt + 4 → getD s6 w 0 ≡ addedWord t id flags parts w
@@ -554,7 +488,7 @@ module _ (t : List ℕ) (id flags : ℕ) (parts : ℕ → Parts) (even : (g : �
       ∙ ap (λ (r : List ℕ). getD r (w - keepersAt) 0)
       (merged-same a4 t keepersAt n (newKeepers n more (isLeftmost flags)) (λ j k.
       owners-out n more place a3 (keepersAt + j) (λ a b. omega arith) ∙ digits-out leftmostsAt place (isLeftmost flags) a2 (keepersAt + j) (λ a b. omega arith)
-      ∙ digits-out 3 place (isSingle flags) a1 (keepersAt + j) (λ a b. omega arith) ∙ put-out t id flags parts long few (keepersAt + j) (λ a b. omega arith))
+      ∙ digits-out 3 place (isSingle flags) a1 (keepersAt + j) (λ a b. omega arith) ∙ ids-out (keepersAt + j) (λ a b. omega arith))
       ∙ merged-new t keepersAt n (newKeeper t id flags parts))
       ∙ sym (word-keeper t id flags parts w h l)
 

@@ -4,6 +4,7 @@
 -- region, so the tests of the others fail.
 use mathlib.Core.Path.{_≡_, refl, sym, ap, ap₂, _∙_}
 use mathlib.Core.Bool.{false}
+use mathlib.Core.Logic.{_⊎_, inl, inr}
 use mathlib.Core.List.{List, [], _∷_, _++_}
 use Prim.Native.Nat.{ℕ, zero, suc, _+_, _-_, _/_, _%_, _≤_, _<_}
 use native.Mathlib.Nat.{not-suc-le-zero}
@@ -148,6 +149,26 @@ module _ (t : List ℕ) (id flags : ℕ) (parts : ℕ → Parts) where
     added-format =
         added-word 0 (omega arith)
         ∙ word-other 0 (record { rules = refl; positions = refl; singles = refl; last = refl; late = refl; first = refl; ids = refl; opener = refl; owner = refl; takers = refl; follow = refl; leftmosts = refl; keepers = refl })
+
+    -- words between the leftmost rules and the takers stay, but for the keepers
+    pub added-window : (w : ℕ) → leftmostsAt < w → w < takersAt 0 → (w < keepersAt) ⊎ (keepersAt + 4 ≤ w) → getD (added t id flags parts) w 0 ≡ getD t w 0
+    added-window w h l k =
+        added-word w (omega arith)
+        ∙ word-other w (record {
+          rules = ne-eqb w 1 (λ z. omega arith);
+          positions = ne-eqb w 2 (λ z. omega arith);
+          singles = ne-eqb w 3 (λ z. omega arith);
+          last = from-to-above (lastAt 0) (lastAt lastGaps) w (omega arith);
+          late = from-to-above latesAt (latesAt + 4) w (omega arith);
+          first = from-to-above (firstAt 0) (firstAt firstGaps) w (omega arith);
+          ids = from-to-above (idAt 0) (idAt maxRules) w (omega arith);
+          opener = from-to-above (openerAt 0) (openerAt bytes) w (omega arith);
+          owner = from-to-above (ownerAt 0) (ownerAt maxPositions) w (omega arith);
+          takers = from-to-below (takersAt 0) (takersAt bytes) w l;
+          follow = from-to-below (followAt 0 0) (followAt followGaps 0) w (omega arith);
+          leftmosts = ne-eqb w leftmostsAt (λ z. omega arith);
+          keepers = elim k [ inl x ↦ from-to-below keepersAt (keepersAt + 4) w x | inr x ↦ from-to-above keepersAt (keepersAt + 4) w x ];
+        })
 
     pub added-rules : rulesOf (added t id flags parts) ≡ rulesOf t + 1
     unfolding addedWord

@@ -20,7 +20,7 @@ pub record Placed : Type 0 where
 
 -- the rule in a place, and nothing past the last
 abbrev nothing : Placed
-nothing = record { rule = record { id = 0; flags = 0; tree = empty }; from = 0 }
+nothing = record { rule = record { id = 0; flags = 0; lowest = 0; highest = 0; tree = empty }; from = 0 }
 
 abbrev pub at : List Placed → ℕ → Placed
 at ps a = getD ps a nothing

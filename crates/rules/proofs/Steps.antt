@@ -21,7 +21,7 @@ use Rattle.automaton.specs.declared.Parts.{Parts}
 use Rattle.automaton.proofs.Unasserted.{same-parts}
 use Rattle.rules.specs.Gaps.{holdingAt, partsAt}
 use Rattle.rules.specs.Words.{digitsWith}
-use Rattle.rules.specs.Invariants.{merged, mergedRow, rowsWord, mergedRows, smaller, idPut, digitsPut, ownersPut, newKeepers, keepersPut, placePut, newTakers, followPut, gapPut, gapsPut, innerRows, lateSet, latesPut, openerOf}
+use Rattle.rules.specs.Invariants.{merged, mergedRow, rowsWord, mergedRows, smaller, numberPut, digitsPut, ownersPut, newKeepers, keepersPut, placePut, newTakers, followPut, gapPut, gapsPut, innerRows, lateSet, latesPut, openerOf}
 use Rattle.rules.proofs.Rows.{merged-words, merged-same}
 
 -- ---- one row
@@ -124,9 +124,9 @@ module _ (takes : List ℕ) (n x : ℕ) where
 
 -- ---- a rule in its place
 
-pub id-is : (rules k id : ℕ) (t s1 s2 : List ℕ) → s1 ≡ movedUp (idAt k) (rules - k) t → s2 ≡ copied (idAt k) 1 (id ∷ []) s1 → s2 ≡ idPut rules k id t
-unfolding idPut
-id-is rules k id t s1 s2 a b = b ∙ ap (copied (idAt k) 1 (id ∷ [])) a
+pub number-is : (at rules k new : ℕ) (t s1 s2 : List ℕ) → s1 ≡ movedUp (at + k) (rules - k) t → s2 ≡ copied (at + k) 1 (new ∷ []) s1 → s2 ≡ numberPut at rules k new t
+unfolding numberPut
+number-is at rules k new t s1 s2 a b = b ∙ ap (copied (at + k) 1 (new ∷ [])) a
 
 pub digits-is : (at k : ℕ) (new : Bool) (word : ℕ) (t s : List ℕ) → word ≡ digitsWith k new (getD t at 0) → s ≡ copied at 1 (word ∷ []) t → s ≡ digitsPut at k new t
 unfolding digitsPut
@@ -157,13 +157,13 @@ pub keepers-is : (n more : ℕ) (leftmost : Bool) (new t s : List ℕ) → new �
 unfolding keepersPut
 keepers-is n more leftmost new t s a b = b ∙ ap (λ (l : List ℕ). merged keepersAt n l t) a
 
-pub place-is : (rules n more id k : ℕ) (single leftmost : Bool) (t s1 s2 s3 s4 s5 : List ℕ) → k ≡ count rules (smaller t id) → s1 ≡ idPut rules k id t
+pub place-is : (rules n more id k : ℕ) (single leftmost : Bool) (t s1 s2 s3 s4 s5 : List ℕ) → k ≡ count rules (smaller t id) → s1 ≡ numberPut (idAt 0) rules k id t
     → s2 ≡ digitsPut 3 k single s1 → s3 ≡ digitsPut leftmostsAt k leftmost s2 → s4 ≡ ownersPut n more k s3 → s5 ≡ keepersPut n more leftmost s4
     → s5 ≡ placePut rules n more id single leftmost t
 unfolding placePut
 place-is rules n more id k single leftmost t s1 s2 s3 s4 s5 place a b c d e =
     e ∙ ap (keepersPut n more leftmost) (d ∙ ap (ownersPut n more k) (c ∙ ap (digitsPut leftmostsAt k leftmost) (b ∙ ap (digitsPut 3 k single) a))
-    ∙ ap (λ (j : ℕ). ownersPut n more j (digitsPut leftmostsAt j leftmost (digitsPut 3 j single (idPut rules j id t)))) place)
+    ∙ ap (λ (j : ℕ). ownersPut n more j (digitsPut leftmostsAt j leftmost (digitsPut 3 j single (numberPut (idAt 0) rules j id t)))) place)
 
 -- ---- the sets of the gaps between two bytes
 

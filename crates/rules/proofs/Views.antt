@@ -1,9 +1,10 @@
 -- The automaton of the table with one rule more, field by field, for any words with room for the
 -- rule: what the old positions had among themselves is kept, and the new rule's sets come from its
 -- parts, at each gap from the parts there. Each set is read from its four words in their region.
-use mathlib.Core.Path.{_≡_, refl, sym, ap, ap₂, _∙_}
+use mathlib.Core.Path.{_≡_, refl, sym, ap, ap₂, _∙_, subst}
 use mathlib.Core.Bool.{Bool, true, false, cond, not, _&&_, _||_}
 use mathlib.Core.List.{List}
+use mathlib.Core.Logic.{inl, inr}
 use Prim.Native.Nat.{ℕ, _+_, _-_, _*_, _/_, _%_, _≤_, _<_}
 use native.Mathlib.Decide.{decLt}
 use native.Mathlib.Omega.{arith}
@@ -13,21 +14,19 @@ use borrow.Author.Tests.{lt-ltb, le-ltb, eq-eqb, ne-eqb}
 use Rattle.sets.specs.Set.{on, has, any, asOne}
 use Rattle.sets.proofs.Digits.{on-wordOf}
 use Rattle.sets.proofs.Laws.{any-ext}
-use Rattle.table.specs.Layout.{tableWords, maxRules, maxPositions, bytes, rulesOf, positionsOf, singlesOf, leftmostsOf, keepersAt, firstAt, idWord, ownerAt, lastAt, followAt, takersAt, rowHas, from-to, latesAt}
+use Rattle.table.specs.Layout.{windowedAt, lowestAt, highestAt, tableWords, maxRules, maxPositions, bytes, rulesOf, positionsOf, singlesOf, leftmostsOf, keepersAt, firstAt, idWord, ownerAt, lastAt, followAt, takersAt, rowHas, from-to, latesAt}
 use Rattle.table.specs.Gaps.{firstGaps, lastGaps, followGaps, innerGaps, unsettled}
 use Rattle.table.specs.Automaton.{Automaton, automaton}
 use Rattle.table.proofs.Lates.{LatesAre}
+use Rattle.table.proofs.Local.{withInside}
 use Rattle.table.proofs.Rows.{row-same, under}
 use Rattle.automaton.specs.declared.Parts.{Parts}
-use Rattle.rules.specs.Words.{oldRow, joinedRow, placeOf, raised, digitsWith, isSingle, isLeftmost, singlesWord, leftmostsWord, newKeeper, keeperWords, ownerWith, ownerWords, lastWords, lateWords, opener, firstWords, followWords, newTaker, takersWords, added}
+use Rattle.rules.specs.Words.{oldRow, joinedRow, placeOf, raised, digitsWith, isSingle, isLeftmost, singlesWord, leftmostsWord, newKeeper, keeperWords, ownerWith, ownerWords, lastWords, lateWords, opener, firstWords, followWords, newTaker, takersWords, withWindow, added}
 use Rattle.rules.proofs.Rows.{row-set}
 use Rattle.rules.proofs.Place.{place-le}
-use Rattle.rules.proofs.Regions.{added-rules, added-positions, added-singles, added-leftmosts, added-keeper, added-last, added-late, added-first, added-opener, added-owner, added-follow, added-takers}
+use Rattle.rules.proofs.Regions.{added-window, added-rules, added-positions, added-singles, added-leftmosts, added-keeper, added-last, added-late, added-first, added-opener, added-owner, added-follow, added-takers}
 use Rattle.rules.proofs.Kept.{id-before, id-there, id-after}
-
--- what stands at place a once x is put in at place k
-abbrev pub putIn : {A : Type 0} → ℕ → A → (ℕ → A) → ℕ → A
-putIn k x f a = cond (ltb a k) (f a) (cond (eqb a k) x (f (a - 1)))
+use Rattle.rules.proofs.Windows.{putIn, insideOf, length-window, window-rules, window-positions, window-place, window-automaton, window-in}
 
 -- v is the automaton w with one rule more, in place k
 pub record Extended (w v : Automaton) (k id flags : ℕ) (parts : ℕ → Parts) : Type 0 where
@@ -234,3 +233,51 @@ module _ (t : List ℕ) (id flags : ℕ) (parts : ℕ → Parts) (long : tableWo
         owner-old = old-owner;
         owner-new = new-owner;
       }
+
+-- ---- with a window
+
+-- windows aside, it does not matter which the old automaton has
+other-windows : {w v : Automaton} {k id flags : ℕ} {parts : ℕ → Parts} (i : ℕ → ℕ → Bool) → Extended (withInside w i) v k id flags parts → Extended w v k id flags parts
+other-windows i e =
+    record {
+      rules = e .rules;
+      positions = e .positions;
+      id-in = e .id-in;
+      few = e .few;
+      once-in = e .once-in;
+      leftmost-in = e .leftmost-in;
+      keeps-in = e .keeps-in;
+      opens = e .opens;
+      takes = e .takes;
+      first = e .first;
+      follow-old = e .follow-old;
+      follow-new = e .follow-new;
+      follow-rest = e .follow-rest;
+      ending = e .ending;
+      lates = e .lates;
+      owner-old = e .owner-old;
+      owner-new = e .owner-new;
+    }
+
+module _ (t : List ℕ) (id flags lowest highest : ℕ) (parts : ℕ → Parts) (long : tableWords ≤ length t) (few : rulesOf t < maxRules) (room : positionsOf t + parts 0 .positions ≤ maxPositions) where
+  abbrev s : List ℕ
+  s = withWindow t id lowest highest
+
+  long-s : tableWords ≤ length s
+  long-s = omega (arith, length-window t id lowest highest long few)
+
+  pub extended-in : Extended (automaton t) (automaton (added (withWindow t id lowest highest) id flags parts)) (placeOf t id) id flags parts
+  extended-in =
+      other-windows (automaton s .inside)
+      (subst (λ (w : Automaton). Extended w (automaton (added s id flags parts)) (placeOf t id) id flags parts) (window-automaton t id lowest highest long few)
+      (subst (λ (k : ℕ). Extended (automaton s) (automaton (added s id flags parts)) k id flags parts) (window-place t id lowest highest long few)
+      (extended s id flags parts long-s (omega (arith, window-rules t id lowest highest long few)) (omega (arith, window-positions t id lowest highest long few)))))
+
+  -- the windows of the rules
+  pub inside-in : (a : ℕ) → a ≤ automaton t .rules → (e : ℕ) → automaton (added (withWindow t id lowest highest) id flags parts) .inside a e
+      ≡ putIn (placeOf t id) (insideOf lowest highest) (automaton t .inside) a e
+  unfolding automaton
+  inside-in =
+      window-in t id lowest highest long few (added s id flags parts) (added-window s id flags parts long-s windowedAt (omega arith) (omega arith) (inl (omega arith)))
+      (λ a h. added-window s id flags parts long-s (lowestAt a) (omega arith) (omega arith) (inr (omega arith)))
+      (λ a h. added-window s id flags parts long-s (highestAt a) (omega arith) (omega arith) (inr (omega arith)))

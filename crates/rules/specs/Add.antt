@@ -10,20 +10,30 @@ use Rattle.table.specs.Layout.{maxRules, rulesOf, positionsOf, idWord}
 use Rattle.table.specs.Table.{isTable, knownFlags}
 use Rattle.regex.specs.Form.{write, positions}
 use Rattle.regex.specs.Count.{limit}
+use Rattle.regex.specs.Rule.{no-windows}
 use Rattle.pattern.specs.Walk.{Read, tree, refused}
 use Rattle.pattern.specs.Read.{tooLong, readOf, optionsOf}
 use Rattle.rules.specs.Gaps.{partsAt}
-use Rattle.rules.specs.Words.{isSingle, isLeftmost, added}
+use Rattle.rules.specs.Words.{isSingle, isLeftmost, withWindow, added}
 use Rattle.rules.specs.declared.Added.{Added}
 
 -- what an addition is handed besides the words: "Ids: any 32-bit number", flags, pattern bytes
 pub record Addition : Type 0 where
   pub id : ℕ
   pub flags : ℕ
+  -- "smallest and largest end offset", "each optional per rule"
+  pub lowest : ℕ
+  pub highest : ℕ
   pub pattern : List ℕ
 
+abbrev pub additionIn : (id flags lowest highest : ℕ) (pattern : List ℕ) → Addition
+additionIn id flags lowest highest pattern =
+    record { id = id; flags = flags; lowest = lowest; highest = highest; pattern = pattern }
+
+-- without a window
 abbrev pub addition : (id flags : ℕ) (pattern : List ℕ) → Addition
-addition id flags pattern = record { id = id; flags = flags; pattern = pattern }
+addition id flags pattern =
+    additionIn id flags (no-windows .smallest-end) (no-windows .largest-end) pattern
 
 -- what its pattern reads as, under its flags
 abbrev pub readingOf : Addition → Read
@@ -43,6 +53,10 @@ unknownFlag flags = not (eqb (bitAnd flags knownFlags) flags)
 unfoldable pub singleStart : ℕ → Bool
 singleStart flags = isSingle flags && isLeftmost flags
 
+-- 26: "A smallest offset above the largest is refused with 26, right after 5, place 0."
+unfoldable pub emptyWindow : Addition → Bool
+emptyWindow a = ltb (a .highest) (a .lowest)
+
 unfoldable pub hasId : List ℕ → ℕ → Bool
 hasId t id = any (rulesOf t) (λ a. eqb (idWord t a) id)
 
@@ -52,7 +66,7 @@ unfoldable pub placed : (used len : ℕ) → Read → Added
 placed used len (refused number place) = answer number place
 placed used len (tree x) = cond (ltb limit (used + positions (write x))) (answer 17 len) (answer 0 0)
 
--- "Additions check 1 to 5 in order", 24 right after 2, "then read the pattern left to right"; "1 to
+-- "Additions check 1 to 5 in order", 24 right after 2, 26 right after 5, "then read the pattern left to right"; "1 to
 -- 5 have place 0"; "An accepted one has place 0."
 unfoldable pub addAnswer : List ℕ → Addition → Added
 addAnswer t a =
@@ -62,13 +76,15 @@ addAnswer t a =
     (cond (hasId t (a .id)) (answer 3 0)
     (cond (leb maxRules (rulesOf t)) (answer 4 0)
     (cond (tooLong (a .pattern)) (answer 5 0)
-    (placed (positionsOf t) (length (a .pattern)) (readingOf a)))))))
+    (cond (emptyWindow a) (answer 26 0)
+    (placed (positionsOf t) (length (a .pattern)) (readingOf a))))))))
     (answer 1 0)
 
 -- the words with an accepted rule
 unfoldable pub withRule : List ℕ → Addition → Read → List ℕ
 withRule t a (refused number place) = t
-withRule t a (tree x) = added t (a .id) (a .flags) (partsAt x (positionsOf t))
+withRule t a (tree x) =
+    added (withWindow t (a .id) (a .lowest) (a .highest)) (a .id) (a .flags) (partsAt x (positionsOf t))
 
 -- "A refused addition .. leaves the table as it was." An accepted one puts in what its pattern
 -- reads as.

@@ -12,7 +12,7 @@ use Rattle.nodes.specs.Nodes.{Syntax}
 use Rattle.pattern.specs.Walk.{Read, tree, refused}
 use Rattle.pattern.specs.Read.{tooLong}
 use Rattle.rules.specs.Words.{isSingle, isLeftmost}
-use Rattle.rules.specs.Add.{Addition, readingOf, answer, unknownFlag, singleStart, placed}
+use Rattle.rules.specs.Add.{Addition, readingOf, answer, unknownFlag, singleStart, emptyWindow, placed}
 use Rattle.rules.specs.declared.Added.{Added}
 
 -- "Ids: any 32-bit number"
@@ -20,19 +20,21 @@ unfoldable pub Narrow : List Addition → Type 0
 Narrow [] = Unit {0}
 Narrow (a ∷ l) = (a .id < 2 ^ 32) × Narrow l
 
--- an accepted rule: its id, its flags, and the tree that its pattern reads as
+-- an accepted rule: its id, its flags, its window, and the tree that its pattern reads as
 pub record Accepted : Type 0 where
   pub id : ℕ
   pub flags : ℕ
+  pub lowest : ℕ
+  pub highest : ℕ
   pub tree : Syntax
 
--- as a rule that has a meaning; no addition brings windows
+-- as a rule that has a meaning; no addition brings a smallest length
 abbrev pub ruleOf : Accepted → Rule
 ruleOf r = record {
   id = r .id;
   single = isSingle (r .flags);
   starts = isLeftmost (r .flags);
-  windows = no-windows;
+  windows = record { smallest-end = r .lowest; largest-end = r .highest; smallest-length = no-windows .smallest-length };
   tree = r .tree;
 }
 
@@ -49,8 +51,8 @@ unfoldable pub taken : List Accepted → ℕ → Bool
 taken [] id = false
 taken (r ∷ rs) id = eqb (r .id) id || taken rs id
 
--- The answer of the next addition to a table with these rules: 2, 24, 3, 4, 5, then the reader's 6
--- to 16 and 23, then 17.
+-- The answer of the next addition to a table with these rules: 2, 24, 3, 4, 5, 26, then the
+-- reader's 6 to 16 and 23, then 17.
 unfoldable pub nextAnswer : List Accepted → Addition → Added
 nextAnswer rs a =
     cond (unknownFlag (a .flags)) (answer 2 0)
@@ -58,12 +60,18 @@ nextAnswer rs a =
     (cond (taken rs (a .id)) (answer 3 0)
     (cond (leb maxRules (length rs)) (answer 4 0)
     (cond (tooLong (a .pattern)) (answer 5 0)
-    (placed (used rs) (length (a .pattern)) (readingOf a))))))
+    (cond (emptyWindow a) (answer 26 0)
+    (placed (used rs) (length (a .pattern)) (readingOf a)))))))
+
+-- the rule of an accepted addition
+abbrev pub acceptedOf : Addition → Syntax → Accepted
+acceptedOf a x =
+    record { id = a .id; flags = a .flags; lowest = a .lowest; highest = a .highest; tree = x }
 
 -- the rules after it: an accepted one comes last, a refused one changes nothing
 unfoldable pub withNew : List Accepted → Addition → Read → List Accepted
 withNew rs a (refused number place) = rs
-withNew rs a (tree x) = rs ++ (record { id = a .id; flags = a .flags; tree = x } ∷ [])
+withNew rs a (tree x) = rs ++ (acceptedOf a x ∷ [])
 
 unfoldable pub afterNext : List Accepted → Addition → List Accepted
 afterNext rs a = cond (eqb (nextAnswer rs a .number) 0) (withNew rs a (readingOf a)) rs

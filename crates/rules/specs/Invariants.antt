@@ -10,9 +10,10 @@ use Rattle.table.specs.Layout.{maxRules, maxPositions, bytes, rulesOf, leftmost
 use Rattle.table.specs.Gaps.{lastGaps, followGaps, innerGaps, unsettled}
 use Rattle.table.specs.Table.{isTable}
 use Rattle.table.specs.Invariants.{over, copied, movedUp}
+use Rattle.pattern.specs.Read.{tooLong}
 use Rattle.automaton.specs.declared.Parts.{Parts}
 use Rattle.rules.specs.Words.{digitsWith, ownerWith}
-use Rattle.rules.specs.Add.{unknownFlag, singleStart, hasId}
+use Rattle.rules.specs.Add.{Addition, unknownFlag, singleStart, emptyWindow, hasId}
 
 -- ---- the checks before the pattern is read
 
@@ -25,6 +26,10 @@ firstFault t id flags =
     (cond (hasId t id) 3
     (cond (leb maxRules (rulesOf t)) 4 0))))
     1
+
+-- and of 5 and 26
+unfoldable pub sizeFault : Addition → ℕ
+sizeFault a = cond (tooLong (a .pattern)) 5 (cond (emptyWindow a) 26 0)
 
 -- ---- the writers
 
@@ -49,9 +54,9 @@ maskedRows at rows n t = mergedRows at rows n (λ k. emptySet) t
 abbrev pub smaller : List ℕ → (id a : ℕ) → Bool
 smaller t id a = ltb (idWord t a) id
 
--- an id in place k, with those from there on one up
-unfoldable pub idPut : (rules k id : ℕ) → List ℕ → List ℕ
-idPut rules k id t = copied (idAt k) 1 (id ∷ []) (movedUp (idAt k) (rules - k) t)
+-- a number in place k of those that stand from `at` on, with those after it one up
+unfoldable pub numberPut : (at rules k new : ℕ) → List ℕ → List ℕ
+numberPut at rules k new t = copied (at + k) 1 (new ∷ []) (movedUp (at + k) (rules - k) t)
 
 -- the digits of some rules, in the word at `at`, with that of the rule in place k
 unfoldable pub digitsPut : (at k : ℕ) → Bool → List ℕ → List ℕ
@@ -73,7 +78,7 @@ unfoldable pub placePut : (rules n more id : ℕ) → (single leftmost : Bool) �
 placePut rules n more id single leftmost t =
     let k : ℕ = count rules (smaller t id) in
     keepersPut n more leftmost (ownersPut n more k
-    (digitsPut leftmostsAt k leftmost (digitsPut 3 k single (idPut rules k id t))))
+    (digitsPut leftmostsAt k leftmost (digitsPut 3 k single (numberPut (idAt 0) rules k id t))))
 
 -- follow sets from `at` on: those of the n old positions, and after them the new ones
 unfoldable pub followPut : (at n : ℕ) → List ℕ → ℕ → List ℕ → List ℕ

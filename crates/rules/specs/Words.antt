@@ -8,8 +8,10 @@ use Prim.Native.Nat.{ℕ, zero, suc, _+_, _-_, _*_, _/_, _%_}
 use lib.Dec.{eqb, leb, ltb}
 use lib.ListN.{getD, drop}
 use Rattle.sets.specs.Set.{on, has, setOf, wordOf, any, asOne, count}
-use Rattle.table.specs.Layout.{tableWords, maxRules, maxPositions, bytes, rulesOf, positionsOf, singlesOf, leftmostsAt, leftmostsOf, keepersAt, firstAt, idAt, idWord, openerAt, ownerAt, lastAt, latesAt, followAt, takersAt, rowHas, from-to}
+use Rattle.table.specs.Layout.{tableWords, maxRules, maxPositions, bytes, rulesOf, positionsOf, singlesOf, leftmostsAt, leftmostsOf, windowedAt, windowedOf, lowestAt, highestAt, keepersAt, firstAt, idAt, idWord, openerAt, ownerAt, lastAt, latesAt, followAt, takersAt, rowHas, from-to}
 use Rattle.table.specs.Gaps.{firstGaps, followGaps, lastGaps, innerGaps, unsettled}
+use Rattle.table.specs.Invariants.{over}
+use Rattle.regex.specs.Rule.{no-windows}
 use Rattle.automaton.specs.declared.Parts.{Parts}
 
 -- the words f 0, f 1, .. up to n of them
@@ -34,6 +36,11 @@ unfoldable pub digitsWith : (k : ℕ) → Bool → ℕ → ℕ
 digitsWith k new old =
     wordOf 64 (λ a. cond (ltb a k) (on old a) (cond (eqb a k) new (on old (a - 1))))
 
+-- the same of a number for each place; words that none of the rules has stay
+abbrev pub numbersWith : (rules k new : ℕ) → (ℕ → ℕ) → ℕ → ℕ
+numbersWith rules k new old a =
+    cond (ltb a k) (old a) (cond (eqb a k) new (cond (leb a rules) (old (a - 1)) (old a)))
+
 -- a place, once a rule is put in at place k: those from there on are moved up by one
 unfoldable pub raised : (k o : ℕ) → ℕ
 raised k o = cond (ltb o k) o (cond (ltb o maxRules) (o + 1) o)
@@ -50,6 +57,22 @@ isSingle flags = eqb (flags / 8 % 2) 1
 abbrev pub isLeftmost : ℕ → Bool
 isLeftmost flags = eqb (flags / 256 % 2) 1
 
+-- a rule has a window of end offsets unless both are left out
+abbrev pub hasWindow : (lowest highest : ℕ) → Bool
+hasWindow lowest highest = not (eqb lowest 0) || not (eqb highest (no-windows .largest-end))
+
+-- the numbers of the rules that stand from `at` on, with that of the rule in place k
+unfoldable pub numbersPut : (at rules k new : ℕ) → List ℕ → List ℕ
+numbersPut at rules k new t =
+    over at (at + maxRules) (λ w. numbersWith rules k new (λ a. getD t (at + a) 0) (w - at)) t
+
+-- the window of the new rule, put in at its place; all other words stay
+unfoldable pub withWindow : List ℕ → (id lowest highest : ℕ) → List ℕ
+withWindow t id lowest highest =
+    let k : ℕ = placeOf t id in
+    over windowedAt (windowedAt + 1) (λ w. digitsWith k (hasWindow lowest highest) (windowedOf t))
+    (numbersPut (highestAt 0) (rulesOf t) k highest (numbersPut (lowestAt 0) (rulesOf t) k lowest t))
+
 -- the new rule's parts are given for each gap; how many positions it has, and which bytes they
 -- take, is the same at all
 module _ (t : List ℕ) (id flags : ℕ) (parts : ℕ → Parts) where
@@ -62,11 +85,7 @@ module _ (t : List ℕ) (id flags : ℕ) (parts : ℕ → Parts) where
   -- the id in place a: the old ones below the new rule's place, the new one, the later old ones
   -- moved up by one; words that no rule has stay
   unfoldable pub idWords : ℕ → ℕ
-  idWords a =
-      cond (ltb a place) (idWord t a)
-      (cond (eqb a place) id
-      (cond (leb a (rulesOf t)) (idWord t (a - 1))
-      (idWord t a)))
+  idWords a = numbersWith (rulesOf t) place id (idWord t) a
 
   -- the single-match rules, the digits of the later old ones moved up likewise; and the rules that
   -- report the leftmost start

@@ -3,11 +3,13 @@
 // specs/Add.antt says what the answer is, specs/Words.antt what the words are then.
 mod write;
 
+use pattern::LONGEST;
 use table::layout::IDS_AT;
 use table::layout::KNOWN_FLAGS;
 use table::layout::LEFTMOST;
 use table::layout::MAX_POSITIONS;
 use table::layout::MAX_RULES;
+use table::layout::NO_END;
 use table::layout::POSITIONS_AT;
 use table::layout::RULES_AT;
 use table::layout::SINGLE;
@@ -15,8 +17,8 @@ ghost use mathlib.Core.Path.{_≡_};
 ghost use Prim.Native.Nat.{_≤_};
 ghost use lib.ListN.{length};
 ghost use Rattle.table.specs.Layout.{tableWords, maxRules, rulesOf};
-ghost use Rattle.rules.specs.Add.{addition, hasId, addAnswer, addWords};
-ghost use Rattle.rules.specs.Invariants.{firstFault};
+ghost use Rattle.rules.specs.Add.{addition, additionIn, hasId, addAnswer, addWords};
+ghost use Rattle.rules.specs.Invariants.{firstFault, sizeFault};
 
 // The answer of an addition: number 0 and place 0, or the refusal's number and place.
 pub struct Added {
@@ -61,14 +63,48 @@ fn first_fault(words: &[u64], id: u32, flags: u32) -> u32
     1
 }
 
-// Adds a rule, or refuses it and leaves every word as it was.
+// The checks of the pattern's length and of the window, in order.
+fn size_fault(pattern: &[u8], lowest: u64, highest: u64) -> u32
+    ensures { λ r. ⌜ r ≡ sizeFault (additionIn 0 0 lowest highest (now (pattern .entry))) ⌝ }
+{
+    if pattern.len() > LONGEST {
+        return 5;
+    }
+    if highest < lowest {
+        return 26;
+    }
+    0
+}
+
+// Adds a rule that reports at every end offset, or refuses it and leaves every word as it was.
 pub fn add(words: &mut [u64], id: u32, flags: u32, pattern: &[u8]) -> Added
     ensures { λ r. ⌜ (r ≡ addAnswer (now (words .entry)) (addition id flags (now (pattern .entry)))) × (now (words .exit) ≡ addWords (now (words .entry)) (addition id flags (now (pattern .entry)))) ⌝ }
+{
+    add_within(words, id, flags, 0, NO_END, pattern)
+}
+
+// Adds a rule that reports at the end offsets from the lowest to the highest.
+pub fn add_within(
+    words: &mut [u64],
+    id: u32,
+    flags: u32,
+    lowest: u64,
+    highest: u64,
+    pattern: &[u8],
+) -> Added
+    ensures { λ r. ⌜ (r ≡ addAnswer (now (words .entry)) (additionIn id flags lowest highest (now (pattern .entry)))) × (now (words .exit) ≡ addWords (now (words .entry)) (additionIn id flags lowest highest (now (pattern .entry)))) ⌝ }
 {
     let fault = first_fault(words, id, flags);
     if fault != 0 {
         return Added {
             number: fault,
+            place: 0,
+        };
+    }
+    let size = size_fault(pattern, lowest, highest);
+    if size != 0 {
+        return Added {
+            number: size,
             place: 0,
         };
     }
@@ -92,6 +128,7 @@ pub fn add(words: &mut [u64], id: u32, flags: u32, pattern: &[u8]) -> Added
         words[POSITIONS_AT] as usize,
         write::holding(0),
     );
+    write::put_window(words, id, lowest, highest);
     write::add_rule(words, id, flags, &nodes, reading.root, parts);
     Added {
         number: 0,

@@ -10,13 +10,16 @@ use table::gaps::UNSETTLED;
 use table::layout::FIRST_AT;
 use table::layout::FOLLOW_AT;
 use table::layout::FOLLOW_WORDS;
+use table::layout::HIGHEST_AT;
 use table::layout::IDS_AT;
 use table::layout::KEEPERS_AT;
 use table::layout::LAST_AT;
 use table::layout::LATES_AT;
 use table::layout::LEFTMOST;
 use table::layout::LEFTMOSTS_AT;
+use table::layout::LOWEST_AT;
 use table::layout::MAX_RULES;
+use table::layout::NO_END;
 use table::layout::OPENERS_AT;
 use table::layout::OWNERS_AT;
 use table::layout::POSITIONS_AT;
@@ -25,6 +28,7 @@ use table::layout::SET_WORDS;
 use table::layout::SINGLE;
 use table::layout::SINGLES_AT;
 use table::layout::TAKERS_AT;
+use table::layout::WINDOWED_AT;
 ghost use mathlib.Core.Path.{_≡_};
 ghost use mathlib.Core.Bool.{cond};
 ghost use Prim.Native.Nat.{_+_, _*_, _-_, _≤_, _<_};
@@ -37,8 +41,8 @@ ghost use Rattle.table.specs.Gaps.{firstGaps};
 ghost use Rattle.regex.specs.Form.{write, positions};
 ghost use Rattle.nodes.specs.Nodes.{treeAt};
 ghost use Rattle.rules.specs.Gaps.{holdingAt, partsAt};
-ghost use Rattle.rules.specs.Words.{digitsWith, ownerWith, added};
-ghost use Rattle.rules.specs.Invariants.{merged, maskedRows, smaller, idPut, digitsPut, ownersPut, newKeepers, keepersPut, placePut, newTakers, takersPut, followPut, gapPut, gapsPut, innerRows, latesPut, openerOf, openersPut, countsPut};
+ghost use Rattle.rules.specs.Words.{digitsWith, ownerWith, hasWindow, withWindow, added};
+ghost use Rattle.rules.specs.Invariants.{merged, maskedRows, smaller, numberPut, digitsPut, ownersPut, newKeepers, keepersPut, placePut, newTakers, takersPut, followPut, gapPut, gapsPut, innerRows, latesPut, openerOf, openersPut, countsPut};
 
 // The assertions that are known to hold at each gap, as specs/Gaps.antt has them.
 const HOLDING: [u64; 17] = [
@@ -146,14 +150,15 @@ fn place_of(words: &[u64], rules: usize, id: u64) -> usize
     k
 }
 
-// Puts an id in place k, and moves those from there on up.
-fn put_id(words: &mut [u64], rules: usize, k: usize, id: u64)
-    requires { ⌜ (tableWords ≤ length (now words)) × (rules < maxRules) × (k ≤ rules) ⌝ }
-    ensures { λ r. ⌜ now (words .exit) ≡ idPut rules k id (now (words .entry)) ⌝ }
+// Puts a number in place k of those that stand from `at` on, one for each rule, and moves those
+// after it up.
+fn put_number(words: &mut [u64], at: usize, rules: usize, k: usize, new: u64)
+    requires { ⌜ (at + maxRules ≤ length (now words)) × (rules < maxRules) × (k ≤ rules) ⌝ }
+    ensures { λ r. ⌜ now (words .exit) ≡ numberPut at rules k new (now (words .entry)) ⌝ }
 {
-    move_up(words, IDS_AT + k, rules - k);
-    let one = [id];
-    put_words(words, IDS_AT + k, &one, 1);
+    move_up(words, at + k, rules - k);
+    let one = [new];
+    put_words(words, at + k, &one, 1);
 }
 
 // The digit of place a, once a rule is put in at place k.
@@ -192,6 +197,25 @@ fn put_digits(words: &mut [u64], at: usize, k: usize, new: bool)
 {
     let one = [digits_with(words[at], k, new)];
     put_words(words, at, &one, 1);
+}
+
+// Whether a rule has a window of end offsets: both are left out where it has none.
+fn has_window(lowest: u64, highest: u64) -> bool
+    ensures { λ r. ⌜ r ≡ hasWindow lowest highest ⌝ }
+{
+    (lowest != 0) | (highest != NO_END)
+}
+
+// The window of a rule with this id, put in at the rule's place.
+pub(super) fn put_window(words: &mut [u64], id: u32, lowest: u64, highest: u64)
+    requires { ⌜ (tableWords ≤ length (now words)) × (rulesOf (now words) < maxRules) ⌝ }
+    ensures { λ r. ⌜ now (words .exit) ≡ withWindow (now (words .entry)) id lowest highest ⌝ }
+{
+    let rules = words[RULES_AT] as usize;
+    let k = place_of(words, rules, id as u64);
+    put_number(words, LOWEST_AT, rules, k, lowest);
+    put_number(words, HIGHEST_AT, rules, k, highest);
+    put_digits(words, WINDOWED_AT, k, has_window(lowest, highest));
 }
 
 // The owner of position q, which was `o`, once a rule with the positions from n on is put in at
@@ -265,7 +289,7 @@ fn put_place(
     ensures { λ r. ⌜ now (words .exit) ≡ placePut rules n more id single leftmost (now (words .entry)) ⌝ }
 {
     let k = place_of(words, rules, id);
-    put_id(words, rules, k, id);
+    put_number(words, IDS_AT, rules, k, id);
     put_digits(words, SINGLES_AT, k, single);
     put_digits(words, LEFTMOSTS_AT, k, leftmost);
     put_owners(words, n, more, k);

@@ -49,7 +49,7 @@ module _ (w : ℕ) (fits : w < 2 ^ 64) (some : ¬ (w ≡ 0)) where
   pub fits-still : bitAnd w (w - 1) < 2 ^ 64
   fits-still = omega (arith, falls)
 
-  on-turn : (k : ℕ) → on w k ≡ (eqb k z || on (bitAnd w (w - 1)) k)
+  pub on-turn : (k : ℕ) → on w k ≡ (eqb k z || on (bitAnd w (w - 1)) k)
   on-turn k = go (decLt k z) (ℕ-discrete k z)
     where
       cleared : (j : ℕ) → on (bitAnd w (w - 1)) j ≡ on (w / 2 ^ suc (trailingZeros 64 w) * 2 ^ suc (trailingZeros 64 w)) j

@@ -1,14 +1,14 @@
 -- What the private functions promise, where that is not an equation with a definition that a reader
 -- must believe. Assumes nothing: these are definitions.
 use mathlib.Core.Path.{_≡_}
-use mathlib.Core.Bool.{Bool, cond, _&&_}
+use mathlib.Core.Bool.{Bool, cond, not, _&&_, _||_}
 use mathlib.Core.List.{List}
 use Prim.Native.Nat.{ℕ, zero, suc, _+_, _*_, _/_, _%_, _^_, _<_}
 use lib.Bits.{bitOr}
-use lib.Dec.{eqb, ltb}
+use lib.Dec.{eqb, leb, ltb}
 use lib.ListN.{length, getD}
 use Rattle.sets.specs.Set.{on, has, setOf, wordOf, any, smallest, unionOf}
-use Rattle.table.specs.Layout.{maxPositions, ownerAt, rowHas}
+use Rattle.table.specs.Layout.{maxPositions, ownerAt, lowestAt, highestAt, rowHas}
 use Rattle.steps.specs.Walk.{asked}
 
 -- a set joined with the rows, which begin at word `rows`, of the positions that the first n turns
@@ -30,6 +30,15 @@ collected t rules word base found (suc n) = withOwner rules (getD t (ownerAt (ba
 -- the rules that own a position of a set, of the positions below n
 unfoldable pub ownersOf : (t : List ℕ) → (rules : ℕ) → (set : List ℕ) → ℕ → ℕ
 ownersOf t rules set n = wordOf 64 (λ a. ltb a rules && any n (λ p. has set p && eqb (getD t (ownerAt p) 0) a))
+
+-- the end offset is within the two words that the rule in place a has for its window
+abbrev pub windowHas : (t : List ℕ) → (a end : ℕ) → Bool
+windowHas t a end = leb (getD t (lowestAt a) 0) end && leb end (getD t (highestAt a) 0)
+
+-- r is a word of rules without the digit of place a, unless that stays
+pub record Sifted (found a : ℕ) (stays : Bool) (r : ℕ) : Type 0 where
+  pub small : r < 2 ^ 64
+  pub each : (k : ℕ) → k < 64 → on r k ≡ (on found k && (stays || not (eqb k a)))
 
 -- ---- starts
 

@@ -67,6 +67,14 @@ module _ (w : Automaton) where
   abbrev pub rulesWhere : (ℕ → Bool) → ℕ
   rulesWhere test = wordOf 64 (λ a. ltb a (w .rules) && test a)
 
+  -- a test of rules, kept to those whose window has this end offset; and so for some rules, a digit
+  -- for each place
+  abbrev pub windowed : (ℕ → Bool) → (end a : ℕ) → Bool
+  windowed test end a = test a && w .inside a end
+
+  abbrev pub inWindow : (rules end : ℕ) → ℕ
+  inWindow rules end = wordOf 64 (windowed (on rules) end)
+
   -- The start of a position after a byte, `taken` bytes into the stream: the smaller of this offset
   -- and the starts of the positions of the set before it that it follows. The positions of `next`
   -- have that one; every other has 0.

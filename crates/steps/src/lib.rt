@@ -7,6 +7,7 @@ mod byte;
 mod line;
 mod rows;
 mod walk;
+mod windows;
 
 pub use byte::Stepped;
 pub use byte::opens;
@@ -24,3 +25,4 @@ pub use rows::line_ending;
 pub use rows::meets;
 pub use rows::rule_id;
 pub use rows::singles;
+pub use windows::in_window;

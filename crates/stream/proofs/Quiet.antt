@@ -17,7 +17,7 @@ use Rattle.sets.proofs.Laws.{has-union, has-intersection, has-setOf, has-empty,
 use Rattle.table.specs.Layout.{maxPositions}
 use Rattle.table.specs.Gaps.{between, unsettled}
 use Rattle.table.specs.Automaton.{Automaton, last}
-use Rattle.steps.specs.Step.{ends, endsNewly, lastsOf, latesOf, lateIn, rulesWhere}
+use Rattle.steps.specs.Step.{ends, endsNewly, lastsOf, latesOf, lateIn, rulesWhere, windowed}
 use Rattle.steps.proofs.Steps.{next-quiet}
 use Rattle.stream.specs.Invariants.{waitsIn, NoOpener, Skipped}
 use Rattle.stream.proofs.Runs.{rules-none}
@@ -70,10 +70,11 @@ none-end w next e = (
     right-off false y z f = refl
 
 -- where none waits, no rule ends late
-pub late-none : (w : Automaton) (live : List ℕ) → waitsIn w live ≡ false → (before after : Side)
-    → 0 ≡ rulesWhere w (endsNewly w (between before after) (lateIn w live) unsettled live)
-late-none w live e before after =
-    rules-none w (endsNewly w (between before after) (lateIn w live) unsettled live) (λ a h. late-gate w live (between before after) unsettled a e)
+pub late-none : (w : Automaton) (live : List ℕ) → waitsIn w live ≡ false → (before after : Side) (end : ℕ)
+    → 0 ≡ rulesWhere w (windowed w (endsNewly w (between before after) (lateIn w live) unsettled live) end)
+late-none w live e before after end =
+    rules-none w (windowed w (endsNewly w (between before after) (lateIn w live) unsettled live) end)
+    (λ a h. ap (λ (b : Bool). b && w .inside a end) (late-gate w live (between before after) unsettled a e))
 
 -- ---- nothing is live in the empty set
 

@@ -14,7 +14,7 @@ use Rattle.kinds.specs.declared.Side.{Side}
 use Rattle.kinds.specs.Side.{sideOf}
 use Rattle.table.specs.Gaps.{between, unsettled}
 use Rattle.table.specs.Automaton.{Automaton}
-use Rattle.steps.specs.Step.{ends, endsNewly, lateIn}
+use Rattle.steps.specs.Step.{ends, endsNewly, lateIn, windowed}
 use Rattle.stream.specs.declared.Stream.{Stream}
 use Rattle.stream.specs.declared.scan.Turn.{Turn}
 use Rattle.stream.specs.Byte.{given, nextLive, lateTest, ownTest, byteReports, byteState}
@@ -50,7 +50,8 @@ pub record Told (w : Automaton) (taken : ℕ) (block : List ℕ) (z : Turn) (l :
   pub side : new ≡ sideOf (getD block (z .at) 0)
   pub room : z .count ≤ space l
   pub wait : waits ≡ waitsIn w next
-  pub delivered : Delivered w (endsNewly w (between (z .side) new) (lateIn w (z .live)) unsettled (z .live)) (ends w unsettled next) (z .reported)
+  pub delivered : Delivered w (windowed w (endsNewly w (between (z .side) new) (lateIn w (z .live)) unsettled (z .live)) (taken + z .at))
+      (windowed w (ends w unsettled next) (suc (taken + z .at))) (z .reported)
       (given w (taken + z .at)) (given w (suc (taken + z .at))) (free (z .count) l) full reports marks last
 
 module _ {w : Automaton} {taken : ℕ} {block : List ℕ} {z : Turn} {l : Lists} {next : List ℕ} {new : Side} {full : Bool} {reports marks : ℕ} {waits : Bool} {last : Lists}
@@ -64,9 +65,9 @@ module _ {w : Automaton} {taken : ℕ} {block : List ℕ} {z : Turn} {l : Lists}
   -- they are the runs of the definition
   runs : Delivered w (lateTest w there byte) (ownTest w there byte) (z .reported) (given w (taken + z .at)) (given w (suc (taken + z .at))) (free (z .count) l) full reports marks last
   runs =
-      subst (λ (y : Side). Delivered w (endsNewly w (between (z .side) y) (lateIn w (z .live)) unsettled (z .live)) (ownTest w there byte) (z .reported)
+      subst (λ (y : Side). Delivered w (windowed w (endsNewly w (between (z .side) y) (lateIn w (z .live)) unsettled (z .live)) (taken + z .at)) (ownTest w there byte) (z .reported)
       (given w (taken + z .at)) (given w (suc (taken + z .at))) (free (z .count) l) full reports marks last) (h .side)
-      (subst (λ (y : List ℕ). Delivered w (endsNewly w (between (z .side) new) (lateIn w (z .live)) unsettled (z .live)) (ends w unsettled y) (z .reported)
+      (subst (λ (y : List ℕ). Delivered w (windowed w (endsNewly w (between (z .side) new) (lateIn w (z .live)) unsettled (z .live)) (taken + z .at)) (windowed w (ends w unsettled y) (suc (taken + z .at))) (z .reported)
       (given w (taken + z .at)) (given w (suc (taken + z .at))) (free (z .count) l) full reports marks last) (h .step) (h .delivered))
 
   full-if : full ≡ ltb (space (free (z .count) l)) (length (byteReports w there byte))

@@ -2,7 +2,7 @@
 -- and lists are those of the definitions. Bytes passed over and a byte that is taken keep it, and
 -- where the loop stops one more byte would not fit.
 use mathlib.Core.Path.{_≡_, refl, sym, ap, _∙_, subst}
-use mathlib.Core.Bool.{Bool, true, false, true≢false, cond}
+use mathlib.Core.Bool.{Bool, true, false, true≢false, cond, _&&_}
 use mathlib.Core.Logic.{_⊎_, inl, inr}
 use mathlib.Core.List.{List, _++_, append-nil}
 use Prim.Native.Nat.{ℕ, zero, suc, _+_, _-_, _^_, _<_, _≤_, min, zero-le}
@@ -142,8 +142,9 @@ module _ (w : Automaton) (s : Stream) (allowance : ℕ) (block : List ℕ) (l₀
     unfolding byteReports byteState
     running-pass b p empty still =
         let one : (a : ℕ) → a < w .rules → lateTest w here x a ≡ false =
-        λ a f. ap (λ (y : List ℕ). endsNewly w (between (here .last) (sideOf x)) (lateIn w y) unsettled y a) empty ∙ late-empty w (between (here .last) (sideOf x)) unsettled a in
-        let two : (a : ℕ) → a < w .rules → ownTest w here x a ≡ false = λ a f. ap (λ (y : List ℕ). ends w unsettled y a) still ∙ ends-empty w unsettled a in
+        λ a f. ap (λ (b : Bool). b && w .inside a (here .taken)) (ap (λ (y : List ℕ). endsNewly w (between (here .last) (sideOf x)) (lateIn w y) unsettled y a) empty ∙ late-empty w (between (here .last) (sideOf x)) unsettled a) in
+        let two : (a : ℕ) → a < w .rules → ownTest w here x a ≡ false =
+        λ a f. ap (λ (b : Bool). b && w .inside a (suc (here .taken))) (ap (λ (y : List ℕ). ends w unsettled y a) still ∙ ends-empty w unsettled a) in
         let same : reportsOf w s block (z .at + 1) ≡ reportsOf w s block (z .at) =
         reports-next
         ∙ ap (λ (r : List Report). reportsOf w s block (z .at) ++ r)

@@ -188,15 +188,15 @@ module _ {w : Automaton} {one two : ℕ → Bool} {marks : ℕ} {first second : 
 
 -- ---- both runs of a closing
 
-pub ended : {w : Automaton} {s : Stream} {l l′ : Lists} {d found reports marks′ : ℕ}
-    → w .rules ≤ 64 → d ≡ s .taken - 1 → found ≡ rulesWhere w (endTest w s)
-    → WroteTwo w (on (s .pending)) (on found) (s .reported) (given w d) (given w (s .taken)) l
+pub ended : {w : Automaton} {s : Stream} {l l′ : Lists} {d kept found reports marks′ : ℕ}
+    → w .rules ≤ 64 → d ≡ s .taken - 1 → kept ≡ rulesWhere w (heldTest w s) → found ≡ rulesWhere w (endTest w s)
+    → WroteTwo w (on kept) (on found) (s .reported) (given w d) (given w (s .taken)) l
     reports marks′ l′
     → Ended w s l reports l′
 unfolding closeReports
-ended {w} {s} {l} {d = d} {found = found} few before is wrote =
-    let same : twoReports w (on (s .pending)) (on found) (s .reported) (given w d) (given w (s .taken)) ≡ closeReports w s =
-    ap (λ (n : ℕ). twoReports w (on (s .pending)) (on found) (s .reported) (given w n) (given w (s .taken))) before
-    ∙ two-ext w (on (s .pending)) (heldTest w s) (on found) (endTest w s) (s .reported) (λ a h. refl)
+ended {w} {s} {l} {d = d} {kept = kept} {found = found} few before held is wrote =
+    let same : twoReports w (on kept) (on found) (s .reported) (given w d) (given w (s .taken)) ≡ closeReports w s =
+    ap (λ (n : ℕ). twoReports w (on kept) (on found) (s .reported) (given w n) (given w (s .taken))) before
+    ∙ two-ext w (on kept) (heldTest w s) (on found) (endTest w s) (s .reported) (λ a h. ap (λ (x : ℕ). on x a) held ∙ on-places (heldTest w s) (w .rules) a h few)
     (λ a h. ap (λ (x : ℕ). on x a) is ∙ on-places (endTest w s) (w .rules) a h few) (given w (s .taken - 1)) (given w (s .taken)) in
     record { reports-are = wrote .reports-are ∙ ap length same; lists-are = wrote .lists-are ∙ ap (λ (r : List Report). written r l) same }

@@ -11,7 +11,7 @@ use Rattle.kinds.specs.declared.Side.the-variants.{Newline}
 use Rattle.kinds.specs.Side.{sideOf}
 use Rattle.table.specs.Gaps.{between, beforeLast, unsettled, atEnd}
 use Rattle.table.specs.Automaton.{Automaton, single}
-use Rattle.steps.specs.Step.{stepped, ends, endsNewly, lateIn, rulesWhere}
+use Rattle.steps.specs.Step.{stepped, ends, endsNewly, lateIn, rulesWhere, windowed}
 use Rattle.stream.specs.declared.Stream.{Stream}
 
 -- a report: the rule's id, and the end offset
@@ -110,12 +110,12 @@ module _ (w : Automaton) where
   -- "A pair that so depends on the next byte is delivered when that byte is taken, or at closing,
   -- before the pairs of the newer offset, each run by rising id." Byte x has the late run, of the
   -- rules that end before it now that it is known, with a position that waits for that, and its
-  -- own.
+  -- own. A rule's window of end offsets is asked here and nowhere else.
   abbrev pub lateTest : Stream → ℕ → ℕ → Bool
-  lateTest s x = endsNewly w (between (s .last) (sideOf x)) (lateIn w (s .live)) unsettled (s .live)
+  lateTest s x = windowed w (endsNewly w (between (s .last) (sideOf x)) (lateIn w (s .live)) unsettled (s .live)) (s .taken)
 
   abbrev pub ownTest : Stream → ℕ → ℕ → Bool
-  ownTest s x = ends w unsettled (nextLive s x)
+  ownTest s x = windowed w (ends w unsettled (nextLive s x)) (suc (s .taken))
 
   -- one byte: the reports that it brings, and the state after it
   unfoldable pub byteReports : Stream → ℕ → List Report
@@ -154,10 +154,10 @@ module _ (w : Automaton) where
   -- and those not already given whose match needs the end; "of a single-match rule that has
   -- reported, none".
   abbrev pub heldTest : Stream → ℕ → Bool
-  heldTest s = on (s .pending)
+  heldTest s = windowed w (on (s .pending)) (s .taken - 1)
 
   abbrev pub endTest : Stream → ℕ → Bool
-  endTest s = endsNewly w (atEnd (s .last)) (unionOf (s .live) (s .held)) unsettled (s .live)
+  endTest s = windowed w (endsNewly w (atEnd (s .last)) (unionOf (s .live) (s .held)) unsettled (s .live)) (s .taken)
 
   unfoldable pub closeReports : Stream → List Report
   closeReports s = twoReports (heldTest s) (endTest s) (s .reported) (given (s .taken - 1)) (given (s .taken))

@@ -3,6 +3,7 @@
 use super::Stream;
 use super::checks::least;
 use steps::closing;
+use steps::in_window;
 use steps::rule_id;
 use steps::singles;
 ghost use mathlib.Core.Path.{_≡_};
@@ -14,7 +15,7 @@ ghost use Rattle.table.specs.Layout.{rulesOf};
 ghost use Rattle.table.specs.Table.{isTable};
 ghost use Rattle.table.specs.Automaton.{automaton, single};
 ghost use Rattle.steps.specs.Step.{rulesWhere};
-ghost use Rattle.stream.specs.Byte.{given, runReports, twoReports};
+ghost use Rattle.stream.specs.Byte.{given, runReports, twoReports, heldTest, endTest};
 ghost use Rattle.stream.specs.Valid.{pendingInside};
 ghost use Rattle.stream.specs.Calls.{lists, space};
 ghost use Rattle.stream.specs.Invariants.{Wrote, WroteTwo, Delivered, Ended};
@@ -156,6 +157,25 @@ fn before_last(taken: u64) -> u64
     if taken == 0 { 0 } else { taken - 1 }
 }
 
+// The rules with a held pair, and those of which a match needs the stream's end, that may report at
+// its offset.
+fn held_rules(s: Stream, words: &[u64]) -> u64
+    requires { ⌜ (isTable (now words) ≡ true) × (pendingInside (automaton (now words)) s ≡ true) ⌝ }
+    ensures { λ r. ⌜ r ≡ rulesWhere (automaton (now (words .entry))) (heldTest (automaton (now (words .entry))) s) ⌝ }
+{
+    in_window(s.pending, before_last(s.taken), words)
+}
+
+fn end_rules(s: Stream, words: &[u64]) -> u64
+    requires { ⌜ isTable (now words) ≡ true ⌝ }
+    ensures { λ r. ⌜ r ≡ rulesWhere (automaton (now (words .entry))) (endTest (automaton (now (words .entry))) s) ⌝ }
+{
+    let live = s.live;
+    let held = s.held;
+    let last = s.last;
+    in_window(closing(last, live, held, words), s.taken, words)
+}
+
 // Writes both runs of a closing at the front of the lists: the held pairs, then those that need the
 // stream's end. Gives how many reports there are.
 pub(super) fn write_closing(s: Stream, words: &[u64], ids: &mut [u32], offsets: &mut [u64]) -> usize
@@ -164,13 +184,9 @@ pub(super) fn write_closing(s: Stream, words: &[u64], ids: &mut [u32], offsets: 
         × (2 * rulesOf (now words) ≤ space (lists (now ids) (now offsets))) ⌝ }
     ensures { λ r. ⌜ Ended (automaton (now (words .entry))) s (lists (now (ids .entry)) (now (offsets .entry))) r (lists (now (ids .exit)) (now (offsets .exit))) ⌝ }
 {
-    let live = s.live;
-    let held = s.held;
-    let last = s.last;
-    let found = closing(last, live, held, words);
     let run = write_two(
-        s.pending,
-        found,
+        held_rules(s, words),
+        end_rules(s, words),
         s.reported,
         singles(words),
         words,

@@ -5,6 +5,7 @@ use super::reports::deliver;
 use kinds::Side;
 use kinds::side_of;
 use steps::ending;
+use steps::in_window;
 use steps::lasts;
 use steps::late_ending;
 use steps::lates;
@@ -26,7 +27,7 @@ ghost use Rattle.table.specs.Table.{isTable};
 ghost use Rattle.table.specs.Gaps.{between, unsettled};
 ghost use Rattle.table.specs.Automaton.{automaton};
 ghost use Rattle.sets.specs.Set.{isEmpty, any};
-ghost use Rattle.steps.specs.Step.{ends, endsNewly, latesOf, lateIn, rulesWhere};
+ghost use Rattle.steps.specs.Step.{ends, endsNewly, latesOf, lateIn, rulesWhere, windowed};
 ghost use Rattle.stream.specs.Byte.{given, nextHeld, nextPending};
 ghost use Rattle.stream.specs.Calls.{lists, space};
 ghost use Rattle.stream.specs.Invariants.{stateOf, sideAt, passedSide, waitsIn, SetsOf, Delivered, NoOpener, Skipped, Passed, hereAt, stopAt, Offered, Ran, Left};
@@ -158,17 +159,33 @@ pub(super) fn sets_of(words: &[u64]) -> Sets
     }
 }
 
-// The rules of which a match ends before a byte, now that it is known. A rule is looked at only if
-// a live position waits for it.
-fn late_rules(waits: bool, live: [u64; 4], before: Side, after: Side, words: &[u64]) -> u64
+// The rules of which a match ends before a byte, now that it is known, and that may report at its
+// offset. A rule is looked at only if a live position waits for it.
+fn late_rules(
+    waits: bool,
+    live: [u64; 4],
+    before: Side,
+    after: Side,
+    offset: u64,
+    words: &[u64],
+) -> u64
     requires { ⌜ (isTable (now words) ≡ true) × (waits ≡ waitsIn (automaton (now words)) live) ⌝ }
-    ensures { λ r. ⌜ r ≡ rulesWhere (automaton (now (words .entry))) (endsNewly (automaton (now (words .entry))) (between before after) (lateIn (automaton (now (words .entry))) live) unsettled live) ⌝ }
+    ensures { λ r. ⌜ r ≡ rulesWhere (automaton (now (words .entry))) (windowed (automaton (now (words .entry))) (endsNewly (automaton (now (words .entry))) (between before after) (lateIn (automaton (now (words .entry))) live) unsettled live) offset) ⌝ }
 {
     if waits {
-        late_ending(before, after, live, words)
+        in_window(late_ending(before, after, live, words), offset, words)
     } else {
         0
     }
+}
+
+// The rules of which a match ends with a byte, after which this set is live, and that may report at
+// its offset.
+fn own_rules(next: [u64; 4], end: u64, words: &[u64]) -> u64
+    requires { ⌜ isTable (now words) ≡ true ⌝ }
+    ensures { λ r. ⌜ r ≡ rulesWhere (automaton (now (words .entry))) (windowed (automaton (now (words .entry))) (ends (automaton (now (words .entry))) unsettled next) end) ⌝ }
+{
+    in_window(ending(next, words), end, words)
 }
 
 // What the reports of a byte come to: whether the free space is too small for them, how many were
@@ -199,7 +216,7 @@ fn report(
 ) -> Given
     requires { ⌜ (isTable (now words) ≡ true) × SetsOf (now words) sets × (waits ≡ waitsIn (automaton (now words)) live) × (offset + 1 < 2 ^ 64) ⌝ }
     ensures waits { λ r. ⌜ r .waits ≡ waitsIn (automaton (now (words .entry))) next ⌝ }
-    ensures reports { λ r. ⌜ Delivered (automaton (now (words .entry))) (endsNewly (automaton (now (words .entry))) (between old new) (lateIn (automaton (now (words .entry))) live) unsettled live) (ends (automaton (now (words .entry))) unsettled next) reported (given (automaton (now (words .entry))) offset) (given (automaton (now (words .entry))) (suc offset)) (lists (now (ids .entry)) (now (offsets .entry))) (r .full) (r .reports) (r .reported) (lists (now (ids .exit)) (now (offsets .exit))) ⌝ }
+    ensures reports { λ r. ⌜ Delivered (automaton (now (words .entry))) (windowed (automaton (now (words .entry))) (endsNewly (automaton (now (words .entry))) (between old new) (lateIn (automaton (now (words .entry))) live) unsettled live) offset) (windowed (automaton (now (words .entry))) (ends (automaton (now (words .entry))) unsettled next) (suc offset)) reported (given (automaton (now (words .entry))) offset) (given (automaton (now (words .entry))) (suc offset)) (lists (now (ids .entry)) (now (offsets .entry))) (r .full) (r .reports) (r .reported) (lists (now (ids .exit)) (now (offsets .exit))) ⌝ }
 {
     let enders = sets.enders;
     if !(waits | meets(next, enders)) {
@@ -211,8 +228,8 @@ fn report(
         };
     }
     let r = deliver(
-        late_rules(waits, live, old, new, words),
-        ending(next, words),
+        late_rules(waits, live, old, new, offset, words),
+        own_rules(next, offset + 1, words),
         reported,
         sets.single,
         words,

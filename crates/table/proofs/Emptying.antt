@@ -1,18 +1,18 @@
 -- Emptying. The words of `emptied t` are known one by one, so what the loop writes is `emptied t`;
 -- the result passes the test and describes the automaton with no rules.
 use mathlib.Core.Path.{_≡_, refl, sym, ap, _∙_}
-use mathlib.Core.Bool.{true, false, cond, not, _&&_}
+use mathlib.Core.Bool.{true, false, cond, not, _&&_, _||_, and-false}
 use mathlib.Core.List.{List, _++_}
 use Prim.Native.Nat.{ℕ, zero, suc, pred, _+_, _-_, _≤_, _<_}
 use native.Mathlib.Nat.{le-of-suc-le-suc}
 use native.Mathlib.Omega.{arith}
-use lib.Dec.{eqb, ltb}
+use lib.Dec.{eqb, leb, ltb}
 use lib.ListN.{length, getD, set, drop, length-append, length-drop, length-set, length-replicate, getD-replicate, List·getD-append}
 use lib.Seq.{getD-append-add, getD-drop, getD-set-same, getD-set-other}
 use borrow.Author.Tests.{lt-ltb, le-ltb}
 use Rattle.sets.specs.Set.{on}
 use Rattle.sets.proofs.Digits.{on-zero}
-use Rattle.table.specs.Layout.{tableWords, maxRules, maxPositions, bytes, format, rulesOf, firstAt, lastAt, latesAt, keepersAt, takersAt, followAt, idAt, openerAt, ownerAt, rowHas}
+use Rattle.table.specs.Layout.{tableWords, maxRules, maxPositions, bytes, format, rulesOf, windowedAt, windowedOf, lowestAt, highestAt, firstAt, lastAt, latesAt, keepersAt, takersAt, followAt, idAt, openerAt, ownerAt, rowHas}
 use Rattle.table.specs.Gaps.{firstGaps, followGaps, lastGaps}
 use Rattle.table.specs.Table.{isTable, emptyTable, emptyNumber, emptied}
 use Rattle.table.specs.Automaton.{Automaton, automaton}
@@ -28,6 +28,7 @@ noRules = record {
   id = λ a. 0;
   once = λ a. false;
   leftmost = λ a. false;
+  inside = λ a e. true;
   opens = λ x. false;
   takes = λ x q. false;
   first = λ g q. false;
@@ -125,6 +126,7 @@ module _ (t : List ℕ) (h : tableWords ≤ length t) where
     id = λ a. number maxRules idAt (λ a h. (omega arith, omega arith)) a i;
     once = λ a. (ap (λ (x : ℕ). on x a) (emptied-zero 3 (omega arith) (omega arith)) ∙ on-zero a) i;
     leftmost = λ a. (ap (λ (x : ℕ). on x a) (emptied-zero 704 (omega arith) (omega arith)) ∙ on-zero a) i;
+    inside = λ a e. window a e i;
     opens = λ x. opener x i;
     takes = λ x q. test bytes takersAt (λ x h. (omega arith, omega arith)) x q i;
     first = λ g q. test firstGaps firstAt (λ g h. (omega arith, omega arith)) g q i;
@@ -137,6 +139,11 @@ module _ (t : List ℕ) (h : tableWords ≤ length t) where
     where
       number : (n : ℕ) (place : ℕ → ℕ) → ((k : ℕ) → k < n → (0 < place k) × (place k < tableWords)) → (k : ℕ) → cond (ltb k n) (getD (emptied t) (place k) 0) 0 ≡ 0
       number n place fits k = under n k (λ b. cond b (getD (emptied t) (place k) 0) 0) (λ b. 0) (λ m. emptied-zero (place k) (fits k m .0) (fits k m .1)) refl
+
+      window : (a e : ℕ) → (not (ltb a maxRules && on (windowedOf (emptied t)) a) || (leb (getD (emptied t) (lowestAt a) 0) e && leb e (getD (emptied t) (highestAt a) 0))) ≡ true
+      window a e =
+          let off : on (windowedOf (emptied t)) a ≡ false = ap (λ (x : ℕ). on x a) (emptied-zero windowedAt (omega arith) (omega arith)) ∙ on-zero a in
+          rw (off, and-false (ltb a maxRules))
 
       opener : (x : ℕ) → (ltb x bytes && not (eqb (getD (emptied t) (openerAt x) 0) 0)) ≡ false
       opener x =

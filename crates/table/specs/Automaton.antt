@@ -7,7 +7,7 @@ use Prim.Native.Nat.{ℕ}
 use lib.Dec.{eqb, leb, ltb}
 use lib.ListN.{getD}
 use Rattle.sets.specs.Set.{on}
-use Rattle.table.specs.Layout.{maxRules, maxPositions, bytes, rulesOf, positionsOf, singlesOf, leftmostsOf, firstAt, lastAt, latesAt, keepersAt, followAt, takersAt, idWord, openerAt, ownerAt, rowHas}
+use Rattle.table.specs.Layout.{maxRules, maxPositions, bytes, rulesOf, positionsOf, singlesOf, leftmostsOf, windowedOf, lowestAt, highestAt, firstAt, lastAt, latesAt, keepersAt, followAt, takersAt, idWord, openerAt, ownerAt, rowHas}
 use Rattle.table.specs.Gaps.{firstGaps, followGaps, lastGaps, innerGaps}
 
 pub record Automaton : Type 0 where
@@ -19,6 +19,8 @@ pub record Automaton : Type 0 where
   pub id : (a : ℕ) → ℕ
   pub once : (a : ℕ) → Bool
   pub leftmost : (a : ℕ) → Bool
+  -- a report of the rule in place a may have this end offset
+  pub inside : (a end : ℕ) → Bool
   -- a match can begin with byte x inside a stream
   pub opens : (x : ℕ) → Bool
   -- position q takes byte x
@@ -42,6 +44,7 @@ automaton t = record {
   id = λ a. cond (ltb a maxRules) (idWord t a) 0;
   once = λ a. on (singlesOf t) a;
   leftmost = λ a. on (leftmostsOf t) a;
+  inside = λ a e. not (ltb a maxRules && on (windowedOf t) a) || (leb (getD t (lowestAt a) 0) e && leb e (getD t (highestAt a) 0));
   opens = λ x. ltb x bytes && not (eqb (getD t (openerAt x) 0) 0);
   takes = λ x q. ltb x bytes && rowHas t (takersAt x) q;
   first = λ g q. ltb g firstGaps && rowHas t (firstAt g) q;

@@ -22,9 +22,9 @@ maxPositions = 256
 abbrev pub bytes : ℕ
 bytes = 256
 
--- word 0 marks a rule table of this format: the bytes `watcher5` as a number
+-- word 0 marks a rule table of this format: the bytes `watcher6` as a number
 abbrev pub format : ℕ
-format = 0x77617463_68657235
+format = 0x77617463_68657236
 
 -- the number of rules, and of positions
 abbrev pub rulesOf : List ℕ → ℕ
@@ -74,6 +74,20 @@ leftmostsOf t = getD t leftmostsAt 0
 -- the set of the positions that keep a start
 abbrev pub keepersAt : ℕ
 keepersAt = 712
+
+-- the rules with a window of end offsets, a binary digit for each rule's place; for each place the
+-- smallest and the largest end offset of such a rule
+abbrev pub windowedAt : ℕ
+windowedAt = 706
+
+abbrev pub windowedOf : List ℕ → ℕ
+windowedOf t = getD t windowedAt 0
+
+abbrev pub lowestAt : ℕ → ℕ
+lowestAt a = 768 + a
+
+abbrev pub highestAt : ℕ → ℕ
+highestAt a = 832 + a
 
 -- for each byte the set of positions that take it; for each gap between two bytes and each position
 -- the set of those that can follow it there

@@ -8,8 +8,8 @@ pub const MAX_RULES: u64 = 64;
 
 pub const MAX_POSITIONS: u64 = 256;
 
-// The format word, at FORMAT_AT: the bytes `watcher5` as a number.
-pub const FORMAT: u64 = 0x7761_7463_6865_7235;
+// The format word, at FORMAT_AT: the bytes `watcher6` as a number.
+pub const FORMAT: u64 = 0x7761_7463_6865_7236;
 
 // The header: the format, the two counts, and the single-match rules, a digit for each rule's
 // place.
@@ -43,6 +43,17 @@ pub const OWNERS_AT: usize = 448;
 pub const LEFTMOSTS_AT: usize = 704;
 
 pub const KEEPERS_AT: usize = 712;
+
+// The rules with a window of end offsets, a digit for each rule's place; for each place the
+// smallest and the largest end offset of such a rule.
+pub const WINDOWED_AT: usize = 706;
+
+pub const LOWEST_AT: usize = 768;
+
+pub const HIGHEST_AT: usize = 832;
+
+// The largest end offset of a rule for which it is left out.
+pub const NO_END: u64 = 0xffff_ffff_ffff_ffff;
 
 // Sets of positions, of four words each: for each byte those that take it; for each gap between two
 // bytes, and for each position, those that can follow it there.

@@ -73,28 +73,28 @@ end-under w z a =
 
 -- ---- both runs
 
-module _ (w : Automaton) (few : w .rules ≤ 64) (z : Traced) (found leftmost : ℕ) (found-is : found ≡ rulesWhere w (endTest w (z .stream)))
+module _ (w : Automaton) (few : w .rules ≤ 64) (z : Traced) (kept found leftmost : ℕ) (kept-is : kept ≡ rulesWhere w (heldTest w (z .stream))) (found-is : found ≡ rulesWhere w (endTest w (z .stream)))
     (flags : leftmost ≡ rulesWhere w (w .leftmost)) (d : ℕ) (before : d ≡ z .stream .taken - 1) (ends : List ℕ)
     (h : RuleStarts (bitAnd found leftmost) (endStart w z) ends) where
   abbrev s : Stream
   s = z .stream
 
-  pub closing-by : twoReports w (on (s .pending)) (on found) (s .reported) (given w d (at (z .starts .pairs))) (given w (s .taken) (at ends)) ≡ closeReports w z
+  pub closing-by : twoReports w (on kept) (on found) (s .reported) (given w d (at (z .starts .pairs))) (given w (s .taken) (at ends)) ≡ closeReports w z
   unfolding closeReports
   closing-by =
-      ap (λ (n : ℕ). twoReports w (on (s .pending)) (on found) (s .reported) (given w n (at (z .starts .pairs))) (given w (s .taken) (at ends))) before
-      ∙ two-give w (on (s .pending)) (on found) (s .reported) (given w (s .taken - 1) (at (z .starts .pairs))) (given w (s .taken - 1) (at (z .starts .pairs)))
+      ap (λ (n : ℕ). twoReports w (on kept) (on found) (s .reported) (given w n (at (z .starts .pairs))) (given w (s .taken) (at ends))) before
+      ∙ two-give w (on kept) (on found) (s .reported) (given w (s .taken - 1) (at (z .starts .pairs))) (given w (s .taken - 1) (at (z .starts .pairs)))
       (given w (s .taken) (at ends)) (given w (s .taken) (endStart w z)) (λ a l e. refl) (give-same w few leftmost flags found (endStart w z) ends h (s .taken))
-      ∙ two-ext w (on (s .pending)) (heldTest w s) (on found) (endTest w s) (s .reported) (λ a l. refl)
+      ∙ two-ext w (on kept) (heldTest w s) (on found) (endTest w s) (s .reported) (λ a l. ap (λ (x : ℕ). on x a) kept-is ∙ on-places (heldTest w s) (w .rules) a l few)
       (λ a l. ap (λ (x : ℕ). on x a) found-is ∙ on-places (endTest w s) (w .rules) a l few)
       (given w (s .taken - 1) (at (z .starts .pairs))) (given w (s .taken) (endStart w z))
 
   pub closing-room : (n : ℕ) → 2 * w .rules ≤ n
-      → length (twoReports w (on (s .pending)) (on found) (s .reported) (given w d (at (z .starts .pairs))) (given w (s .taken) (at ends))) ≤ n
-  closing-room n l = le-trans (two-few w (on (s .pending)) (on found) (s .reported) (given w d (at (z .starts .pairs))) (given w (s .taken) (at ends))) l
+      → length (twoReports w (on kept) (on found) (s .reported) (given w d (at (z .starts .pairs))) (given w (s .taken) (at ends))) ≤ n
+  closing-room n l = le-trans (two-few w (on kept) (on found) (s .reported) (given w d (at (z .starts .pairs))) (given w (s .taken) (at ends))) l
 
   pub ended : {l : Lists} {reports marks : ℕ} {l′ : Lists}
-      → WroteTwo w (on (s .pending)) (on found) (s .reported) (given w d (at (z .starts .pairs))) (given w (s .taken) (at ends)) (s .taken) l reports marks l′
+      → WroteTwo w (on kept) (on found) (s .reported) (given w d (at (z .starts .pairs))) (given w (s .taken) (at ends)) (s .taken) l reports marks l′
       → Ended w z l reports l′
   ended {l} wrote = record {
     reports-are = wrote .reports-are ∙ ap length closing-by;

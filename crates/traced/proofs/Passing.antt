@@ -58,10 +58,12 @@ module _ (w : Automaton) where
 
     none-late : (a : ℕ) → a < w .rules → lateTest w s x a ≡ false
     none-late a h =
-        ap (λ (l : List ℕ). endsNewly w (between (s .last) (sideOf x)) (lateIn w l) unsettled l a) live ∙ late-empty w (between (s .last) (sideOf x)) unsettled a
+        ap (λ (b : Bool). b && w .inside a (s .taken))
+        (ap (λ (l : List ℕ). endsNewly w (between (s .last) (sideOf x)) (lateIn w l) unsettled l a) live ∙ late-empty w (between (s .last) (sideOf x)) unsettled a)
 
     none-own : (a : ℕ) → a < w .rules → ownTest w s x a ≡ false
-    none-own a h = ap (λ (l : List ℕ). ends w unsettled l a) live-still ∙ ends-empty w unsettled a
+    none-own a h =
+        ap (λ (b : Bool). b && w .inside a (suc (s .taken))) (ap (λ (l : List ℕ). ends w unsettled l a) live-still ∙ ends-empty w unsettled a)
 
     no-reports : byteReports w u x ≡ []
     unfolding byteReports

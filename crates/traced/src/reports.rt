@@ -3,6 +3,7 @@
 // the closing.
 use carried::rule_starts;
 use steps::closing;
+use steps::in_window;
 use steps::leftmosts;
 use steps::rule_id;
 use steps::singles;
@@ -265,7 +266,9 @@ pub(super) fn write_closing(
     let alive = s.live;
     let waiting = s.held;
     let last = s.last;
-    let found = closing(last, alive, waiting, words);
+    let earlier = before_last(s.taken);
+    let held_pairs = in_window(s.pending, earlier, words);
+    let found = in_window(closing(last, alive, waiting, words), s.taken, words);
     let leftmost = leftmosts(words);
     let ends = end_starts(found & leftmost, s, live, held, pairs, words);
     let marks = Marks {
@@ -274,14 +277,14 @@ pub(super) fn write_closing(
         first: s.taken,
     };
     let run = write_two(
-        s.pending,
+        held_pairs,
         found,
         s.reported,
         pairs,
         &ends,
         marks,
         words,
-        before_last(s.taken),
+        earlier,
         s.taken,
         ids,
         offsets,

@@ -12,6 +12,7 @@ use carried::step_starts;
 use kinds::Side;
 use kinds::side_of;
 use steps::ending;
+use steps::in_window;
 use steps::keepers;
 use steps::lasts;
 use steps::late_ending;
@@ -37,7 +38,7 @@ ghost use Rattle.table.specs.Layout.{tableWords, maxPositions, maxRules};
 ghost use Rattle.table.specs.Gaps.{between, unsettled};
 ghost use Rattle.table.specs.Table.{isTable};
 ghost use Rattle.table.specs.Automaton.{automaton};
-ghost use Rattle.steps.specs.Step.{ends, rulesWhere, startAt, OnlyIn};
+ghost use Rattle.steps.specs.Step.{ends, rulesWhere, windowed, startAt, OnlyIn};
 ghost use Rattle.stream.specs.Valid.{streamLimit};
 ghost use Rattle.stream.specs.Byte.{nextLive, nextHeld, nextPending, lateTest, runReports};
 ghost use Rattle.traced.specs.Byte.{given};
@@ -108,8 +109,8 @@ fn left_waiting(s: Stream, words: &[u64], byte: u8) -> Waiting
     }
 }
 
-// The rules of which a match ends before a byte, now that it is known. A rule is looked at only if
-// a live position can end a match so.
+// The rules of which a match ends before a byte, now that it is known, and that may report at its
+// offset. A rule is looked at only if a live position can end a match so.
 fn late_rules(gates: Gates, s: Stream, byte: u8, words: &[u64]) -> u64
     requires { ⌜ (isTable (now words) ≡ true) × GatesOf (now words) gates ⌝ }
     ensures { λ r. ⌜ r ≡ rulesWhere (automaton (now (words .entry))) (lateTest (automaton (now (words .entry))) s byte) ⌝ }
@@ -118,20 +119,25 @@ fn late_rules(gates: Gates, s: Stream, byte: u8, words: &[u64]) -> u64
     let late = gates.late;
     let before = s.last;
     if meets(live, late) {
-        late_ending(before, side_of(byte), live, words)
+        in_window(
+            late_ending(before, side_of(byte), live, words),
+            s.taken,
+            words,
+        )
     } else {
         0
     }
 }
 
-// The rules of which a match ends with a byte, after which this set is live.
-fn own_rules(gates: Gates, next: [u64; 4], words: &[u64]) -> u64
+// The rules of which a match ends with a byte, after which this set is live, and that may report at
+// its offset.
+fn own_rules(gates: Gates, next: [u64; 4], end: u64, words: &[u64]) -> u64
     requires { ⌜ (isTable (now words) ≡ true) × GatesOf (now words) gates ⌝ }
-    ensures { λ r. ⌜ r ≡ rulesWhere (automaton (now (words .entry))) (ends (automaton (now (words .entry))) unsettled next) ⌝ }
+    ensures { λ r. ⌜ r ≡ rulesWhere (automaton (now (words .entry))) (windowed (automaton (now (words .entry))) (ends (automaton (now (words .entry))) unsettled next) end) ⌝ }
 {
     let last = gates.last;
     if meets(next, last) {
-        ending(next, words)
+        in_window(ending(next, words), end, words)
     } else {
         0
     }
@@ -429,7 +435,7 @@ fn report(
     ensures reports { λ r. ⌜ Delivered (automaton (now (words .entry))) (stateOf s (now (live .entry)) (now (held .entry)) (now (pairs .entry))) byte first (lists (now (ids .entry)) (now (offsets .entry)) (now (starts .entry)) (now (relatives .entry))) (r .full) (r .reports) (r .reported) (r .some) (r .waits) (startsOf (now (live .exit)) (now (held .exit)) (now (pairs .exit))) (lists (now (ids .exit)) (now (offsets .exit)) (now (starts .exit)) (now (relatives .exit))) ⌝ }
 {
     let late = late_rules(gates, s, byte, words);
-    let own = own_rules(gates, next, words);
+    let own = own_rules(gates, next, s.taken + 1, words);
     let space = shortest(ids.len(), offsets.len(), starts.len(), relatives.len());
     if too_many(late, own, s.reported, gates.single, space) {
         return Delivery {

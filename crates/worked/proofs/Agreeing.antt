@@ -34,6 +34,7 @@ pub record Agree (w v : Automaton) : Type 0 where
   pub positions : w .positions ≡ v .positions
   pub id : (a : ℕ) → a < w .rules → w .id a ≡ v .id a
   pub once : (a : ℕ) → a < w .rules → w .once a ≡ v .once a
+  pub inside : (a e : ℕ) → a < w .rules → w .inside a e ≡ v .inside a e
   -- of a position that takes the byte
   pub first : (g x q : ℕ) → g < firstGaps → x < 256 → q < w .positions → w .takes x q ≡ true → starts w g x q ≡ starts v g x q
   pub follow : (g p q : ℕ) → g < followGaps → q < w .positions → w .follow g p q ≡ v .follow g p q
@@ -163,13 +164,15 @@ module _ (w v : Automaton) (same : Agree w v) where
   module _ (s : Stream) (inside : Within (s .live)) (x : ℕ) (small : x < 256) where
     late-agrees : (a : ℕ) → a < w .rules → lateTest w s x a ≡ lateTest v s x a
     late-agrees a lt =
-        late-newly w (same .lates .0) (s .live) (between (s .last) (sideOf x)) a (between-inner (s .last) (sideOf x))
+        ap₂ (λ (b c : Bool). b && c) (late-newly w (same .lates .0) (s .live) (between (s .last) (sideOf x)) a (between-inner (s .last) (sideOf x))
         ∙ newly-agrees (between (s .last) (sideOf x)) (lt-trans (between-inner (s .last) (sideOf x)) (lit< tt)) (s .live) inside unsettled (lit< tt) (s .live) inside a lt
-        ∙ sym (late-newly v (same .lates .1) (s .live) (between (s .last) (sideOf x)) a (between-inner (s .last) (sideOf x)))
+        ∙ sym (late-newly v (same .lates .1) (s .live) (between (s .last) (sideOf x)) a (between-inner (s .last) (sideOf x)))) (same .inside a (s .taken) lt)
 
     own-agrees : (a : ℕ) → a < w .rules → ownTest w s x a ≡ ownTest v s x a
     own-agrees a lt =
-        ends-agrees unsettled (lit< tt) (nextLive w s x) (next-inside s x) a lt ∙ ap (λ (l : List ℕ). ends v unsettled l a) (next-agrees s x small)
+        ap₂ (λ (b c : Bool). b && c)
+        (ends-agrees unsettled (lit< tt) (nextLive w s x) (next-inside s x) a lt ∙ ap (λ (l : List ℕ). ends v unsettled l a) (next-agrees s x small))
+        (same .inside a (suc (s .taken)) lt)
 
     reports-agree : byteReports w s x ≡ byteReports v s x
     unfolding byteReports
@@ -219,9 +222,11 @@ module _ (w v : Automaton) (same : Agree w v) where
   module _ (s : Stream) (inside : Inside s) where
     end-agrees : (a : ℕ) → a < w .rules → endTest w s a ≡ endTest v s a
     end-agrees a lt =
-        newly-agrees (atEnd (s .last)) (atEnd-last (s .last)) (unionOf (s .live) (s .held)) (union-inside (s .live) (s .held) (inside .0) (inside .1))
-        unsettled (lit< tt) (s .live) (inside .0) a lt
+        ap₂ (λ (b c : Bool). b && c)
+        (newly-agrees (atEnd (s .last)) (atEnd-last (s .last)) (unionOf (s .live) (s .held)) (union-inside (s .live) (s .held) (inside .0) (inside .1))
+        unsettled (lit< tt) (s .live) (inside .0) a lt)
+        (same .inside a (s .taken) lt)
 
     pub closing-agrees : closeReports w s ≡ closeReports v s
     unfolding closeReports
-    closing-agrees = two-agree (heldTest w s) (heldTest v s) (endTest w s) (endTest v s) (s .reported) (λ a lt. refl) end-agrees (s .taken - 1) (s .taken)
+    closing-agrees = two-agree (heldTest w s) (heldTest v s) (endTest w s) (endTest v s) (s .reported) (λ a lt. ap (λ (b : Bool). on (s .pending) a && b) (same .inside a (s .taken - 1) lt)) end-agrees (s .taken - 1) (s .taken)

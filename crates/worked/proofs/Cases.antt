@@ -32,7 +32,7 @@ use Rattle.pattern.specs.Read.{judged, readOf, optionsOf}
 use Rattle.steps.specs.Step.{stepped, ends, endsNewly, latesOf}
 use Rattle.stream.specs.Byte.{nextHeld, nextPending, runReports, runMarks, twoReports, twoMarks, byteReports, byteState, closeReports}
 use Rattle.rules.specs.declared.Added.{Added}
-use Rattle.rules.specs.Add.{Addition, answer, unknownFlag, singleStart, placed, addWords}
+use Rattle.rules.specs.Add.{Addition, answer, unknownFlag, singleStart, emptyWindow, placed, addWords}
 use Rattle.rules.specs.Additions.{Narrow, Accepted, used, taken, nextAnswer, withNew, afterNext, acceptedAfter}
 use Rattle.rules.specs.Encoded.{addAll}
 use Rattle.rules.proofs.Sorted.{laid, insert, into}
@@ -72,7 +72,7 @@ nextAnswers rs (a ∷ l) = nextAnswer rs a ∷ nextAnswers (afterNext rs a) l
 computed-right : (failing right cases ≡ [])
     × (nextAnswers [] (additionsIn cases) ≡ map (λ (k : Case). answerIn (k .verdict)) cases)
     × (failing (runs (acceptedAfter [] (additionsIn cases))) logs ≡ [])
-unfolding allRun right failing nextAnswers withoutStarts on has setOf wordOf any emptySet insertedRange unionOf complementOf inserted fullSet isDigit isLower isUpper isBlank otherCase caseClosed digitOf digits valueFrom blanks numeralOf bracedOf shortOf flipped64 raised controlOf typeOf namedOf placedOf hexOf octalOf isAlpha isAlnum escapeOf lower isMark gapOf names begins named nameAmong nameOf bracketOf memberOf rangeFault jointOf memberAt membersOf classOf joined settled lettersOf beforeClose commentOf openingOf bounded open-ended bracesOf formOf marked quantifierOf escaped unquotedOf lexemeOf itemSet copied capped saturating nullable write positions repeated copies optionals null first last follow items chained chosen one repeating closing opening act next finish walk judged readOf optionsOf unknownFlag singleStart placed used taken nextAnswer withNew afterNext acceptedAfter laid insert into owner ownerPlace computed between beforeLast atEnd atStart gapBefore firstGap sideOf isWord stepped ends endsNewly latesOf intersectionOf nextHeld nextPending runReports runMarks twoReports twoMarks byteReports byteState closeReports all bytes cases logs pass passed final follows same zip mathlib.Core.List.zipWith isCntrl anyRaw withRaw spelledAt spelledOf
+unfolding allRun right failing nextAnswers withoutStarts on has setOf wordOf any emptySet insertedRange unionOf complementOf inserted fullSet isDigit isLower isUpper isBlank otherCase caseClosed digitOf digits valueFrom blanks numeralOf bracedOf shortOf flipped64 raised controlOf typeOf namedOf placedOf hexOf octalOf isAlpha isAlnum escapeOf lower isMark gapOf names begins named nameAmong nameOf bracketOf memberOf rangeFault jointOf memberAt membersOf classOf joined settled lettersOf beforeClose commentOf openingOf bounded open-ended bracesOf formOf marked quantifierOf escaped unquotedOf lexemeOf itemSet copied capped saturating nullable write positions repeated copies optionals null first last follow items chained chosen one repeating closing opening act next finish walk judged readOf optionsOf unknownFlag singleStart emptyWindow placed used taken nextAnswer withNew afterNext acceptedAfter laid insert into owner ownerPlace computed between beforeLast atEnd atStart gapBefore firstGap sideOf isWord stepped ends endsNewly latesOf intersectionOf nextHeld nextPending runReports runMarks twoReports twoMarks byteReports byteState closeReports all bytes cases logs pass passed final follows same zip mathlib.Core.List.zipWith isCntrl anyRaw withRaw spelledAt spelledOf
 computed-right = (refl, refl, refl)
 
 -- ---- carried to the calls

@@ -20,13 +20,14 @@ use Rattle.rules.specs.Words.{isSingle, isLeftmost}
 use Rattle.rules.specs.Additions.{Accepted, size, used}
 use Rattle.rules.proofs.Sorted.{Placed, at, byId}
 use Rattle.rules.proofs.Encodes.{Encodes, Of, formOf, itemOf, worldAt, starts-first, last-out}
+use Rattle.rules.proofs.Windows.{insideOf}
 use Rattle.rules.proofs.Additions.{Built}
 use Rattle.demands.proofs.Carried.{positions-at}
 use Rattle.worked.proofs.Agreeing.{Agree}
 
 -- the first rule that has position q
 unfoldable pub owner : List Placed → ℕ → Placed
-owner [] q = record { rule = record { id = 0; flags = 0; tree = empty }; from = 0 }
+owner [] q = record { rule = record { id = 0; flags = 0; lowest = 0; highest = 0; tree = empty }; from = 0 }
 owner (p ∷ ps) q = cond (leb (p .from) q && ltb q (p .from + size (p .rule))) p (owner ps q)
 
 -- its place
@@ -42,6 +43,7 @@ computed ps n = record {
   id = λ a. at ps a .rule .id;
   once = λ a. isSingle (at ps a .rule .flags);
   leftmost = λ a. isLeftmost (at ps a .rule .flags);
+  inside = λ a e. insideOf (at ps a .rule .lowest) (at ps a .rule .highest) e;
   opens = λ x. true;
   takes = λ x q. has (itemOf (owner ps q) q) x;
   first = λ g q. first (worldAt g) (formOf (owner ps q)) (owner ps q .from) q;
@@ -102,6 +104,7 @@ module _ (w : Automaton) (ps : List Placed) (e : Encodes w ps) where
     positions = k;
     id = λ a lt. e .rule a (in-list a lt) .id-is;
     once = λ a lt. e .rule a (in-list a lt) .once-is;
+    inside = λ a i lt. e .rule a (in-list a lt) .inside-is i;
     first = λ g x q lg byte lt takes.
         starts-first w ps e g x q byte (omega arith) takes
         ∙ by-owner q lt (w .first g q) (λ p. first (worldAt g) (formOf p) (p .from) q) (λ a l o. e .rule a l .first-is g q lg o)

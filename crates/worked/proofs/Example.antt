@@ -36,7 +36,7 @@ use Rattle.stream.specs.Byte.{after, nextHeld, nextPending, runReports, runMark
 use Rattle.stream.specs.Calls.{opened, scanNumber}
 use Rattle.stream.proofs.Results.{opened-valid}
 use Rattle.rules.specs.declared.Added.{Added}
-use Rattle.rules.specs.Add.{unknownFlag, singleStart, placed}
+use Rattle.rules.specs.Add.{unknownFlag, singleStart, emptyWindow, placed}
 use Rattle.rules.specs.Additions.{Accepted, used, taken, nextAnswer, withNew, afterNext, acceptedAfter}
 use Rattle.rules.proofs.Sorted.{laid, insert, into}
 use Rattle.rules.proofs.Additions.{Built}
@@ -62,7 +62,7 @@ module _ (words : List ℕ) (long : tableWords ≤ length words) where
   -- by the accepted rule alone: its id is taken, and this is what the calls give
   computes : (nextAnswer (acceptedIn c) (rule 5 0 "a") .number ≡ 3) × (run (computedOf (acceptedIn c)) (startOf (acceptedIn c)) (callsIn items) ≡ outcomes)
       × T (withoutStarts (acceptedIn c))
-  unfolding withoutStarts callsIn scanLeft closeLeft gives moves run items outcomes on has setOf wordOf any emptySet insertedRange unionOf complementOf inserted fullSet isDigit isLower isUpper isBlank otherCase caseClosed digitOf digits valueFrom blanks numeralOf bracedOf shortOf flipped64 raised controlOf typeOf namedOf placedOf hexOf octalOf isAlpha isAlnum escapeOf lower isMark gapOf names begins named nameAmong nameOf bracketOf memberOf rangeFault jointOf memberAt membersOf classOf joined settled lettersOf beforeClose commentOf openingOf bounded open-ended bracesOf formOf marked quantifierOf escaped unquotedOf lexemeOf itemSet copied capped saturating nullable write positions repeated copies optionals null first last follow byteSets chained chosen one repeating closing opening act next finish walk judged readOf optionsOf unknownFlag singleStart placed used taken nextAnswer withNew afterNext acceptedAfter laid insert into owner ownerPlace computed gapBetween beforeLast atEnd atStart gapBefore firstGap sideOf isWord stepped ends endsNewly latesOf intersectionOf nextHeld nextPending runReports runMarks twoReports twoMarks byteReports byteState closeReports all bytes after reportsBy costBy fitsBy sizeOf count zip mathlib.Core.List.zipWith additionsOf steps isCntrl anyRaw withRaw spelledAt spelledOf
+  unfolding withoutStarts callsIn scanLeft closeLeft gives moves run items outcomes on has setOf wordOf any emptySet insertedRange unionOf complementOf inserted fullSet isDigit isLower isUpper isBlank otherCase caseClosed digitOf digits valueFrom blanks numeralOf bracedOf shortOf flipped64 raised controlOf typeOf namedOf placedOf hexOf octalOf isAlpha isAlnum escapeOf lower isMark gapOf names begins named nameAmong nameOf bracketOf memberOf rangeFault jointOf memberAt membersOf classOf joined settled lettersOf beforeClose commentOf openingOf bounded open-ended bracesOf formOf marked quantifierOf escaped unquotedOf lexemeOf itemSet copied capped saturating nullable write positions repeated copies optionals null first last follow byteSets chained chosen one repeating closing opening act next finish walk judged readOf optionsOf unknownFlag singleStart emptyWindow placed used taken nextAnswer withNew afterNext acceptedAfter laid insert into owner ownerPlace computed gapBetween beforeLast atEnd atStart gapBefore firstGap sideOf isWord stepped ends endsNewly latesOf intersectionOf nextHeld nextPending runReports runMarks twoReports twoMarks byteReports byteState closeReports all bytes after reportsBy costBy fitsBy sizeOf count zip mathlib.Core.List.zipWith additionsOf steps isCntrl anyRaw withRaw spelledAt spelledOf
   computes = (refl, refl, tt)
 
   -- before the opening: the state is closed

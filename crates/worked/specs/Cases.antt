@@ -1,11 +1,11 @@
 -- The worked cases that the product's rules mark P, "proved together, in one table", and those of
--- line mode and word edges: each rule alone in an emptied table, and all of them in one. The rules
+-- line mode, word edges and windows: each rule alone in an emptied table, and all of them in one. The rules
 -- are pattern bytes and flags, the logs are cut as the rules cut them, and all else is worked out
 -- by the definitions of the calls. The theorem is `worked-cases` of proofs/Cases.antt. Assumes
 -- nothing: these are definitions.
 use mathlib.Core.Path.{_≡_}
 use mathlib.Core.List.{List, [], _∷_, map, List·Memᴰ}
-use Prim.Native.Nat.{ℕ, suc, _*_, _≤_}
+use Prim.Native.Nat.{ℕ, suc, _*_, _-_, _^_, _≤_}
 use Prim.Native.String.{String}
 use lib.ListN.{length}
 use Rattle.table.specs.Layout.{tableWords, maxRules}
@@ -14,7 +14,7 @@ use Rattle.stream.specs.Calls.{Lists, Call, call, opened, space}
 use Rattle.regex.specs.Ordered.{Pair, Report}
 unfoldable pub use Rattle.classes.specs.Name.{bytes}
 use Rattle.rules.specs.declared.Added.{Added}
-use Rattle.rules.specs.Add.{Addition, addition, answer, addAnswer, addWords}
+use Rattle.rules.specs.Add.{Addition, addition, additionIn, answer, addAnswer, addWords}
 use Rattle.rules.specs.Encoded.{addAll}
 use Rattle.demands.specs.Chain.{Item, scan, close, Outcome, by-scan, by-close, outcomesOf}
 use Rattle.demands.specs.Kinds.{withoutStart, short}
@@ -103,6 +103,15 @@ log id blocks closing = record { blocks = map (λ (b : String × List ℕ). (b .
 abbrev hits : (id flags : ℕ) → String → List Log → Case
 hits id flags pattern logs = record { rule = rule id flags pattern; verdict = accepted logs }
 
+-- the same of a rule with a window
+abbrev hitsIn : (id flags lowest highest : ℕ) → String → List Log → Case
+hitsIn id flags lowest highest pattern logs =
+    record { rule = additionIn id flags lowest highest (bytes pattern); verdict = accepted logs }
+
+abbrev refusesIn : (id flags lowest highest : ℕ) → String → (number place : ℕ) → Case
+refusesIn id flags lowest highest pattern number place =
+    record { rule = additionIn id flags lowest highest (bytes pattern); verdict = refused number place }
+
 abbrev refuses : (id flags : ℕ) → String → (number place : ℕ) → Case
 refuses id flags pattern number place = record { rule = rule id flags pattern; verdict = refused number place }
 
@@ -134,6 +143,14 @@ cases =
     ∷ hits 13 8 "a\\b|a-" (log 13 (("a-", 1 ∷ []) ∷ []) [] ∷ log 13 (("a", []) ∷ []) (1 ∷ []) ∷ [])
     -- "Add flag 4": "`^` also holds after a byte 10 that isn't the stream's last byte"
     ∷ hits 14 4 "\\n^" (log 14 (("\n\n", 1 ∷ []) ∷ []) [] ∷ [])
+    -- Hyperscan's guide, extended parameters: `foo.*bar` with min_offset 10 and max_offset 15 gives
+    -- nothing on `foobar` and `foo0123456789bar`, and matches on `foo0123bar` and `foo0123456bar`
+    ∷ hitsIn 30 0 10 15 "foo.*bar" (log 30 (("foobar", []) ∷ []) [] ∷ log 30 (("foo0123bar", 10 ∷ []) ∷ []) []
+    ∷ log 30 (("foo0123456bar", 13 ∷ []) ∷ []) [] ∷ log 30 (("foo0123456789bar", []) ∷ []) [] ∷ [])
+    -- "Single match counts only pairs inside the window."
+    ∷ hitsIn 31 8 2 (2 ^ 64 - 1) "a" (log 31 (("aa", 2 ∷ []) ∷ []) [] ∷ [])
+    -- "A smallest offset above the largest is refused with 26, right after 5, place 0."
+    ∷ refusesIn 28 0 3 2 "(" 26 0
     -- "`[z-a]` 9 at 1; `a*+` 14 at 1; `a)` 12 at 1; `(a` 12 at 2; `\x{100}` 7 at 0; `X{,4}` 15 at
     -- 5; empty pattern 15 at 0."
     ∷ refuses 21 0 "[z-a]" 9 1
@@ -155,16 +172,16 @@ cut blocks closing = record {
 -- their addition
 unfoldable pub logs : List Log
 logs =
-    cut (("fooxyzbar", (3, 8) ∷ (8, 8) ∷ (12, 8) ∷ (15, 8) ∷ (16, 8) ∷ (7, 9) ∷ []) ∷ ("baz", (3, 11) ∷ (8, 11) ∷ (12, 11) ∷ (15, 11) ∷ (16, 11) ∷ []) ∷ ("qbar", (3, 15) ∷ (8, 15) ∷ (12, 15) ∷ (15, 15) ∷ (16, 15) ∷ (7, 16) ∷ []) ∷ []) []
+    cut (("fooxyzbar", (3, 8) ∷ (8, 8) ∷ (12, 8) ∷ (31, 8) ∷ (15, 8) ∷ (16, 8) ∷ (7, 9) ∷ []) ∷ ("baz", (3, 11) ∷ (8, 11) ∷ (12, 11) ∷ (15, 11) ∷ (16, 11) ∷ []) ∷ ("qbar", (3, 15) ∷ (8, 15) ∷ (12, 15) ∷ (15, 15) ∷ (16, 15) ∷ (7, 16) ∷ []) ∷ []) []
     ∷ cut (("abbb", (1, 1) ∷ (3, 1) ∷ (8, 1) ∷ (12, 1) ∷ (15, 1) ∷ (16, 1) ∷ (4, 2) ∷ (5, 2) ∷ (6, 2) ∷ (5, 3) ∷ (5, 4) ∷ []) ∷ []) []
     ∷ cut (("aBC", (1, 1) ∷ (3, 1) ∷ (8, 1) ∷ (12, 1) ∷ (15, 1) ∷ (16, 1) ∷ (4, 2) ∷ (4, 3) ∷ []) ∷ []) []
     ∷ cut (("AB", []) ∷ []) []
     ∷ cut (("{,}", (9, 3) ∷ []) ∷ []) []
     ∷ cut (("aXX", (1, 1) ∷ (3, 1) ∷ (8, 1) ∷ (12, 1) ∷ (15, 1) ∷ (16, 1) ∷ (8, 2) ∷ (8, 3) ∷ []) ∷ []) []
-    ∷ cut (("aa", (1, 1) ∷ (3, 1) ∷ (8, 1) ∷ (12, 1) ∷ (15, 1) ∷ (16, 1) ∷ (3, 2) ∷ (8, 2) ∷ (12, 2) ∷ []) ∷ []) ((2, 2) ∷ (11, 2) ∷ (13, 2) ∷ (15, 2) ∷ [])
+    ∷ cut (("aa", (1, 1) ∷ (3, 1) ∷ (8, 1) ∷ (12, 1) ∷ (15, 1) ∷ (16, 1) ∷ (3, 2) ∷ (8, 2) ∷ (12, 2) ∷ (31, 2) ∷ []) ∷ []) ((2, 2) ∷ (11, 2) ∷ (13, 2) ∷ (15, 2) ∷ [])
     ∷ cut (("]", (12, 1) ∷ []) ∷ []) []
     ∷ cut (("a\n", (1, 1) ∷ (3, 1) ∷ (8, 1) ∷ (12, 1) ∷ (13, 1) ∷ (15, 1) ∷ []) ∷ []) ((11, 1) ∷ [])
-    ∷ cut (("ba", (3, 2) ∷ (8, 2) ∷ (12, 2) ∷ []) ∷ ("-", (13, 2) ∷ (15, 2) ∷ (16, 2) ∷ []) ∷ []) []
+    ∷ cut (("ba", (3, 2) ∷ (8, 2) ∷ (12, 2) ∷ (31, 2) ∷ []) ∷ ("-", (13, 2) ∷ (15, 2) ∷ (16, 2) ∷ []) ∷ []) []
     ∷ cut (("a-", (1, 1) ∷ (3, 1) ∷ (8, 1) ∷ (12, 1) ∷ (13, 1) ∷ (15, 1) ∷ []) ∷ []) []
     ∷ cut (("\n\n", (14, 1) ∷ []) ∷ []) []
     ∷ []

@@ -106,6 +106,9 @@ impl Writer<'_> {
         let place = self.new_place(u64::from(id));
         self.put_digit(SINGLES, place, flags & SINGLE_MATCH != 0);
         self.put_digit(LEFTMOSTS, place, flags & LEFTMOST_START != 0);
+        self.put_digit(WINDOWED, place, false);
+        self.put_number(lowest(0), place, 0);
+        self.put_number(highest(0), place, u64::MAX);
         if flags & LEFTMOST_START != 0 {
             (self.from..self.to).for_each(|p| put(self.words, KEEPERS, p));
         }
@@ -126,16 +129,24 @@ impl Writer<'_> {
     /// owners. Its place.
     fn new_place(&mut self, id: u64) -> usize {
         let rules = self.words[RULES] as usize;
-        let ids = &mut self.words[layout::id(0)..=layout::id(rules)];
-        let place = ids[..rules].iter().filter(|&&other| other < id).count();
-        ids.copy_within(place..rules, place + 1);
-        ids[place] = id;
+        let ids = &self.words[layout::id(0)..layout::id(rules)];
+        let place = ids.iter().filter(|&&other| other < id).count();
+        self.put_number(layout::id(0), place, id);
         for owner in &mut self.words[owner(0)..owner(self.from)] {
             if (place as u64..MAX_RULES as u64).contains(owner) {
                 *owner += 1;
             }
         }
         place
+    }
+
+    /// Puts a number for a new place among those of the rules, one each from `at` on; the later ones
+    /// move up by one.
+    fn put_number(&mut self, at: usize, place: usize, number: u64) {
+        let rules = self.words[RULES] as usize;
+        let numbers = &mut self.words[at..=at + rules];
+        numbers.copy_within(place..rules, place + 1);
+        numbers[place] = number;
     }
 
     /// Puts a bit for a new place into a word of bits by places, those from there on moved up by one.

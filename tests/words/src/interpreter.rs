@@ -100,6 +100,12 @@ impl Table<'_> {
         self.0[LEFTMOSTS] >> place & 1 == 1
     }
 
+    /// May the rule in this place report at this end offset?
+    fn inside(&self, place: usize, end: u64) -> bool {
+        let window = self.0[lowest(place)]..=self.0[highest(place)];
+        self.0[WINDOWED] >> place & 1 == 0 || window.contains(&end)
+    }
+
     /// Is the state valid for this table, but for starts?
     pub(crate) fn sound(&self, state: &[u64]) -> bool {
         state[STATE_RULES] == self.0[RULES]
@@ -129,7 +135,7 @@ impl Table<'_> {
         let mut places = Vec::new();
         for (run, (found, end)) in runs.into_iter().enumerate() {
             for place in (0..self.rules()).filter(|a| found >> a & 1 == 1) {
-                if marks >> place & 1 == 1 {
+                if marks >> place & 1 == 1 || !self.inside(place, end) {
                     continue;
                 }
                 places.push((run, place, end));

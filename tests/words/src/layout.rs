@@ -6,7 +6,7 @@ use std::ops::Range;
 use crate::gaps::{FIRST_GAPS, FOLLOW_GAPS, LAST_GAPS};
 
 pub const TABLE_WORDS: usize = 16_384;
-pub const FORMAT: u64 = u64::from_be_bytes(*b"watcher5");
+pub const FORMAT: u64 = u64::from_be_bytes(*b"watcher6");
 pub const MAX_RULES: usize = 64;
 pub const MAX_POSITIONS: usize = 256;
 /// How many bytes a stream may have.
@@ -55,6 +55,19 @@ pub const LEFTMOSTS: usize = 704;
 /// The set of positions that keep the start of a match.
 pub const KEEPERS: usize = 712;
 
+/// The rules with a window of end offsets, a bit for each place.
+pub const WINDOWED: usize = 706;
+
+/// The smallest end offset of the rule in this place.
+pub const fn lowest(place: usize) -> usize {
+    768 + place
+}
+
+/// The largest.
+pub const fn highest(place: usize) -> usize {
+    832 + place
+}
+
 /// The set of positions that take the byte.
 pub const fn takers(byte: u8) -> usize {
     4_096 + 4 * byte as usize
@@ -78,6 +91,8 @@ pub enum Region {
     Openers,
     Owners,
     Leftmosts,
+    /// The rules with a window, and the windows.
+    Windows,
     Keepers,
     Takers,
     Follows,
@@ -87,7 +102,7 @@ pub enum Region {
 }
 
 /// The whole table, from its first word to its last.
-pub const REGIONS: [(Region, Range<usize>); 19] = [
+pub const REGIONS: [(Region, Range<usize>); 21] = [
     (Region::Header, 0..SINGLES),
     (Region::Singles, SINGLES..last(0)),
     (Region::Lasts, last(0)..last(LAST_GAPS)),
@@ -98,11 +113,13 @@ pub const REGIONS: [(Region, Range<usize>); 19] = [
     (Region::Owners, owner(0)..owner(MAX_POSITIONS)),
     (Region::Leftmosts, LEFTMOSTS..LEFTMOSTS + 1),
     (Region::Unused, 705..706),
-    (Region::Kept, 706..708),
+    (Region::Windows, WINDOWED..WINDOWED + 1),
+    (Region::Kept, 707..708),
     (Region::Unused, 708..KEEPERS),
     (Region::Keepers, KEEPERS..KEEPERS + 4),
     (Region::Unused, 716..768),
-    (Region::Kept, 768..960),
+    (Region::Windows, lowest(0)..highest(MAX_RULES)),
+    (Region::Kept, 896..960),
     (Region::Unused, 960..4_096),
     (Region::Takers, takers(0)..takers(255) + 4),
     (Region::Follows, follow(0, 0)..follow(FOLLOW_GAPS, 0)),

@@ -8,8 +8,8 @@ use Rattle.rules.proofs.write.put_place.Tie as tie
 place-of-requires : tie.Need-place-of-requires
 place-of-requires c κs = omega arith
 
-put-id-requires : tie.Need-put-id-requires
-put-id-requires c κs = omega arith
+put-number-requires : tie.Need-put-number-requires
+put-number-requires c κs = omega arith
 
 put-digits-requires : tie.Need-put-digits-requires
 put-digits-requires c κs = omega arith
@@ -35,8 +35,8 @@ returns c =
     let ids = singles .before .before .before .before in
     let place = ids .before .before in
     let a = place .before .before .before .args in
-    place-is (a .rules) (a .n) (a .more) (a .id) (place .place-of .result) (a .single) (a .leftmost) (now (a .words)) (ids .put-id .last .0) (singles .put-digits .last .0)
-    (leftmosts .put-digits2 .last .0) (owners .put-owners .last .0) (keepers .put-keepers .last .0) (place .place-of .ensures .1) (ids .put-id .ensures) (singles .put-digits .ensures)
+    place-is (a .rules) (a .n) (a .more) (a .id) (place .place-of .result) (a .single) (a .leftmost) (now (a .words)) (ids .put-number .last .0) (singles .put-digits .last .0)
+    (leftmosts .put-digits2 .last .0) (owners .put-owners .last .0) (keepers .put-keepers .last .0) (place .place-of .ensures .1) (ids .put-number .ensures) (singles .put-digits .ensures)
     (leftmosts .put-digits2 .ensures) (owners .put-owners .ensures) (keepers .put-keepers .ensures)
 
 pub put-place-spec : {M : Type 1} → statement M
@@ -44,7 +44,7 @@ put-place-spec =
     tie.close
     (tie.spec
     place-of-requires
-    put-id-requires
+    put-number-requires
     put-digits-requires
     put-digits-requires-2
     put-owners-requires

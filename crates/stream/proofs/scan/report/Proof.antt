@@ -4,6 +4,7 @@ use mathlib.Core.Path.{_≡_, refl, sym, ap, _∙_}
 use mathlib.Core.Bool.{Bool, true, false, true≢false, not, _||_, _&&_}
 use mathlib.Core.List.{List}
 use Prim.Native.Nat.{ℕ, suc, _^_, _<_, _≤_}
+use native.Mathlib.Numerals.{add-one}
 use denote.Ref.{now}
 use Rattle.sets.specs.Set.{on, has, any, unionOf}
 use Rattle.kinds.specs.declared.Side.{Side}
@@ -12,8 +13,7 @@ use Rattle.table.specs.Gaps.{between, unsettled}
 use Rattle.table.specs.Automaton.{Automaton, automaton}
 use Rattle.table.proofs.Test.{passes}
 use Rattle.table.proofs.Members.{on-places}
-use Rattle.steps.specs.Step.{ends, endsNewly, lastsOf, latesOf, lateIn, rulesWhere}
-use Rattle.steps.proofs.TableSets.{number-on}
+use Rattle.steps.specs.Step.{ends, endsNewly, lastsOf, latesOf, lateIn, rulesWhere, windowed}
 use Rattle.stream.specs.Byte.{given}
 use Rattle.stream.specs.Calls.{Lists, lists}
 use Rattle.stream.specs.Invariants.{waitsIn, Delivered}
@@ -30,10 +30,10 @@ not-true false e = refl
 
 module _ (w : Automaton) (live next : List ℕ) (old new : Side) (marks gap : ℕ) (l : Lists) where
   abbrev late-test : ℕ → Bool
-  late-test = endsNewly w (between old new) (lateIn w live) unsettled live
+  late-test = windowed w (endsNewly w (between old new) (lateIn w live) unsettled live) gap
 
   abbrev own-test : ℕ → Bool
-  own-test = ends w unsettled next
+  own-test = windowed w (ends w unsettled next) (suc gap)
 
   -- no position waits for the byte, and none can end a match with it
   module _ (waits some : Bool) (enders : List ℕ) (waits-is : waits ≡ waitsIn w live) (enders-is : enders ≡ unionOf (lastsOf w) (latesOf w))
@@ -54,7 +54,8 @@ module _ (w : Automaton) (live next : List ℕ) (old new : Side) (marks gap : �
     quiet : marks < 2 ^ 64 → Delivered w late-test own-test marks (given w gap) (given w (suc gap)) l false 0 marks l
     quiet small =
         delivered-quiet w marks (given w gap) (given w (suc gap)) l late-test own-test
-        (λ a h. late-gate w live (between old new) unsettled a (sym waits-is ∙ neither .0)) (λ a h. gate w next a (none .0)) small
+        (λ a h. ap (λ (b : Bool). b && w .inside a gap) (late-gate w live (between old new) unsettled a (sym waits-is ∙ neither .0)))
+        (λ a h. ap (λ (b : Bool). b && w .inside a (suc gap)) (gate w next a (none .0))) small
 
   -- the words of the rules that end say what the tests say
   module _ (few : w .rules ≤ 64) (late own : ℕ) (late-is : late ≡ rulesWhere w late-test) (own-is : own ≡ rulesWhere w own-test) where
@@ -94,11 +95,14 @@ returns c =
 late-rules-requires : tie.Need-late-rules-requires
 late-rules-requires c κs = let start = begun (c .before) in (start .pre .0, start .pre .2)
 
-ending-requires : tie.Need-ending-requires
-ending-requires c κs = tt
+add-own-rules : tie.Need-add-own-rules
+add-own-rules c = record { fits = begun (c .before .before) .pre .3 }
+
+own-rules-requires : tie.Need-own-rules-requires
+own-rules-requires c κs = begun (c .before .before) .pre .0
 
 -- what is known where both words of rules were found
-module _ (e : tie.After-ending) where
+module _ (e : tie.After-own-rules) where
   abbrev start : tie.Start
   start = begun (e .before .before .before)
 
@@ -111,8 +115,8 @@ module _ (e : tie.After-ending) where
   few : automaton t .rules ≤ 64
   few = rules-few t (passes t (start .pre .0) .rules)
 
-  own : e .ending .result ≡ rulesWhere (automaton t) (ends (automaton t) unsettled (start .args .next))
-  own = e .ending .ensures ∙ number-on t (rulesWhere (automaton t) (ends (automaton t) unsettled (start .args .next))) (passes t (start .pre .0) .long)
+  own : e .own-rules .result ≡ rulesWhere (automaton t) (windowed (automaton t) (ends (automaton t) unsettled (start .args .next)) (suc (start .args .offset)))
+  own = e .own-rules .ensures ∙ ap (λ (n : ℕ). rulesWhere (automaton t) (windowed (automaton t) (ends (automaton t) unsettled (start .args .next)) n)) (add-one (start .args .offset))
 
 deliver-requires : tie.Need-deliver-requires
 deliver-requires c κs =
@@ -121,8 +125,8 @@ deliver-requires c κs =
     let late = found .before .late-rules in (
       start found .pre .0,
       start found .pre .1 .single-is,
-      late-alone (automaton (t found)) (a .live) (a .next) (a .old) (a .new) (a .reported) (a .offset) (lent found) (few found) (late .result) (found .ending .result) (late .ensures) (own found),
-      own-alone (automaton (t found)) (a .live) (a .next) (a .old) (a .new) (a .reported) (a .offset) (lent found) (few found) (late .result) (found .ending .result) (late .ensures) (own found),
+      late-alone (automaton (t found)) (a .live) (a .next) (a .old) (a .new) (a .reported) (a .offset) (lent found) (few found) (late .result) (found .own-rules .result) (late .ensures) (own found),
+      own-alone (automaton (t found)) (a .live) (a .next) (a .old) (a .new) (a .reported) (a .offset) (lent found) (few found) (late .result) (found .own-rules .result) (late .ensures) (own found),
       start found .pre .3,
     )
 
@@ -144,7 +148,7 @@ returns-2 c =
     let late = found .before .late-rules in
     let last = r .last .1 .1 .1 .1 .1 .1 in (
       c .meets2 .ensures ∙ ap (λ (s : List ℕ). any maxPositions (λ q. has (a .next) q && has s q)) (start found .pre .1 .late-is),
-      looked (automaton (t found)) (a .live) (a .next) (a .old) (a .new) (a .reported) (a .offset) (lent found) (few found) (late .result) (found .ending .result) (late .ensures) (own found)
+      looked (automaton (t found)) (a .live) (a .next) (a .old) (a .new) (a .reported) (a .offset) (lent found) (few found) (late .result) (found .own-rules .result) (late .ensures) (own found)
           (r .result .full) (r .result .reports) (r .result .reported) (lists (last .0) (last .1 .0)) (r .ensures),
     )
 
@@ -155,7 +159,8 @@ report-spec =
     meets-requires
     returns
     late-rules-requires
-    ending-requires
+    add-own-rules
+    own-rules-requires
     deliver-requires
     meets-requires-2
     same-length

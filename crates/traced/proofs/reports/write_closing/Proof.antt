@@ -1,16 +1,21 @@
 -- `traced::reports::write_closing` meets its contract: the held pairs, then those that need the
 -- end.
-use mathlib.Core.Path.{_≡_, _∙_}
+use mathlib.Core.Path.{_≡_, ap, _∙_}
+use mathlib.Core.Bool.{Bool}
+use mathlib.Core.List.{List}
 use Prim.Native.Nat.{ℕ, _*_, _^_, _<_, _≤_}
 use borrow.Author.Needs.{needs}
 use denote.Ref.{now}
-use lib.Bits.{bitAnd}
-use Rattle.table.specs.Layout.{rulesOf}
+use lib.ListN.{length}
+use Rattle.sets.specs.Set.{on, unionOf}
+use Rattle.table.specs.Layout.{tableWords}
+use Rattle.table.specs.Gaps.{unsettled, atEnd}
 use Rattle.table.specs.Automaton.{automaton, single}
 use Rattle.table.proofs.Test.{passes}
-use Rattle.steps.specs.Step.{rulesWhere}
+use Rattle.steps.specs.Step.{endsNewly, rulesWhere, windowed}
 use Rattle.steps.proofs.TableSets.{number-on}
-use Rattle.stream.specs.Byte.{endTest}
+use Rattle.steps.proofs.Sifting.{window-is}
+use Rattle.stream.specs.Byte.{heldTest, endTest}
 use Rattle.stream.proofs.Bounds.{rules-few}
 use Rattle.stream.proofs.Accepting.{pending-rules}
 use Rattle.stream.proofs.Runs.{alone}
@@ -29,74 +34,86 @@ state c = stateOf (c .args .s) (now (c .args .live)) (now (c .args .held)) (now 
 small : (c : tie.Start) → c .args .s .pending < 2 ^ 64
 small c = search needs
 
--- what is known once the rules are found
-module _ (c : tie.After-end-starts) where
+-- what is known once the rules of both runs are found
+module _ (c : tie.After-in-window2) where
   abbrev start : tie.Start
   start =
       let i = c .before .before .before .before .before .before in
-      i .before .before .before
+      i .before .before .before .before
 
-  found-is : c .before .before .closing .result ≡ rulesWhere (automaton (now (start .args .words))) (endTest (automaton (now (start .args .words))) (start .args .s))
+  abbrev table : List ℕ
+  table = now (start .args .words)
+
+  long : tableWords ≤ length table
+  long = passes table (start .pre .0) .long
+
+  abbrev ends-late : ℕ → Bool
+  ends-late = let s = start .args .s in endsNewly (automaton table) (atEnd (s .last)) (unionOf (s .live) (s .held)) unsettled (s .live)
+
+  found-is : c .in-window2 .result ≡ rulesWhere (automaton table) (endTest (automaton table) (start .args .s))
   found-is =
-      let t = now (start .args .words) in
-      c .before .before .closing .ensures ∙ number-on t (rulesWhere (automaton t) (endTest (automaton t) (start .args .s))) (passes t (start .pre .0) .long)
+      window-is table ends-late (start .args .s .taken) long
+      (c .before .closing .ensures ∙ number-on table (rulesWhere (automaton table) ends-late) long) (c .in-window2 .ensures)
 
-  flags : c .before .leftmosts .result ≡ rulesWhere (automaton (now (start .args .words))) (automaton (now (start .args .words)) .leftmost)
-  flags =
-      let t = now (start .args .words) in
-      c .before .leftmosts .ensures ∙ number-on t (rulesWhere (automaton t) (automaton t .leftmost)) (passes t (start .pre .0) .long)
+  kept-is : c .before .before .in-window .result ≡ rulesWhere (automaton table) (heldTest (automaton table) (start .args .s))
+  kept-is =
+      let w = automaton table in
+      let s = start .args .s in
+      let earlier = c .before .before .before .before-last in
+      window-is table (on (s .pending)) (earlier .result) long (pending-rules w s (start .pre .1) (small start)) (c .before .before .in-window .ensures)
+      ∙ ap (λ (e : ℕ). rulesWhere w (windowed w (on (s .pending)) e)) (earlier .ensures)
 
-  few : automaton (now (start .args .words)) .rules ≤ 64
-  few = rules-few (now (start .args .words)) (passes (now (start .args .words)) (start .pre .0) .rules)
+  few : automaton table .rules ≤ 64
+  few = rules-few table (passes table (start .pre .0) .rules)
+
+flags : (c : tie.After-leftmosts) → c .leftmosts .result ≡ rulesWhere (automaton (table (c .before))) (automaton (table (c .before)) .leftmost)
+flags c = let t = table (c .before) in c .leftmosts .ensures ∙ number-on t (rulesWhere (automaton t) (automaton t .leftmost)) (long (c .before))
 
 abbrev found : tie.After-write-two-arg4 → tie.After-end-starts
-found c =
-    let i = c .before .before .before .before .before .before in
-    i .before
+found c = c .before .before .before .before .before .before
 
 twice : (c : tie.Start) → 2 * automaton (now (c .args .words)) .rules ≤ space (lists (now (c .args .ids)) (now (c .args .offsets)) (now (c .args .starts)) (now (c .args .relatives)))
 unfolding automaton
 twice c = c .pre .4
 
+before-last-requires : tie.Need-before-last-requires
+before-last-requires c κs = tt
+
+in-window-requires : tie.Need-in-window-requires
+in-window-requires c κs = tt
+
 closing-requires : tie.Need-closing-requires
 closing-requires c κs = tt
+
+in-window-requires-2 : tie.Need-in-window-requires-2
+in-window-requires-2 c κs = tt
 
 leftmosts-requires : tie.Need-leftmosts-requires
 leftmosts-requires c κs = tt
 
 end-starts-requires : tie.Need-end-starts-requires
-end-starts-requires c κs =
-    let back = c .before .before .before .before .before .before in
-    let c-start = back .before .before in
-    passes (now (c-start .args .words)) (c-start .pre .0) .long
+end-starts-requires c κs = long (c .before)
 
 singles-requires : tie.Need-singles-requires
 singles-requires c κs = tt
 
-before-last-requires : tie.Need-before-last-requires
-before-last-requires c κs = tt
-
 write-two-requires : tie.Need-write-two-requires
 write-two-requires c κs =
-    let c-before-last = c .before .before .before .before .before-last in
-    let c-singles = c .before .before .before .before .before .before .singles in
-    let back = c .before .before .before .before .before .before in
-    let c-end-starts = back .before .end-starts in
-    let c-leftmosts = back .before .before .leftmosts in
-    let c-closing = back .before .before .before .closing in
-    let o = found c in
+    let k = found c in
+    let o = k .before .before in
     let s = start o in
     let a = s .args in
-    let t = now (a .words) in
-    let w = automaton t in (
+    let t = table o in
+    let w = automaton t in
+    let earlier = o .before .before .before .before-last in (
       s .pre .0,
-      record { single-is = c-singles .ensures ∙ number-on t (rulesWhere w (single w)) (passes t (s .pre .0) .long); leftmost-is = flags o; first-small = s .pre .2 },
+      record { single-is = c .before .before .before .before .before .singles .ensures ∙ number-on t (rulesWhere w (single w)) (long o); leftmost-is = flags (k .before); first-small = s .pre .2 },
       s .pre .3,
-      starts-small (a .s .taken) (c-end-starts .ensures) (end-under w (state s)) (s .pre .2),
-      pending-rules w (a .s) (s .pre .1) (small s),
+      starts-small (a .s .taken) (k .end-starts .ensures) (end-under w (state s)) (s .pre .2),
+      alone w (heldTest w (a .s)) (kept-is o),
       alone w (endTest w (a .s)) (found-is o),
-      closing-room w (few o) (state s) (c-closing .result) (c-leftmosts .result) (found-is o) (flags o) (c-before-last .result) (c-before-last .ensures) (c-end-starts .result) (c-end-starts .ensures)
-          _ (twice s),
+      closing-room w (few o) (state s) (o .before .before .in-window .result) (o .in-window2 .result) (k .before .leftmosts .result) (kept-is o) (found-is o) (flags (k .before))
+          (earlier .result) (earlier .ensures) (k .end-starts .result) (k .end-starts .ensures) _ (twice s),
     )
 
 same-length : tie.Need-same-length
@@ -122,27 +139,24 @@ same-length-4 c =
 returns : tie.Need-returns
 returns c =
     let back = c .before .before .before .before .before .before in
-    let c-write-two = back .before .write-two in
-    let c-before-last = back .before .before .before .before .before .before .before-last in
-    let further = back .before .before .before .before .before .before in
-    let c-end-starts = further .before .before .before .end-starts in
-    let c-leftmosts = further .before .before .before .before .leftmosts in
-    let c-closing = further .before .before .before .before .before .closing in
-    let t = c .before .before .before .before .before .before in
-    let o = found (t .before .before) in
+    let k = found (back .before .before) in
+    let o = k .before .before in
     let s = start o in
-    ended (automaton (now (s .args .words))) (few o) (state s) (c-closing .result) (c-leftmosts .result) (found-is o) (flags o) (c-before-last .result) (c-before-last .ensures)
-    (c-end-starts .result) (c-end-starts .ensures) (c-write-two .ensures)
+    let earlier = o .before .before .before .before-last in
+    ended (automaton (table o)) (few o) (state s) (o .before .before .in-window .result) (o .in-window2 .result) (k .before .leftmosts .result) (kept-is o) (found-is o) (flags (k .before))
+    (earlier .result) (earlier .ensures) (k .end-starts .result) (k .end-starts .ensures) (back .before .write-two .ensures)
 
 pub write-closing-spec : {M : Type 1} → statement M
 write-closing-spec =
     tie.close
     (tie.spec
+    before-last-requires
+    in-window-requires
     closing-requires
+    in-window-requires-2
     leftmosts-requires
     end-starts-requires
     singles-requires
-    before-last-requires
     write-two-requires
     same-length
     same-length-2

@@ -7,12 +7,14 @@ use Prim.Native.Nat.{ℕ}
 use denote.Ref.{now}
 use Rattle.sets.specs.Set.{has, any}
 use Rattle.kinds.specs.declared.Side.{Side}
+use Rattle.kinds.specs.Side.{sideOf}
 use Rattle.table.specs.Layout.{maxPositions}
 use Rattle.table.specs.Gaps.{between, unsettled}
 use Rattle.table.specs.Automaton.{Automaton, automaton}
 use Rattle.table.proofs.Test.{passes}
 use Rattle.steps.specs.Step.{endsNewly, lateIn, latesOf, rulesWhere}
 use Rattle.steps.proofs.TableSets.{number-on}
+use Rattle.steps.proofs.Sifting.{window-is}
 use Rattle.stream.specs.declared.Stream.{Stream}
 use Rattle.stream.specs.Byte.{lateTest}
 use Rattle.stream.proofs.Runs.{rules-none}
@@ -24,7 +26,8 @@ late-none : (w : Automaton) (s : Stream) (x : ℕ) (late : List ℕ) → late �
     → 0 ≡ rulesWhere w (lateTest w s x)
 late-none w s x late is e =
     rules-none w (lateTest w s x)
-    (λ a h. late-gate w (s .live) _ unsettled a (ap (λ (l : List ℕ). any maxPositions (λ q. has (s .live) q && has l q)) (sym is) ∙ e))
+    (λ a h. ap (λ (b : Bool). b && w .inside a (s .taken))
+    (late-gate w (s .live) (between (s .last) (sideOf x)) unsettled a (ap (λ (l : List ℕ). any maxPositions (λ q. has (s .live) q && has l q)) (sym is) ∙ e)))
 
 meets-requires : tie.Need-meets-requires
 meets-requires c κs = tt
@@ -35,19 +38,25 @@ side-of-requires c κs = tt
 late-ending-requires : tie.Need-late-ending-requires
 late-ending-requires c κs = tt
 
+in-window-requires : tie.Need-in-window-requires
+in-window-requires c κs = tt
+
 returns : tie.Need-returns
 returns c =
-    let c-late-ending = c .late-ending in
-    let c-side-of = c .before .side-of in
+    let c-late-ending = c .before .late-ending in
+    let c-side-of = c .before .before .side-of in
     let back = c .before .before .before .before .before .before in
-    let c-start = back .before in
+    let c-start = back .before .before in
     let a = c-start .args in
     let s = a .s in
     let t = now (a .words) in
     let w = automaton t in
-    c-late-ending .ensures
-    ∙ number-on t (rulesWhere w (endsNewly w (between (s .last) (c-side-of .result)) (lateIn w (s .live)) unsettled (s .live))) (passes t (c-start .pre .0) .long)
-    ∙ ap (λ (y : Side). rulesWhere w (endsNewly w (between (s .last) y) (lateIn w (s .live)) unsettled (s .live))) (c-side-of .ensures)
+    let long = passes t (c-start .pre .0) .long in
+    window-is t (endsNewly w (between (s .last) (sideOf (a .byte))) (lateIn w (s .live)) unsettled (s .live)) (s .taken) long
+    (c-late-ending .ensures
+    ∙ number-on t (rulesWhere w (endsNewly w (between (s .last) (c-side-of .result)) (lateIn w (s .live)) unsettled (s .live))) long
+    ∙ ap (λ (y : Side). rulesWhere w (endsNewly w (between (s .last) y) (lateIn w (s .live)) unsettled (s .live))) (c-side-of .ensures))
+    (c .in-window .ensures)
 
 returns-2 : tie.Need-returns-2
 returns-2 c =
@@ -58,4 +67,4 @@ returns-2 c =
     late-none (automaton (now (a .words))) (a .s) (a .byte) (a .gates .late) (c-start .pre .1 .late-is) (sym (c-meets .ensures) ∙ c-if1 .left)
 
 pub late-rules-spec : {M : Type 1} → statement M
-late-rules-spec = tie.close (tie.spec meets-requires side-of-requires late-ending-requires returns returns-2)
+late-rules-spec = tie.close (tie.spec meets-requires side-of-requires late-ending-requires in-window-requires returns returns-2)

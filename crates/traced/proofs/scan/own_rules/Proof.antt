@@ -9,8 +9,9 @@ use Rattle.table.specs.Layout.{maxPositions}
 use Rattle.table.specs.Gaps.{unsettled}
 use Rattle.table.specs.Automaton.{Automaton, automaton}
 use Rattle.table.proofs.Test.{passes}
-use Rattle.steps.specs.Step.{ends, lastsOf, rulesWhere}
+use Rattle.steps.specs.Step.{ends, lastsOf, rulesWhere, windowed}
 use Rattle.steps.proofs.TableSets.{number-on}
+use Rattle.steps.proofs.Sifting.{window-is}
 use Prim.Native.Nat.{ℕ}
 use Rattle.stream.proofs.Runs.{rules-none}
 use Rattle.stream.proofs.Quiet.{gate}
@@ -18,10 +19,10 @@ use Rattle.traced.proofs.scan.own_rules.Statement.{statement}
 use Rattle.traced.proofs.scan.own_rules.Tie as tie
 
 own-none : (w : Automaton) (next last : List ℕ) → last ≡ lastsOf w → any maxPositions (λ q. has next q && has last q) ≡ false
-    → 0 ≡ rulesWhere w (ends w unsettled next)
-own-none w next last is e =
-    rules-none w (ends w unsettled next)
-    (λ a h. gate w next a (ap (λ (l : List ℕ). any maxPositions (λ q. has next q && has l q)) (sym is) ∙ e))
+    → (end : ℕ) → 0 ≡ rulesWhere w (windowed w (ends w unsettled next) end)
+own-none w next last is e end =
+    rules-none w (windowed w (ends w unsettled next) end)
+    (λ a h. ap (λ (b : Bool). b && w .inside a end) (gate w next a (ap (λ (l : List ℕ). any maxPositions (λ q. has next q && has l q)) (sym is) ∙ e)))
 
 meets-requires : tie.Need-meets-requires
 meets-requires c κs = tt
@@ -29,14 +30,18 @@ meets-requires c κs = tt
 ending-requires : tie.Need-ending-requires
 ending-requires c κs = tt
 
+in-window-requires : tie.Need-in-window-requires
+in-window-requires c κs = tt
+
 returns : tie.Need-returns
 returns c =
-    let c-ending = c .ending in
-    let c-start = c .before .before .before .before .before in
+    let c-start = c .before .before .before .before .before .before in
     let a = c-start .args in
     let t = now (a .words) in
     let w = automaton t in
-    c-ending .ensures ∙ number-on t (rulesWhere w (ends w unsettled (a .next))) (passes t (c-start .pre .0) .long)
+    let long = passes t (c-start .pre .0) .long in
+    window-is t (ends w unsettled (a .next)) (a .end) long
+    (c .before .ending .ensures ∙ number-on t (rulesWhere w (ends w unsettled (a .next))) long) (c .in-window .ensures)
 
 returns-2 : tie.Need-returns-2
 returns-2 c =
@@ -44,7 +49,7 @@ returns-2 c =
     let c-meets = c .before .meets in
     let c-start = c .before .before .before .before in
     let a = c-start .args in
-    own-none (automaton (now (a .words))) (a .next) (a .gates .last) (c-start .pre .1 .last-is) (sym (c-meets .ensures) ∙ c-if1 .left)
+    own-none (automaton (now (a .words))) (a .next) (a .gates .last) (c-start .pre .1 .last-is) (sym (c-meets .ensures) ∙ c-if1 .left) (a .end)
 
 pub own-rules-spec : {M : Type 1} → statement M
-own-rules-spec = tie.close (tie.spec meets-requires ending-requires returns returns-2)
+own-rules-spec = tie.close (tie.spec meets-requires ending-requires in-window-requires returns returns-2)

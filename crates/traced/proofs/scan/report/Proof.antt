@@ -1,6 +1,6 @@
 -- `traced::scan::report` meets its contract: the reports do not fit, or the late run is written,
 -- the starts are carried along, and the byte's own run is written.
-use mathlib.Core.Path.{_≡_, refl, sym, ap, subst, _∙_}
+use mathlib.Core.Path.{_≡_, refl, sym, ap, ap₂, subst, _∙_}
 use mathlib.Core.Bool.{false, not, _&&_}
 use mathlib.Core.List.{List}
 use Prim.Native.Nat.{ℕ, suc, _+_, _^_, _<_, _≤_}
@@ -15,7 +15,7 @@ use Rattle.sets.specs.Set.{on, count}
 use Rattle.table.specs.Gaps.{unsettled}
 use Rattle.table.specs.Automaton.{Automaton, automaton}
 use Rattle.table.proofs.Test.{passes}
-use Rattle.steps.specs.Step.{ends, rulesWhere, startAt}
+use Rattle.steps.specs.Step.{ends, rulesWhere, windowed, startAt}
 use Rattle.stream.specs.Byte.{lateTest, ownTest, runReports}
 use Rattle.stream.proofs.Bounds.{rules-few}
 use Rattle.traced.specs.declared.Starts.{Starts}
@@ -37,25 +37,31 @@ few : (c : tie.Start) → automaton (now (c .args .words)) .rules ≤ 64
 few c = rules-few (now (c .args .words)) (passes (now (c .args .words)) (c .pre .0 .table) .rules)
 
 abbrev begun : tie.After-own-rules → tie.Start
-begun c = c .before .before .before .before .before .before
+begun c = let i = c .before .before .before .before .before .before in i .before
 
 -- the words of the rules that end
-late-is : (c : tie.After-own-rules) → c .before .late-rules .result ≡ rulesWhere (automaton (now (begun c .args .words))) (lateTest (automaton (now (begun c .args .words))) (begun c .args .s) (begun c .args .byte))
-late-is c = c .before .late-rules .ensures
+late-is : (c : tie.After-own-rules) → c .before .before .late-rules .result ≡ rulesWhere (automaton (now (begun c .args .words))) (lateTest (automaton (now (begun c .args .words))) (begun c .args .s) (begun c .args .byte))
+late-is c = c .before .before .late-rules .ensures
 
 own-is : (c : tie.After-own-rules) → c .own-rules .result ≡ rulesWhere (automaton (now (begun c .args .words))) (ownTest (automaton (now (begun c .args .words))) (begun c .args .s) (begun c .args .byte))
 own-is c =
     let w = automaton (now (begun c .args .words)) in
-    c .own-rules .ensures ∙ ap (λ (n : List ℕ). rulesWhere w (ends w unsettled n)) (begun c .pre .0 .next-is)
+    c .own-rules .ensures
+    ∙ ap₂ (λ (n : List ℕ) (e : ℕ). rulesWhere w (windowed w (ends w unsettled n) e)) (begun c .pre .0 .next-is) (add-one (begun c .args .s .taken))
 
 late-rules-requires : tie.Need-late-rules-requires
 late-rules-requires c κs =
     let c-start = c .before .before .before .before in
     (c-start .pre .0 .table, c-start .pre .0 .gates-are)
 
+add-own-rules : tie.Need-add-own-rules
+add-own-rules c =
+    let c-start = c .before .before .before .before .before .before in
+    omega (arith, c-start .pre .2)
+
 own-rules-requires : tie.Need-own-rules-requires
 own-rules-requires c κs =
-    let c-start = c .before .before .before .before .before in
+    let c-start = c .before .before .before .before .before .before in
     (c-start .pre .0 .table, c-start .pre .0 .gates-are)
 
 -- the marks of a state fit their word
@@ -80,7 +86,7 @@ module _ (c : tie.After-too-many) where
   w = automaton (now (s .args .words))
 
   abbrev late : ℕ
-  late = o .before .late-rules .result
+  late = o .before .before .late-rules .result
 
   abbrev own : ℕ
   own = o .own-rules .result
@@ -225,6 +231,7 @@ report-spec =
     tie.close
     (tie.spec
     late-rules-requires
+    add-own-rules
     own-rules-requires
     shortest-requires
     too-many-requires

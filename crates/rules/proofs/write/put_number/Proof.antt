@@ -1,10 +1,10 @@
--- `rules::write::put_id` meets its contract: the ids from the place on go one up, and the new one
+-- `rules::write::put_number` meets its contract: the numbers from the place on go one up, and the new one
 -- is written there.
 use native.Mathlib.Omega.{arith}
 use denote.Ref.{now}
-use Rattle.rules.proofs.Steps.{id-is}
-use Rattle.rules.proofs.write.put_id.Statement.{statement}
-use Rattle.rules.proofs.write.put_id.Tie as tie
+use Rattle.rules.proofs.Steps.{number-is}
+use Rattle.rules.proofs.write.put_number.Statement.{statement}
+use Rattle.rules.proofs.write.put_number.Tie as tie
 
 add-move-up : tie.Need-add-move-up
 add-move-up c = omega arith
@@ -32,10 +32,10 @@ returns c =
     let a = c .before .before .before .before .before .before .before .before .before .before .args in
     let moved = c .before .before .before .before .before .before .before .move-up in
     let put = c .before .before .put-words in
-    id-is (a .rules) (a .k) (a .id) (now (a .words)) (moved .last .0) (put .last .0) (moved .ensures) (put .ensures)
+    number-is (a .at) (a .rules) (a .k) (a .new) (now (a .words)) (moved .last .0) (put .last .0) (moved .ensures) (put .ensures)
 
-pub put-id-spec : {M : Type 1} → statement M
-put-id-spec =
+pub put-number-spec : {M : Type 1} → statement M
+put-number-spec =
     tie.close
     (tie.spec
     add-move-up
