@@ -161,46 +161,24 @@ pub fn store(words: &mut [u64], s: Stream)
     }
 }
 
-// The state with starts that no words are.
-fn no_traced() -> Traced
-    ensures { λ r. ⌜ r ≡ traceOf [] ⌝ }
-{
-    Traced {
-        stream: no_state(),
-        starts: Starts {
-            live: [0; 256],
-            held: [0; 256],
-            pairs: [0; 64],
-        },
-    }
-}
-
-// The state with starts in the first words.
-fn traced_in(words: &[u64]) -> Traced
-    requires { ⌜ traceWords ≤ length (now words) ⌝ }
-    ensures { λ r. ⌜ r ≡ traceOf (now (words .entry)) ⌝ }
-{
-    let stream = state_in(words);
-    let mut live = [0u64; 256];
-    let mut held = [0u64; 256];
-    let mut pairs = [0u64; 64];
-    copy(words, LIVE_AT, &mut live, 0, POSITION_STARTS);
-    copy(words, HELD_AT, &mut held, 0, POSITION_STARTS);
-    copy(words, PAIRS_AT, &mut pairs, 0, PAIR_STARTS);
-    Traced {
-        stream,
-        starts: Starts { live, held, pairs },
-    }
-}
-
-// The state with starts that words are.
+// The state with starts that words are. One function, since the compiler would copy the starts once
+// more for a second.
 pub fn load_traced(words: &[u64]) -> Traced
     ensures { λ r. ⌜ r ≡ stateIn tracedForm (now (words .entry)) ⌝ }
 {
-    if words.len() < TRACE_WORDS {
-        no_traced()
-    } else {
-        traced_in(words)
+    let mut stream = no_state();
+    let mut live = [0u64; 256];
+    let mut held = [0u64; 256];
+    let mut pairs = [0u64; 64];
+    if TRACE_WORDS <= words.len() {
+        stream = state_in(words);
+        copy(words, LIVE_AT, &mut live, 0, POSITION_STARTS);
+        copy(words, HELD_AT, &mut held, 0, POSITION_STARTS);
+        copy(words, PAIRS_AT, &mut pairs, 0, PAIR_STARTS);
+    }
+    Traced {
+        stream,
+        starts: Starts { live, held, pairs },
     }
 }
 
