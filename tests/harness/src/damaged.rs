@@ -453,10 +453,13 @@ fn made_up(rng: &mut Rng, words: &mut [u64]) {
     words[RULES] = rules;
     words[POSITIONS] = *rng.pick(&[0, 1, 63, 64, 65, 128, 255, 256]);
     words[SINGLES] = rng.word();
+    words[WINDOWED] = rng.word() & rng.word();
     let mut rising = 0;
     for place in 0..rules as usize {
         rising += 1 + rng.word() % 0x0380_0000;
         words[id(place)] = rising;
+        words[lowest(place)] = rng.word() % 4;
+        words[highest(place)] = rng.word() % 8;
     }
     let thin = rng.below(6);
     let sets = [Region::Lasts, Region::Lates, Region::Firsts, Region::Takers, Region::Follows];
@@ -503,6 +506,10 @@ fn in_use(rng: &mut Rng, words: &[u64], of: Region) -> usize {
         Region::Ids => id(rng.below(6)),
         Region::Openers => opener(byte(rng, words)),
         Region::Owners => owner(p),
+        Region::Windows => {
+            let place = rng.below(6);
+            *rng.pick(&[WINDOWED, lowest(place), highest(place)])
+        }
         Region::Keepers => KEEPERS + q,
         Region::Takers => takers(byte(rng, words)) + q,
         Region::Follows => follow(rng.below(FOLLOW_GAPS), p) + q,
