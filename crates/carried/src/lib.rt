@@ -2,8 +2,8 @@
 // smallest of each rule that ends. The starts of the positions before the byte are carried along
 // the rows of these positions, and of those that meet in one position the smallest is kept. Nothing
 // is required of a caller: each promise holds for any words, and of words too few for a table every
-// start is 0. specs/Step.antt of the crate `steps` says what each function gives, beside what a byte
-// makes of the live set.
+// start is 0. specs/Step.antt of the crate `steps` says what each function gives, beside what a
+// byte makes of the live set.
 use kinds::Side;
 use table::gaps::LAST_GAPS;
 use table::gaps::gap_of;

@@ -1,5 +1,5 @@
--- A number put in at a place of those that the rules have, one each from `at` on: the later ones are
--- moved up by one, and no other word changes.
+-- A number put in at a place of those that the rules have, one each from `at` on: the later ones
+-- are moved up by one, and no other word changes.
 use mathlib.Core.Path.{_≡_, sym, ap, _∙_}
 use mathlib.Core.List.{List, [], _∷_}
 use Prim.Native.Nat.{ℕ, _+_, _-_, _≤_, _<_}

@@ -1,5 +1,5 @@
--- The table with the new rule's window put in, and no rule yet: three regions of words change, which
--- nothing but the windows is read from. So it passes the test alike, and describes the same
+-- The table with the new rule's window put in, and no rule yet: three regions of words change,
+-- which nothing but the windows is read from. So it passes the test alike, and describes the same
 -- automaton but for windows.
 use mathlib.Core.Path.{_≡_, refl, sym, ap, ap₂, _∙_}
 use mathlib.Core.Bool.{Bool, true, false, cond, not, _&&_, _||_}

@@ -66,8 +66,8 @@ unfoldable pub placed : (used len : ℕ) → Read → Added
 placed used len (refused number place) = answer number place
 placed used len (tree x) = cond (ltb limit (used + positions (write x))) (answer 17 len) (answer 0 0)
 
--- "Additions check 1 to 5 in order", 24 right after 2, 26 right after 5, "then read the pattern left to right"; "1 to
--- 5 have place 0"; "An accepted one has place 0."
+-- "Additions check 1 to 5 in order", 24 right after 2, 26 right after 5, "then read the pattern
+-- left to right"; "1 to 5 have place 0"; "An accepted one has place 0."
 unfoldable pub addAnswer : List ℕ → Addition → Added
 addAnswer t a =
     cond (isTable t)

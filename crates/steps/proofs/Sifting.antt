@@ -1,5 +1,5 @@
--- The rules whose window has an end offset. Each turn takes the lowest digit that is left out of the
--- word of rules with a window, and drops it from those found unless its window has the offset.
+-- The rules whose window has an end offset. Each turn takes the lowest digit that is left out of
+-- the word of rules with a window, and drops it from those found unless its window has the offset.
 -- Assumes nothing.
 use mathlib.Core.Path.{_≡_, refl, sym, ap, ap₂, _∙_}
 use mathlib.Core.Bool.{Bool, true, false, true≢false, not, _&&_, _||_, and-true, and-false, and-assoc, or-true}

@@ -24,7 +24,8 @@ fn sift(found: u64, a: usize, end: u64, words: &[u64]) -> u64
     found & !(1 << a)
 }
 
-// Some rules without those whose window has not the end offset; `left` are those that have a window.
+// Some rules without those whose window has not the end offset; `left` are those that have a
+// window.
 fn sift_all(rules: u64, mut left: u64, end: u64, words: &[u64]) -> u64
     requires { ⌜ (tableWords ≤ length (now words)) × (left ≡ bitAnd rules (windowedOf (now words))) ⌝ }
     ensures { λ r. ⌜ r ≡ inWindow (automaton (now (words .entry))) rules end ⌝ }

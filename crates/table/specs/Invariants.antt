@@ -1,5 +1,5 @@
--- What private functions promise: the test of the ids, and those that write a table, those of the
--- crate rules too: a list with some words given by their index. No public contract cites it.
+-- What private functions promise: the test of the ids, and those that write a table. A list with
+-- some words given by their index (`over`) says in the crate rules what an addition leaves, too.
 use mathlib.Core.Bool.{cond}
 use mathlib.Core.List.{List, [], _∷_}
 use Prim.Native.Nat.{ℕ, suc, _+_, _-_, _^_, _<_}

@@ -1,8 +1,8 @@
 -- The worked cases that the product's rules mark P, "proved together, in one table", and those of
--- line mode, word edges and windows: each rule alone in an emptied table, and all of them in one. The rules
--- are pattern bytes and flags, the logs are cut as the rules cut them, and all else is worked out
--- by the definitions of the calls. The theorem is `worked-cases` of proofs/Cases.antt. Assumes
--- nothing: these are definitions.
+-- line mode, word edges and windows: each rule alone in an emptied table, and all of them in one.
+-- The rules are pattern bytes and flags, the logs are cut as the rules cut them, and all else is
+-- worked out by the definitions of the calls. The theorem is `worked-cases` of proofs/Cases.antt.
+-- Assumes nothing: these are definitions.
 use mathlib.Core.Path.{_≡_}
 use mathlib.Core.List.{List, [], _∷_, map, List·Memᴰ}
 use Prim.Native.Nat.{ℕ, suc, _*_, _-_, _^_, _≤_}

@@ -1,5 +1,5 @@
--- `rules::add_within` meets its contract: one law for each return, by the checks before it. The window
--- is put in first, and the rule into the words that come of it.
+-- `rules::add_within` meets its contract: one law for each return, by the checks before it. The
+-- window is put in first, and the rule into the words that come of it.
 use mathlib.Core.Path.{_≡_, sym, ap, ap₂, subst, _∙_}
 use mathlib.Core.List.{List}
 use Prim.Native.Nat.{ℕ, _+_, _≤_, _<_}

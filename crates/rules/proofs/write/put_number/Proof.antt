@@ -1,5 +1,5 @@
--- `rules::write::put_number` meets its contract: the numbers from the place on go one up, and the new one
--- is written there.
+-- `rules::write::put_number` meets its contract: the numbers from the place on go one up, and the
+-- new one is written there.
 use native.Mathlib.Omega.{arith}
 use denote.Ref.{now}
 use Rattle.rules.proofs.Steps.{number-is}

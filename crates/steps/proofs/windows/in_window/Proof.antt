@@ -1,5 +1,5 @@
--- `steps::windows::in_window` meets its contract: the rules with a window are the digits that the two
--- words share.
+-- `steps::windows::in_window` meets its contract: the rules with a window are the digits that the
+-- two words share.
 use mathlib.Core.Path.{refl, sym, _∙_}
 use native.Mathlib.Omega.{arith}
 use borrow.Author.Needs.{needs}

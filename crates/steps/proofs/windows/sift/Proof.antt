@@ -1,5 +1,5 @@
--- `steps::windows::sift` meets its contract: the digit is dropped where one of the two words refuses
--- the offset.
+-- `steps::windows::sift` meets its contract: the digit is dropped where one of the two words
+-- refuses the offset.
 use mathlib.Core.Path.{_≡_, sym, subst}
 use mathlib.Core.Bool.{Bool}
 use native.Mathlib.Omega.{arith}

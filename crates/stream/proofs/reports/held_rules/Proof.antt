@@ -1,5 +1,5 @@
--- `stream::reports::held_rules` meets its contract: the held pairs are those of rules, kept to those
--- in their window.
+-- `stream::reports::held_rules` meets its contract: the held pairs are those of rules, kept to
+-- those in their window.
 use mathlib.Core.Path.{ap, _∙_}
 use Prim.Native.Nat.{ℕ, _^_, _<_}
 use native.Mathlib.Omega.{arith}
