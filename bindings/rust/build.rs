@@ -1,5 +1,5 @@
-//! Links the static library `libwatcher.a`: from the folder that WATCHER_LIB names, or else from the
-//! repository's `target/staticlib`, where `tools/library` writes it.
+//! Links the static library `libwatcher.a`: from the folder that WATCHER_LIB names, or else from
+//! the repository's `target/staticlib`, where `tools/library` writes it.
 
 use std::env;
 use std::path::PathBuf;

@@ -140,8 +140,8 @@ impl Writer<'_> {
         place
     }
 
-    /// Puts a number for a new place among those of the rules, one each from `at` on; the later ones
-    /// move up by one.
+    /// Puts a number for a new place among those of the rules, one each from `at` on; the later
+    /// ones move up by one.
     fn put_number(&mut self, at: usize, place: usize, number: u64) {
         let rules = self.words[RULES] as usize;
         let numbers = &mut self.words[at..=at + rules];
