@@ -19,7 +19,8 @@ use Rattle.nodes.specs.Nodes.{Syntax}
 use Rattle.pattern.specs.Walk.{Read, tree, refused}
 use Rattle.pattern.specs.Read.{longest, optionsOf}
 use Rattle.pattern.proofs.Accepted.{reads-if}
-use Rattle.rules.specs.Add.{Addition, readingOf, singleStart, emptyWindow}
+use Rattle.pattern.specs.Windows.{emptyWindow}
+use Rattle.rules.specs.Add.{Addition, readingOf, singleStart}
 use Rattle.rules.specs.Additions.{Accepted, used, taken, nextAnswer}
 use Rattle.rules.proofs.Additions.{Accepts, accepts}
 use Rattle.demands.specs.Demands.{Refusal, unknown-flag, single-start, id-there, all-there, too-long, empty-window, in-pattern, no-room}
@@ -50,17 +51,17 @@ module _ (rs : List Accepted) (a : Addition) where
   one-tree : (x y : Syntax) → tree x ≡ tree y → x ≡ y
   one-tree x y e = ap (λ (r : Read). elim r [ tree z ↦ z | refused i j ↦ x ]) e
 
-  not-empty : Accepts rs a → a .highest < a .lowest → ⊥
+  not-empty : Accepts rs a → a .windows .largest-end < a .windows .smallest-end → ⊥
   unfolding emptyWindow
-  not-empty c h = true≢false (sym (lt-ltb (a .highest) (a .lowest) h) ∙ c .open-window)
+  not-empty c h = true≢false (sym (lt-ltb (a .windows .largest-end) (a .windows .smallest-end) h) ∙ c .open-window)
 
-  ordered : ¬ Refusal rs a → emptyWindow a ≡ false
+  ordered : ¬ Refusal rs a → emptyWindow (a .windows) ≡ false
   unfolding emptyWindow
-  ordered none = go (decLt (a .highest) (a .lowest))
+  ordered none = go (decLt (a .windows .largest-end) (a .windows .smallest-end))
     where
-      go : Dec (a .highest < a .lowest) → ltb (a .highest) (a .lowest) ≡ false
+      go : Dec (a .windows .largest-end < a .windows .smallest-end) → ltb (a .windows .largest-end) (a .windows .smallest-end) ≡ false
       go (yes l) = absurd (none (empty-window l))
-      go (no n) = le-ltb (a .highest) (a .lowest) (omega arith)
+      go (no n) = le-ltb (a .windows .largest-end) (a .windows .smallest-end) (omega arith)
 
   none-left : Accepts rs a → ¬ Refusal rs a
   none-left c (unknown-flag h) = h (c .known)

@@ -36,8 +36,9 @@ use Rattle.starts.specs.Order.{startsOk}
 use Rattle.traced.specs.Calls as traced-calls
 use Rattle.traced.specs.Calls.{Lists, Call, noStarts, space, inStream, fromOffset, written, scanNumber, closeNumber}
 use Rattle.traced.proofs.Accepting.{inOrder}
-use Rattle.traced.proofs.Same.{cost-after, fits-after}
-use Rattle.traced.proofs.Without.{plainly, state-plain, reports-plain, close-plain}
+use Rattle.traced.proofs.Same.{cost-after}
+use Rattle.traced.proofs.Without.{plainly, state-plain, reports-plain, fits-plain, close-plain}
+use Rattle.demands.proofs.Carried.{free-long}
 use Rattle.demands.specs.Alike.{bare, pairLists, pairCall, Roomy, times, zeroed, OpensAlike, ScansAlike, ClosesAlike, Alike}
 use Rattle.traced.proofs.Ordered.{order-list}
 
@@ -167,12 +168,6 @@ module _ (t : List ℕ) (needs : needsStarts (automaton t) ≡ false) (s : Strea
       scan-number t needs s (length (c .block)) (space (c .slots))
       ∙ ap (stream-calls.scanNumber t s (length (c .block))) room
 
-  took-same : first ≡ took
-  unfolding traced-calls.takenBy stream-calls.takenBy
-  took-same =
-      fits-after w (bare s) (c .block) (c .allowance) (space (c .slots)) (length (c .block))
-      ∙ ap (λ (r : ℕ). fits w s (c .allowance) (c .block) r (length (c .block))) room
-
   abbrev new : List stream-byte.Report
   new = reportsOf w s (c .block) took
 
@@ -181,11 +176,20 @@ module _ (t : List ℕ) (needs : needsStarts (automaton t) ≡ false) (s : Strea
     unfolding automaton
     few = passes t (accepted t s (length (c .block)) (stream-calls.space (pairLists (c .slots))) (eqb-true number 0 ok) .table) .rules
 
+    fitted : Fitting w s
+    fitted = accepted t s (length (c .block)) (stream-calls.space (pairLists (c .slots))) (eqb-true number 0 ok) .state
+
+    took-same : first ≡ took
+    unfolding traced-calls.takenBy stream-calls.takenBy
+    took-same =
+        fits-plain w needs (free-long t) few s (c .block) fitted (c .allowance) (space (c .slots)) (length (c .block))
+        ∙ ap (λ (r : ℕ). fits w s (c .allowance) (c .block) r (length (c .block))) room
+
     reports-same : reportsBy (traced w) (bare s) (c .block) first ≡ map plainly new
-    reports-same = ap (reportsBy (traced w) (bare s) (c .block)) took-same ∙ reports-plain w needs few s (c .block) took
+    reports-same = ap (reportsBy (traced w) (bare s) (c .block)) took-same ∙ reports-plain w needs (free-long t) few s (c .block) fitted took
 
     state-same : after (traced w) (bare s) (c .block) first ≡ bare (stateAfter w s (c .block) took)
-    state-same = ap (after (traced w) (bare s) (c .block)) took-same ∙ state-plain w needs few s (c .block) took
+    state-same = ap (after (traced w) (bare s) (c .block)) took-same ∙ state-plain w needs (free-long t) few s (c .block) fitted took
 
     cost-same : costBy (traced w) (bare s) (c .block) first ≡ costOf w s (c .block) took
     cost-same = ap (costBy (traced w) (bare s) (c .block)) took-same ∙ cost-after w (bare s) (c .block) took
@@ -212,7 +216,7 @@ module _ (t : List ℕ) (needs : needsStarts (automaton t) ≡ false) (s : Strea
           ≡ lifted (cond {A = Scanned} b (record { number = 0; taken = took; reports = length new; used = costOf w s (c .block) took; stream = stateAfter w s (c .block) took }) (record { number = number; taken = 0; reports = 0; used = 0; stream = s }))
       go true e = λ i. record {
         number = 0;
-        taken = took-same i;
+        taken = took-same e i;
         reports = (ap length (reports-same e) ∙ length-map new plainly) i;
         used = cost-same e i;
         traced = state-same e i;
@@ -258,7 +262,9 @@ module _ (t : List ℕ) (needs : needsStarts (automaton t) ≡ false) (s : Strea
   few-rules ok = passes t (table ok) .rules
 
   last-same : eqb told 0 ≡ true → closeReports v (bare s) ≡ map plainly last
-  last-same ok = close-plain v needs (few-rules ok) (bare s)
+  last-same ok =
+      let n : ℕ = stream-calls.space (pairLists l) in
+      close-plain v needs (free-long t) (few-rules ok) (bare s) (accepted t s 0 n (accepting.close-number t s n ∙ eqb-true told 0 ok) .state)
 
   close-alike : traced-calls.closed t (bare s) l
       ≡ record { number = stream-calls.closed t s (pairLists l) .number; reports = stream-calls.closed t s (pairLists l) .reports; traced = bare (stream-calls.closed t s (pairLists l) .stream) }

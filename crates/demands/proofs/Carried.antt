@@ -4,17 +4,17 @@
 -- Assumes nothing.
 use mathlib.Core.Path.{_≡_, refl, sym, subst, ap, ap₂, _∙_}
 use mathlib.Core.Logic.{_↔_}
-use mathlib.Core.Bool.{Bool, true, false, true≢false, _&&_, _||_, and-false}
+use mathlib.Core.Bool.{Bool, true, false, true≢false, not, _&&_, _||_, and-true, and-false, or-true}
 use mathlib.Core.List.{List, [], _∷_, map, List·Memᴰ, List·Memᴰ·head, List·Memᴰ·tail, Memᴰ·of-map, Memᴰ·map, Memᴰ·cast}
 use Prim.Native.Nat.{ℕ, _+_, _^_, _≤_, _<_}
 use native.Mathlib.Decide.{decLt}
 use native.Mathlib.Omega.{arith}
-use lib.Dec.{T, leb, ltb, leb→le, le→leb}
-use lib.ListN.{length}
-use borrow.Author.Tests.{lt-ltb, le-ltb}
+use lib.Dec.{T, eqb, leb, ltb, leb→le, le→leb}
+use lib.ListN.{length, getD}
+use borrow.Author.Tests.{eqb-true, lt-ltb, le-ltb}
 use Rattle.sets.specs.Set.{has, any}
 use Rattle.sets.proofs.Laws.{any-never, any-none}
-use Rattle.table.specs.Layout.{maxRules, maxPositions, rulesOf, positionsOf}
+use Rattle.table.specs.Layout.{maxRules, maxPositions, rulesOf, positionsOf, lengthsOf, shortestAt}
 use Rattle.table.specs.Gaps.{firstGaps, followGaps, lastGaps}
 use Rattle.table.specs.Automaton.{Automaton, automaton, single, starts, last as lastIn}
 use Rattle.table.proofs.Lates.{LatesAre}
@@ -30,6 +30,7 @@ use Rattle.rules.specs.Additions.{Accepted, ruleOf, size, used}
 use Rattle.rules.proofs.Sorted.{Placed, at, laid, byId, byId-rule, byId-mem, mem-at, laid-mem}
 use Rattle.rules.proofs.Additions.{Built}
 use Rattle.rules.proofs.Windows.{insideOf, inside-within}
+use Rattle.demands.specs.Demands.{needsStart}
 use Rattle.rules.proofs.Encodes.{Encodes, Of, itemOf, worldAt, takes-same, items-taken, starts-first}
 
 -- the written-out form of a rule
@@ -48,9 +49,13 @@ pub record Carries (w : Automaton) (rule : ℕ → Rule) (from : ℕ → ℕ) (t
   pub id-is : (a : ℕ) → a < w .rules → w .id a ≡ rule a .id
   pub single-is : (a : ℕ) → a < w .rules → single w a ≡ rule a .single
   pub leftmost-is : (a : ℕ) → a < w .rules → w .leftmost a ≡ rule a .starts
-  pub keeps-is : (a : ℕ) → a < w .rules → (q : ℕ) → Within (from a) (rule a) q → w .keeps q ≡ rule a .starts
+  pub keeps-is : (a : ℕ) → a < w .rules → (q : ℕ) → Within (from a) (rule a) q → w .keeps q ≡ needsStart (rule a)
   pub inside-is : (a : ℕ) → a < w .rules → (e : ℕ) → e < 2 ^ 64 → T (w .inside a e) ↔ AtOffset (rule a .windows) e
-  pub no-length : (a : ℕ) → a < w .rules → rule a .windows .smallest-length ≡ 0
+  -- a match that has reached a position counts once it is as long as its rule wants; every match does
+  -- where no start is kept
+  pub long-is : (a : ℕ) → a < w .rules → (q : ℕ) → Within (from a) (rule a) q → (s e : ℕ) → s ≤ e
+      → w .long q s e ≡ leb (s + rule a .windows .smallest-length) e
+  pub free-is : (q s e : ℕ) → w .keeps q ≡ false → w .long q s e ≡ true
   pub rising : (a b : ℕ) → a < b → b < w .rules → rule a .id < rule b .id
   pub inside : (a : ℕ) → a < w .rules → from a + positions (formOf (rule a)) ≤ w .positions
   pub covered : (q : ℕ) → q < w .positions → (a : ℕ) × (a < w .rules) × Within (from a) (rule a) q
@@ -92,6 +97,13 @@ rules-at t = refl
 pub positions-at : (t : List ℕ) → automaton t .positions ≡ positionsOf t
 unfolding automaton
 positions-at t = refl
+
+-- where a position keeps no start, every match that reaches it counts
+pub free-long : (t : List ℕ) (q s e : ℕ) → automaton t .keeps q ≡ false → automaton t .long q s e ≡ true
+unfolding automaton
+free-long t q s e none =
+    ap (λ (b : Bool). (eqb (lengthsOf t) 0 || not b) || leb (s + getD t (shortestAt q) 0) e) none
+    ∙ ap (λ (b : Bool). b || leb (s + getD t (shortestAt q) 0) e) (or-true (eqb (lengthsOf t) 0))
 
 -- a computed set is its relation
 pub by-set : {P : Type 0} (b c : Bool) → b ≡ c → T c ↔ P → T b ↔ P
@@ -140,7 +152,7 @@ module _ (t : List ℕ) (rs : List Accepted) (b : Built t rs) where
   abbrev from : ℕ → ℕ
   from a = at ps a .from
 
-  b-inside : (a : ℕ) → a < w .rules → (i : ℕ) → w .inside a i ≡ insideOf (at ps a .rule .lowest) (at ps a .rule .highest) i
+  b-inside : (a : ℕ) → a < w .rules → (i : ℕ) → w .inside a i ≡ insideOf (at ps a .rule .windows) i
   b-inside a lt i = e .rule a (in-list a lt) .inside-is i
 
   carries : Carries w rule from tab
@@ -153,11 +165,14 @@ module _ (t : List ℕ) (rs : List Accepted) (b : Built t rs) where
     keeps-is = λ a lt q i. e .rule a (in-list a lt) .keeps-is q i;
     inside-is = λ a lt e small.
         let r = at ps a .rule in
-        by-set (w .inside a e) (leb (r .lowest) e && leb e (r .highest)) (b-inside a lt e ∙ inside-within (r .lowest) (r .highest) e small) (
-          λ h. let x = and-T (leb (r .lowest) e) (leb e (r .highest)) .0 h in (leb→le (r .lowest) e (x .0), leb→le e (r .highest) (x .1)),
-          λ h. and-T (leb (r .lowest) e) (leb e (r .highest)) .1 (le→leb (r .lowest) e (h .0), le→leb e (r .highest) (h .1)),
+        let lo : ℕ = r .windows .smallest-end in
+        let hi : ℕ = r .windows .largest-end in
+        by-set (w .inside a e) (leb lo e && leb e hi) (b-inside a lt e ∙ inside-within (r .windows) e small) (
+          λ h. let x = and-T (leb lo e) (leb e hi) .0 h in (leb→le lo e (x .0), leb→le e hi (x .1)),
+          λ h. and-T (leb lo e) (leb e hi) .1 (le→leb lo e (h .0), le→leb e hi (h .1)),
         );
-    no-length = λ a lt. refl;
+    long-is = λ a lt q i. e .rule a (in-list a lt) .long-is q i;
+    free-is = free-long t;
     rising = λ a c l m. e .rising a c l (in-list c m);
     inside = λ a lt. e .rule a (in-list a lt) .within;
     covered = λ q l. let c = e .covered q l in (c .0, in-table (c .0) (c .1), c .2);
@@ -208,9 +223,13 @@ module _ (t : List ℕ) (rs : List Accepted) (b : Built t rs) where
 
 -- ---- which tables need a start
 
+unflagged : (b c : Bool) → (b || c) ≡ false → b ≡ false
+unflagged true c h = absurd (true≢false h)
+unflagged false c h = refl
+
 module _ (w : Automaton) (rule : ℕ → Rule) (from : ℕ → ℕ) (tab : ℕ → ByteSet) (enc : Carries w rule from tab) where
-  -- those with a rule that reports one
-  pub none-needed : ((a : ℕ) → a < w .rules → rule a .starts ≡ false) → needsStarts w ≡ false
+  -- those with a rule that needs one
+  pub none-needed : ((a : ℕ) → a < w .rules → needsStart (rule a) ≡ false) → needsStarts w ≡ false
   unfolding needsStarts
   none-needed none =
       ap₂ (λ (b c : Bool). b || c)
@@ -222,8 +241,23 @@ module _ (w : Automaton) (rule : ℕ → Rule) (from : ℕ → ℕ) (tab : ℕ �
       keeper q (no l) = ap (λ (b : Bool). w .keeps q && b) (le-ltb q (w .positions) (omega arith)) ∙ and-false (w .keeps q)
 
       rule-at : (a : ℕ) → Dec (a < w .rules) → (ltb a (w .rules) && w .leftmost a) ≡ false
-      rule-at a (yes l) = ap (λ (b : Bool). ltb a (w .rules) && b) (enc .leftmost-is a l ∙ none a l) ∙ and-false (ltb a (w .rules))
+      rule-at a (yes l) = ap (λ (b : Bool). ltb a (w .rules) && b) (enc .leftmost-is a l ∙ unflagged (rule a .starts) (not (eqb (rule a .windows .smallest-length) 0)) (none a l)) ∙ and-false (ltb a (w .rules))
       rule-at a (no l) = ap (λ (b : Bool). b && w .leftmost a) (le-ltb a (w .rules) (omega arith))
+
+  -- so none of their rules has a position and a smallest length
+  pub none-long : needsStarts w ≡ false → (a : ℕ) → a < w .rules → (q : ℕ) → Within (from a) (rule a) q → rule a .windows .smallest-length ≡ 0
+  unfolding needsStarts
+  none-long e a l q i =
+      let n : ℕ = rule a .windows .smallest-length in
+      let inside : q < w .positions = omega (arith, i .1, enc .inside a l) in
+      let off = any-none maxPositions (λ q. w .keeps q && ltb q (w .positions)) (unflagged (any maxPositions (λ q. w .keeps q && ltb q (w .positions))) (any maxRules (λ a. ltb a (w .rules) && w .leftmost a)) e) q (omega (arith, enc .few-positions)) in
+      let none : needsStart (rule a) ≡ false = sym (enc .keeps-is a l q i) ∙ sym (and-true (w .keeps q)) ∙ ap (λ (b : Bool). w .keeps q && b) (sym (lt-ltb q (w .positions) inside)) ∙ off in
+      eqb-true n 0 (unlong (rule a .starts) (eqb n 0) none)
+    where
+      unlong : (b c : Bool) → (b || not c) ≡ false → c ≡ true
+      unlong true c h = absurd (true≢false h)
+      unlong false true h = refl
+      unlong false false h = absurd (true≢false h)
 
   pub none-reports : needsStarts w ≡ false → (a : ℕ) → a < w .rules → rule a .starts ≡ false
   unfolding needsStarts

@@ -5,7 +5,7 @@ use mathlib.Core.Path.{_≡_, refl, sym, subst, subst₂, ap, _∙_}
 use mathlib.Core.Logic.{_⊎_, inl, inr, _↔_}
 use mathlib.Core.Bool.{Bool, true, false, true≢false, _&&_}
 use mathlib.Core.List.{List, _∷_}
-use Prim.Native.Nat.{ℕ, suc, _-_, _^_, _≤_, _<_}
+use Prim.Native.Nat.{ℕ, suc, _+_, _-_, _^_, _≤_, _<_, zero-le}
 use native.Mathlib.Omega.{arith}
 use native.Mathlib.Decide.{decLt}
 use lib.Dec.{eqb}
@@ -18,14 +18,14 @@ use Rattle.kinds.specs.Side.{sideOf}
 use Rattle.regex.specs.Tree.{Text}
 use Rattle.regex.specs.Form.{Reach}
 use Rattle.regex.specs.Gap.{last-line, Known, byte, edge, known-before, known-after}
-use Rattle.regex.specs.Rule.{Rule, Windows, no-windows, InWindows, ByteSet, Assertion, world, holds, stream}
+use Rattle.regex.specs.Rule.{Rule, InWindows, ByteSet, Assertion, world, holds, stream}
 use Rattle.regex.specs.Ordered.{closing-moment, Falls}
 use Rattle.regex.proofs.Relations.{Last}
-use Rattle.regex.proofs.Local.{reach-up}
 use Rattle.regex.proofs.Stream.{Same}
 use Rattle.regex.proofs.Base.{more-bytes}
 use Rattle.regex.proofs.Moments.{EndsAt, EndsLast, Moment, after, falls-line, falls-when}
-use Rattle.regex.proofs.Starts.{none-kept-out, ends-base, last-base}
+use Rattle.regex.proofs.Offsets.{unbounded}
+use Rattle.regex.proofs.Starts.{ends-base, last-base}
 use Rattle.demands.proofs.Carried.{formOf}
 
 pub newline-side : (x : ℕ) → x ≡ 10 → sideOf x ≡ Newline
@@ -36,37 +36,29 @@ module _ (bytes : List ℕ) (r : Rule) where
   abbrev n : ℕ
   n = length bytes
 
-  -- a way stands at a last position of a world
+  -- a way from a start that is early enough stands at a last position of a world
   abbrev pub Ending : (Assertion → Bool) → Text ByteSet Assertion → (b k : ℕ) → Type 0
-  Ending v t b k = (s : ℕ) × (p : ℕ) × Reach t (formOf r) b s p k × Last v (formOf r) b p
+  Ending v t b k = (s : ℕ) × (p : ℕ) × Reach t (formOf r) b s p k × Last v (formOf r) b p × (s + r .windows .smallest-length ≤ k)
 
-  -- of a rule without windows, with offsets of 64 bits
-  module _ (all : r .windows ≡ no-windows) (short : n < 2 ^ 64) where
-    inside : (s e : ℕ) → s < e → e ≤ n → InWindows (r .windows) s e
-    inside s e lt le = subst (λ (w : Windows). InWindows w s e) (sym all) (none-kept-out s e (omega arith) (omega arith))
+  -- of a rule without its window of end offsets, which have 64 bits
+  module _ (short : n < 2 ^ 64) where
+    inside : (s e : ℕ) → e ≤ n → s + r .windows .smallest-length ≤ e → InWindows (unbounded r .windows) s e
+    inside s e le long = (zero-le, omega arith, long)
 
     -- with byte k, where some bytes are known to follow
     pub ends-from : (k : ℕ) → k ≤ n → (rest : List ℕ) (e : Bool) → Same has holds (take k bytes) rest false e → (b : ℕ)
-        → EndsAt bytes r k (known-after rest e) (e && last-line rest)
+        → EndsAt bytes (unbounded r) k (known-after rest e) (e && last-line rest)
         ↔ Ending (world (known-before (take k bytes)) (known-after rest e) (e && last-line rest)) (stream (take k bytes) false) b k
     ends-from k le rest e stays b = (
-      λ h. let g = ends-base bytes r k le rest e stays b (h .0) .0 (h .1) in (h .0, g .0, g .1, g .2),
-      λ h. (
-        h .0,
-        ends-base bytes r k le rest e stays b (h .0) .1 (h .1, h .2, h .3),
-        inside (h .0) k (reach-up (stream (take k bytes) false) (formOf r) b (h .0) (h .1) k (h .2)) le,
-      ),
+      λ h. let g = ends-base bytes (unbounded r) k le rest e stays b (h .0) .0 (h .1) in (h .0, g .0, g .1, g .2, h .2 .2),
+      λ h. (h .0, ends-base bytes (unbounded r) k le rest e stays b (h .0) .1 (h .1, h .2, h .3), inside (h .0) k le (h .4)),
     )
 
     -- with the stream
-    pub last-from : (b : ℕ) → EndsLast bytes r ↔ Ending (world (known-before bytes) edge true) (stream bytes true) b n
+    pub last-from : (b : ℕ) → EndsLast bytes (unbounded r) ↔ Ending (world (known-before bytes) edge true) (stream bytes true) b n
     last-from b = (
-      λ h. let g = last-base bytes r b (h .0) .0 (h .1) in (h .0, g .0, g .1, g .2),
-      λ h. (
-        h .0,
-        last-base bytes r b (h .0) .1 (h .1, h .2, h .3),
-        inside (h .0) n (reach-up (stream bytes true) (formOf r) b (h .0) (h .1) n (h .2)) (omega arith),
-      ),
+      λ h. let g = last-base bytes (unbounded r) b (h .0) .0 (h .1) in (h .0, g .0, g .1, g .2, h .2 .2),
+      λ h. (h .0, last-base bytes (unbounded r) b (h .0) .1 (h .1, h .2, h .3), inside (h .0) n (omega arith) (h .4)),
     )
 
   -- ---- the pairs before a last newline

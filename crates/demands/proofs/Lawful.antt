@@ -19,7 +19,7 @@ use Rattle.stream.specs.Byte.{Machine, after, reportsBy, stateAfter}
 use Rattle.stream.specs.Valid.{streamLimit}
 use Rattle.stream.specs.Calls.{shut}
 use Rattle.stream.proofs.Machines.{after-front, reports-front, two-parts}
-use Rattle.stream.proofs.Blocks.{taken-after, closed-after}
+use Rattle.stream.proofs.Blocks.{blank, taken-after, closed-after}
 use Rattle.regex.specs.Ordered.{Report}
 use Rattle.demands.specs.Kinds.{Given, Kind}
 use Rattle.demands.specs.Chain.{tableAfter, numberOf, Item, scan, close, other, Fit, bytesOf, reportsOf, stateOf, OthersRefused, Closes, AllFit, offering, Roomy, Bytes, Blocks}
@@ -50,8 +50,8 @@ pub record Lawful {S L C R : Type 0} (k : Kind S L C) (t : List ℕ) (m : Machin
   pub close-state : (s : S) (l : L) → k .close t s l .number ≡ 0 → k .close t s l .state ≡ ended s
   pub close-reports : (s : S) (l : L) → k .close t s l .number ≡ 0 → k .close t s l .reports ≡ map out (final s)
   pub close-refused : (s : S) (l : L) → ¬ (k .close t s l .number ≡ 0) → (k .close t s l .reports ≡ []) × (k .close t s l .state ≡ s)
-  -- their streams
-  pub stream-after : (s : S) (block : List ℕ) (n : ℕ) → k .stream (after m s block n) ≡ stateAfter (automaton t) (k .stream s) block n
+  -- their streams, but for marks and held pairs
+  pub stream-after : (s : S) (block : List ℕ) (n : ℕ) → blank (k .stream (after m s block n)) ≡ blank (stateAfter (automaton t) (k .stream s) block n)
   pub stream-ended : (s : S) → k .stream (ended s) ≡ shut (k .stream s)
   -- the same scan of other bytes
   pub offer-block : (log : List ℕ) (c : C) → k .block (k .offer log c) ≡ log
@@ -291,23 +291,26 @@ module _ {S L C R : Type 0} (k : Kind S L C) (t : List ℕ) (m : Machine S R) (o
       let same : tableAfter t o ≡ t = kept t o (h .0) in
       subst (λ (u : List ℕ). Ends s (stateOf k u s l) (bytesOf k u s l)) (sym same) (state-is l s e (subst (λ (u : List ℕ). OthersRefused k u s l) same (h .1)))
 
-  -- what does not tell a closed state from an open one is that of the stream after the bytes
-  pub field-is : {A : Type 0} (f : Stream → A) → ((x : Stream) → f (shut x) ≡ f x) → (l : List (Item L C)) (s : S) → k .stream s .closed ≡ false → OthersRefused k t s l
+  -- what does not tell a closed state from an open one, and is no mark or held pair, is that of the
+  -- stream after the bytes
+  pub field-is : {A : Type 0} (f : Stream → A) → ((x : Stream) → f (shut x) ≡ f x) → ((x : Stream) → f x ≡ f (blank x)) → (l : List (Item L C)) (s : S) → k .stream s .closed ≡ false → OthersRefused k t s l
       → f (k .stream (stateOf k t s l)) ≡ f (stateAfter w (k .stream s) (bytesOf k t s l) (length (bytesOf k t s l)))
-  field-is f open-or-shut l s e h = go (state-is l s e h)
+  field-is f open-or-shut blind l s e h = go (state-is l s e h)
     where
-      b : List ℕ
-      b = bytesOf k t s l
+      same : f (k .stream (reached s (bytesOf k t s l))) ≡ f (stateAfter w (k .stream s) (bytesOf k t s l) (length (bytesOf k t s l)))
+      same =
+          blind (k .stream (reached s (bytesOf k t s l))) ∙ ap f (law .stream-after s (bytesOf k t s l) (length (bytesOf k t s l)))
+          ∙ sym (blind (stateAfter w (k .stream s) (bytesOf k t s l) (length (bytesOf k t s l))))
 
       go : Ends s (stateOf k t s l) (bytesOf k t s l) → f (k .stream (stateOf k t s l)) ≡ f (stateAfter w (k .stream s) (bytesOf k t s l) (length (bytesOf k t s l)))
-      go (inl x) = ap (λ (y : S). f (k .stream y)) x ∙ ap f (law .stream-after s (bytesOf k t s l) (length (bytesOf k t s l)))
+      go (inl x) = ap (λ (y : S). f (k .stream y)) x ∙ same
       go (inr x) =
           ap (λ (y : S). f (k .stream y)) x ∙ ap f (law .stream-ended (reached s (bytesOf k t s l))) ∙ open-or-shut (k .stream (reached s (bytesOf k t s l)))
-          ∙ ap f (law .stream-after s (bytesOf k t s l) (length (bytesOf k t s l)))
+          ∙ same
 
   -- The state's count of bytes is the number of bytes taken ..
   pub bytes-counted : (l : List (Item L C)) (s : S) → k .stream s .closed ≡ false → OthersRefused k t s l → k .stream (stateOf k t s l) .taken ≡ k .stream s .taken + length (bytesOf k t s l)
-  bytes-counted l s e h = field-is (λ x. x .taken) (λ x. refl) l s e h ∙ taken-after w (k .stream s) (bytesOf k t s l) (length (bytesOf k t s l))
+  bytes-counted l s e h = field-is (λ x. x .taken) (λ x. refl) (λ x. refl) l s e h ∙ taken-after w (k .stream s) (bytesOf k t s l) (length (bytesOf k t s l))
 
   -- .. and it is within the limit.
   pub within-limit : (l : List (Item L C)) (s : S) → k .stream s .taken ≤ streamLimit → OthersRefused k t s l → k .stream (stateOf k t s l) .taken ≤ streamLimit
@@ -371,8 +374,8 @@ module _ {S L C R : Type 0} (k : Kind S L C) (t : List ℕ) (m : Machine S R) (o
     ok : r .number ≡ 0
     ok = serves .scan-accepted s offered-scan fits running (omega (arith, same-length)) (subst (λ (l : L). 2 * rulesOf t ≤ k .space l) (sym (law .offer-slots log turn)) wide)
 
-    stream-is : k .stream (r .state) ≡ stateAfter (automaton t) (k .stream s) (k .block offered-scan) (r .taken)
-    stream-is = ap (k .stream) (law .scan-state s offered-scan ok) ∙ law .stream-after s (k .block offered-scan) (r .taken)
+    stream-is : blank (k .stream (r .state)) ≡ blank (stateAfter (automaton t) (k .stream s) (k .block offered-scan) (r .taken))
+    stream-is = ap (λ (y : S). blank (k .stream y)) (law .scan-state s offered-scan ok) ∙ law .stream-after s (k .block offered-scan) (r .taken)
 
     left : length (drop (r .taken) log) ≡ length log - r .taken
     left = length-drop (r .taken) log

@@ -10,16 +10,16 @@ use native.Mathlib.Omega.{arith}
 use lib.ListN.{length, getD}
 use Rattle.table.specs.Automaton.{Automaton, automaton}
 use Rattle.stream.specs.declared.Stream.{Stream}
-use Rattle.stream.specs.Byte.{Machine, after, plain, stateAfter, closeReports}
+use Rattle.stream.specs.Byte.{Machine, after, byteState, plain, stateAfter, closeReports}
 use Rattle.stream.specs.Calls.{Lists, Call, fresh, shut}
 use Rattle.regex.specs.Rule.{Rule, ByteSet}
 use Rattle.regex.specs.Ordered.{closing-moment, IsList, Report, report, Ordered}
 use Rattle.regex.proofs.Starts.{start-without}
 use Rattle.demands.specs.Kinds.{Kind, short}
 use Rattle.demands.specs.Chain.{Item, bytesOf, reportsOf, OthersRefused, Closes, Blocks}
-use Rattle.demands.proofs.Carried.{Carries}
+use Rattle.demands.proofs.Carried.{Carries, Within}
 use Rattle.demands.proofs.TwoRuns.{Told, Turn}
-use Rattle.demands.proofs.Tracked.{Tracked, opens, tracked, byte-tested, closing-tested}
+use Rattle.demands.proofs.Tracked.{Tracked, Counts, opens, all-count, all-wait, tracked, byte-tested, closing-tested}
 use Rattle.demands.proofs.Whole.{byteEntries, entriesOf, closingOf, wholeOf, whole}
 use Rattle.stream.proofs.Blocks.{taken-after}
 use Rattle.demands.proofs.Bytewise.{startless, plainAt, plainEnd, entries-given, byte-given, closing-given}
@@ -46,7 +46,8 @@ ordered-by k t m out final ended law rules s running l h c at last list each clo
 
 module _ (t : List ℕ) (rule : ℕ → Rule) (from : ℕ → ℕ) (tab : ℕ → ByteSet) (enc : Carries (automaton t) rule from tab) (rules : List Rule)
     (listed : (r : Rule) → List·Memᴰ r rules ↔ ((a : ℕ) × (a < automaton t .rules) × (r ≡ rule a))) (n p : ℕ)
-    (without : (a : ℕ) → a < automaton t .rules → rule a .starts ≡ false) where
+    (without : (a : ℕ) → a < automaton t .rules → rule a .starts ≡ false)
+    (none : (a : ℕ) → a < automaton t .rules → (q : ℕ) → Within (from a) (rule a) q → rule a .windows .smallest-length ≡ 0) where
   abbrev w : Automaton
   w = automaton t
 
@@ -59,20 +60,26 @@ module _ (t : List ℕ) (rule : ℕ → Rule) (from : ℕ → ℕ) (tab : ℕ �
   -- at every moment the tests and the marks say what they must, and 0 is the start
   module _ (bytes : List ℕ) (few : length bytes < 2 ^ 64) (small : (i : ℕ) → i < length bytes → getD bytes i 0 < 256) where
     at : (k : ℕ) → k < suc (length bytes) → Tracked w rule from tab enc bytes few k (stateAfter w s bytes k)
-    at k le = tracked w rule from tab enc bytes few small s (opens w rule from tab enc bytes few s refl refl refl refl refl) k (omega arith)
+    at k le = tracked w rule from tab enc bytes few none small s (opens w rule from tab enc bytes few s refl refl refl refl refl) k (omega arith)
+
+    -- all positions count
+    counts : (k : ℕ) (le : k < suc (length bytes)) → Counts w rule from tab enc bytes few k (stateAfter w s bytes k)
+    counts k le = all-count w rule from tab enc bytes few none k (stateAfter w s bytes k) (at k le .alive)
 
     turn : (k : ℕ) → k < length bytes → Turn w rule from tab enc bytes (suc k) k (suc k) (plainAt w s bytes k)
-    unfolding plainAt
+    unfolding plainAt after byteState
     turn k lk = record {
-      tested = byte-tested w rule from tab enc bytes few k lk (small k lk) (stateAfter w s bytes k) (at k (omega arith));
+      tested = byte-tested w rule from tab enc bytes few k lk (stateAfter w s bytes k) (stateAfter w s bytes (suc k)) (counts k (omega arith)) (counts (suc k) (omega arith))
+          (stateAfter w s bytes k .reported) (at k (omega arith) .marks);
       first-is = λ a lt some f. start-without bytes (rule a) (suc k) k (without a lt) 0 .1 refl;
       second-is = λ a lt f. start-without bytes (rule a) (suc k) (suc k) (without a lt) 0 .1 refl;
     }
 
     close : Turn w rule from tab enc bytes (closing-moment bytes) (length bytes - 1) (length bytes) (plainEnd w (last bytes))
     unfolding plainEnd
-    close = record {
-      tested = closing-tested w rule from tab enc bytes few (last bytes) (at (length bytes) (omega arith));
+    close = let end = at (length bytes) (omega arith) in record {
+      tested = closing-tested w rule from tab enc bytes few (last bytes) (counts (length bytes) (omega arith))
+          (all-wait w rule from tab enc bytes few none (length bytes) (last bytes) (end .waits)) (end .pending) (end .marks);
       first-is = λ a lt some f. start-without bytes (rule a) (closing-moment bytes) (length bytes - 1) (without a lt) 0 .1 refl;
       second-is = λ a lt f. start-without bytes (rule a) (closing-moment bytes) (length bytes) (without a lt) 0 .1 refl;
     }

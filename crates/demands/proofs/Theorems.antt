@@ -36,8 +36,8 @@ use Rattle.demands.specs.Chain.{additionsOf, Item, Roomy, offering, byte
 use Rattle.demands.specs.Demands.{Setting, Between, tableIn, acceptedIn, rulesIn, streamIn, Startless, Served, Calls, taken, joined, last, Acceptance, AcceptedExactly, Demand3, PairMeaning, Meaning, Total, BusyFigure, Validity, OfferedAgain, AdditionEndsStreams, ClosingEndsStream, AllHold, SameForCuttings, AllSame}
 use Rattle.demands.proofs.Acceptance.{accepted-if}
 use Rattle.demands.proofs.Others.{narrow-ids, additions-alone}
-use Rattle.demands.proofs.Carried.{Carried, carried, none-needed, none-reports}
-use Rattle.demands.proofs.Tracked.{opens as tracks, tracked}
+use Rattle.demands.proofs.Carried.{Carried, carried, none-needed, none-reports, none-long}
+use Rattle.demands.proofs.Tracked.{opens as tracks, lives}
 use Rattle.demands.proofs.Lawful.{Lawful, Serves, joined-bytes, field-is, bytes-counted, within-limit, all-fit, Offered, offered}
 use Rattle.demands.proofs.Busy.{busy-is}
 use Rattle.demands.proofs.Bytewise.{startless}
@@ -165,11 +165,11 @@ module _ {S L C R : Type 0} (k : Kind S L C) (m : List ℕ → Machine S R) (out
       let bytes : List ℕ = taken k c items in
       let few : length bytes < 2 ^ 64 = few-bytes c items calls in
       let first = tracks (automaton t) (x .rule) (x .from) (x .tab) (x .carries) bytes few s refl refl refl refl refl in
-      let at-end = tracked (automaton t) (x .rule) (x .from) (x .tab) (x .carries) bytes few (joined-bytes k t items (streamIn k c) (calls .1) (calls .2)) s first (length bytes) (omega arith) in
+      let at-end = lives (automaton t) (x .rule) (x .from) (x .tab) (x .carries) bytes few (joined-bytes k t items (streamIn k c) (calls .1) (calls .2)) s (first .alive) (length bytes) (omega arith) in
       let figure : Busy (rulesIn c) bytes (busyOf (stateAfter (automaton t) s bytes (length bytes))) =
-      busy-is t (rulesIn c) x bytes few (stateAfter (automaton t) s bytes (length bytes)) (at-end .alive) in
+      busy-is t (rulesIn c) x bytes few (stateAfter (automaton t) s bytes (length bytes)) at-end in
       subst (Busy (rulesIn c) bytes)
-      (sym (field-is k t (m t) out (final t) ended (b .law t) busyOf (λ y. refl) items (streamIn k c) (open-at c (calls .0)) (calls .1)
+      (sym (field-is k t (m t) out (final t) ended (b .law t) busyOf (λ y. refl) (λ y. refl) items (streamIn k c) (open-at c (calls .0)) (calls .1)
       ∙ ap (λ (y : Stream). busyOf (stateAfter (automaton t) y bytes (length bytes))) (opened-at c (calls .0)))) figure
 
   fits-at : (c : Setting) → Between c → Served k c → Fits (tableIn c) (streamIn k c)
@@ -221,7 +221,8 @@ short-backed = record {
       let e : short .begun t ≡ fresh (rulesOf t) (positionsOf t) false = opened-stream t table in
       subst (λ (s : Stream). length (bytesOf short t s l) < 2 ^ 64 → Ordered rules (bytesOf short t s l) (reportsOf short t s l)) (sym e)
       (ordered t (x .rule) (x .from) (x .tab) (x .carries) rules (x .listed) (rulesOf t) (positionsOf t)
-      (none-reports (automaton t) (x .rule) (x .from) (x .tab) (x .carries) (closing-startless t l (short .begun t) h c)) l
+      (none-reports (automaton t) (x .rule) (x .from) (x .tab) (x .carries) (closing-startless t l (short .begun t) h c))
+      (none-long (automaton t) (x .rule) (x .from) (x .tab) (x .carries) (closing-startless t l (short .begun t) h c)) l
       (subst (λ (s : Stream). OthersRefused short t s l) e h) (subst (λ (s : Stream). Closes short t s l) e c) bs) few;
   serves = serves;
   fits = λ t table. fits t table;

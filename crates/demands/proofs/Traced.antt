@@ -17,17 +17,17 @@ use Rattle.table.specs.Layout.{rulesOf, positionsOf}
 use Rattle.table.specs.Table.{isTable}
 use Rattle.table.specs.Automaton.{Automaton, automaton}
 use Rattle.stream.specs.declared.Stream.{Stream}
-use Rattle.stream.specs.Byte.{Machine, after, reportsBy, costBy, twoReports, lateTest, ownTest, heldTest, endTest, stateAfter}
+use Rattle.stream.specs.Byte.{Machine, after, reportsBy, costBy, twoReports, heldTest, stateAfter}
 use Rattle.stream.specs.Valid.{streamLimit, sound, needsStarts, sameCounts, liveInside, marksSingle, underLimit, heldInside, pendingInside, pendingLate, begun}
 use Rattle.stream.specs.Calls.{overLimit, shut, fresh}
 use Rattle.stream.proofs.Accepting.{Fitting, fitting, fitted}
 use Rattle.stream.proofs.Machines.{fits-le}
 use Rattle.stream.proofs.Blocks.{taken-after, cost-some, cost-few, one-fits}
-use Rattle.stream.proofs.Results.{opened-stream, opened-sound, fitting-after}
+use Rattle.stream.proofs.Results.{opened-stream, opened-sound}
 use Rattle.traced.specs.declared.Traced.{Traced}
 use Rattle.traced.specs.declared.Scanned.{Scanned}
 use Rattle.traced.specs.declared.Closed.{Closed}
-use Rattle.traced.specs.Byte.{Start, none, Report as Trace, given, byteReports, traced, lateStart, ownStart, endStart, closeReports}
+use Rattle.traced.specs.Byte.{Start, none, Report as Trace, given, lateLong, ownLong, endLong, byteReports, traced, lateStart, ownStart, endStart, closeReports}
 use Rattle.traced.specs.Byte as starts
 use Rattle.traced.specs.Valid.{valid}
 use Rattle.traced.specs.Calls.{Lists, lists, Call, noStarts, opened, space, inStream, fromOffset, written, scanNumber, closeNumber, callNumber, takenBy, scanned, scannedLists, closed, closedLists}
@@ -211,14 +211,14 @@ module _ (w : Automaton) where
   byte-given k z x offset at is =
       ap (λ (y : Told). map report (twoRuns w (suc k) k (suc k) y)) is
       ∙ two-given w trace (suc k) k (suc k) (told w z x) (given w k (lateStart w z x)) (given w (suc k) (ownStart w z x)) (given-is (suc k) k (lateStart w z x)) (given-is (suc k) (suc k) (ownStart w z x))
-      ∙ ap (λ (o : ℕ). map trace (twoReports w (lateTest w (z .stream) x) (ownTest w (z .stream) x) (z .stream .reported) (given w o (lateStart w z x)) (given w (suc o) (ownStart w z x)))) offset
+      ∙ ap (λ (o : ℕ). map trace (twoReports w (lateLong w (z .stream) (z .starts .live) x) (ownLong w (z .stream) (z .starts .live) x) (z .stream .reported) (given w o (lateStart w z x)) (given w (suc o) (ownStart w z x)))) offset
 
   closing-given : (at : ℕ → Told) (n : ℕ) (z : Traced) → n ≡ z .stream .taken → map report (closingOf w at n (told-last w z)) ≡ map trace (closeReports w z)
   unfolding closingOf closeReports told-last
   closing-given at n z offset =
       two-given w trace (suc n) (n - 1) n (told-last w z) (given w (n - 1) (λ a. getD (z .starts .pairs) a 0)) (given w n (endStart w z))
       (given-is (suc n) (n - 1) (λ a. getD (z .starts .pairs) a 0)) (given-is (suc n) n (endStart w z))
-      ∙ ap (λ (o : ℕ). map trace (twoReports w (heldTest w (z .stream)) (endTest w (z .stream)) (z .stream .reported) (given w (o - 1) (λ a. getD (z .starts .pairs) a 0)) (given w o (endStart w z)))) offset
+      ∙ ap (λ (o : ℕ). map trace (twoReports w (heldTest w (z .stream)) (endLong w z) (z .stream .reported) (given w (o - 1) (λ a. getD (z .starts .pairs) a 0)) (given w o (endStart w z)))) offset
 
 module _ (t : List ℕ) (table : isTable t ≡ true) (rule : ℕ → Rule) (from : ℕ → ℕ) (tab : ℕ → ByteSet) (enc : Carries (automaton t) rule from tab) (rules : List Rule)
     (listed : (r : Rule) → List·Memᴰ r rules ↔ ((a : ℕ) × (a < automaton t .rules) × (r ≡ rule a))) where

@@ -8,7 +8,7 @@ use mathlib.Core.Path.{_≡_, refl, sym, subst, subst₂, ap, ap₂, _∙_, fun-
 use mathlib.Core.Logic.{_⊎_, inl, inr, _↔_}
 use mathlib.Core.Bool.{Bool, true, false, cond, not, _&&_, _||_}
 use mathlib.Core.List.{List, [], _∷_, _++_}
-use Prim.Native.Nat.{ℕ, zero, suc, _-_, _^_, _≤_, _<_}
+use Prim.Native.Nat.{ℕ, zero, suc, _+_, _-_, _^_, _≤_, _<_}
 use native.Mathlib.Nat.{lt-trans}
 use native.Mathlib.Omega.{arith}
 use native.Mathlib.Decide.{decLt}
@@ -25,15 +25,15 @@ use Rattle.table.specs.Layout.{maxPositions}
 use Rattle.table.specs.Gaps.{between, beforeLast, unsettled, atEnd, atStart, startOfLast, gapOf, firstGap, lastGaps}
 use Rattle.table.specs.Automaton.{Automaton, last as lastIn, starts as startsIn}
 use Rattle.table.proofs.GapBounds.{between-inner, beforeLast-follow, atEnd-last, gapOf-follow, firstGap-first}
-use Rattle.steps.specs.Step.{stepped, ends, endsNewly, lateIn, rulesWhere}
+use Rattle.steps.specs.Step.{stepped, ends, endsNewly, lateIn, rulesWhere, windowed as windowedIn}
 use Rattle.steps.proofs.Late.{late-newly}
 use Rattle.stream.specs.declared.Stream.{Stream}
-use Rattle.stream.specs.Byte.{after, nextLive, nextHeld, nextPending, lateTest, ownTest, heldTest, endTest, byteState, stateAfter}
+use Rattle.stream.specs.Byte.{after, nextLive, nextHeld, nextPending, stateBy, lateTest, ownTest, heldTest, endTest, byteState, stateAfter}
 use Rattle.regex.specs.Tree.{Text}
 use Rattle.regex.specs.Form.{Form, Reach, positions}
 use Rattle.regex.specs.Live.{Reached}
 use Rattle.regex.specs.Gap.{last-line, Known, byte, edge, unknown, known-before, known-after}
-use Rattle.regex.specs.Rule.{Rule, ByteSet, Assertion, no-windows, world, holds, stream}
+use Rattle.regex.specs.Rule.{Rule, ByteSet, Assertion, world, holds, stream}
 use Rattle.regex.specs.Ordered.{closing-moment, Falls}
 use Rattle.regex.proofs.Relations.{First, Last, Follow}
 use Rattle.regex.proofs.Logic.{and-T, or-T, true-T}
@@ -49,13 +49,13 @@ use Rattle.demands.proofs.Carried.{Carries, Within, formOf, by-set}
 use Rattle.demands.proofs.TwoRuns.{Marked, Tested, marks-next}
 use Rattle.demands.proofs.Endings.{newline-side, Ending, ends-from, last-from, Late, late-falls, only-byte, only-closing, none-at-zero}
 
-any-T : (n : ℕ) (f : ℕ → Bool) → T (any n f) ↔ ((k : ℕ) × (k < n) × T (f k))
+pub any-T : (n : ℕ) (f : ℕ → Bool) → T (any n f) ↔ ((k : ℕ) × (k < n) × T (f k))
 any-T n f = (
   λ h. let r = any-some n f (true-T (any n f) h) in (r .0, r .1, subst T (sym (r .2)) tt),
   λ h. subst T (sym (any-at n f (h .0) (h .1) (true-T (f (h .0)) (h .2)))) tt,
 )
 
-both : {A B C : Type 0} → A ↔ B → B ↔ C → A ↔ C
+pub both : {A B C : Type 0} → A ↔ B → B ↔ C → A ↔ C
 both f g = (λ a. g .0 (f .0 a), λ c. f .1 (g .1 c))
 
 back : {A B : Type 0} → A ↔ B → B ↔ A
@@ -80,8 +80,13 @@ module _ (w : Automaton) (rule : ℕ → Rule) (from : ℕ → ℕ) (tab : ℕ �
   abbrev pub free : ℕ → Rule
   free a = unbounded (rule a)
 
-  open-window : (a : ℕ) → a < w .rules → free a .windows ≡ no-windows
-  open-window a lt = ap (λ (n : ℕ). record { smallest-end = no-windows .smallest-end; largest-end = no-windows .largest-end; smallest-length = n }) (enc .no-length a lt)
+  -- the smallest length of its matches
+  abbrev pub least : ℕ → ℕ
+  least a = rule a .windows .smallest-length
+
+  -- a way from a start that is early enough has just taken a position
+  abbrev pub LongReached : (a : ℕ) → Text ByteSet Assertion → (q k : ℕ) → Type 0
+  LongReached a t q k = (s : ℕ) × Reach t (formOf (rule a)) (from a) s q k × (s + least a ≤ k)
 
   -- what the state after the first k bytes says of positions ..
   pub record Alive (k : ℕ) (s : Stream) : Type 0 where
@@ -99,59 +104,79 @@ module _ (w : Automaton) (rule : ℕ → Rule) (from : ℕ → ℕ) (tab : ℕ �
     pub held-inside : (q : ℕ) → q < maxPositions → T (has (s .held) q) → q < w .positions
     pub held-alone : (a : ℕ) → a < w .rules → (q : ℕ) → Within (from a) (rule a) q
         → T (has (s .held) q) ↔ ((e : ℕ) × (k ≡ suc e) × (getD bytes e 0 ≡ 10) × Reached (stream (take k bytes) true) (formOf (rule a)) (from a) q k)
-    pub pending : (a : ℕ) → a < w .rules → T (on (s .pending) a) ↔ Late bytes (free a) k
 
-  -- .. and of marks: those of the next moment
+  -- .. of held pairs, and of marks: those of the next moment
   pub record Tracked (k : ℕ) (s : Stream) : Type 0 where
     pub alive : Alive k s
     pub waits : Waits k s
+    pub pending : (a : ℕ) → a < w .rules → T (on (s .pending) a) ↔ Late bytes (free a) k
     pub marks : (a : ℕ) → a < w .rules → T (on (s .reported) a) ↔ Marked bytes (rule a) (suc k)
+
+  -- What is asked of a state is asked of a stream in which those positions stand that a way from a
+  -- start that is early enough has just taken; and at the stream's end, those that one has taken then.
+  pub record Counts (k : ℕ) (u : Stream) : Type 0 where
+    pub taken : u .taken ≡ k
+    pub last : 0 < k → known-before (take k bytes) ≡ byte (u .last)
+    pub inside : (q : ℕ) → q < maxPositions → T (has (u .live) q) → q < w .positions
+    pub live : (a : ℕ) → a < w .rules → (q : ℕ) → Within (from a) (rule a) q → T (has (u .live) q) ↔ LongReached a (stream (take k bytes) false) q k
+
+  pub record CountsAtEnd (k : ℕ) (u : Stream) : Type 0 where
+    pub inside : (q : ℕ) → q < maxPositions → T (has (unionOf (u .live) (u .held)) q) → q < w .positions
+    pub held : (a : ℕ) → a < w .rules → (q : ℕ) → Within (from a) (rule a) q
+        → T (has (unionOf (u .live) (u .held)) q) ↔ LongReached a (stream (take k bytes) true) q k
 
   -- ---- some live position is last
 
-  -- a test on positions that are just reached is a match that ends here
-  module _ (a : ℕ) (lt : a < w .rules) (set : List ℕ) (t : Text ByteSet Assertion) (k : ℕ) (inside : (q : ℕ) → q < maxPositions → T (has set q) → q < w .positions)
-      (reached : (q : ℕ) → Within (from a) (rule a) q → T (has set q) ↔ Reached t (formOf (rule a)) (from a) q k)
+  -- a test on positions that are just reached, in some way, is a match that ends here
+  module _ (a : ℕ) (lt : a < w .rules) (set : List ℕ) (k : ℕ) (inside : (q : ℕ) → q < maxPositions → T (has set q) → q < w .positions)
+      (R : ℕ → Type 0) (reached : (q : ℕ) → Within (from a) (rule a) q → T (has set q) ↔ R q) (some : (q : ℕ) → R q → 0 < k)
       (g : ℕ) (there : g < lastGaps) (v : Assertion → Bool) (at-g : 0 < k → worldAt g ≡ v) where
     -- at one position; a way has taken a byte, so there is one before the gap
-    pub last-at : (p : ℕ) → p < maxPositions → T (has set p && lastIn w g a p) ↔ (Reached t (formOf (rule a)) (from a) p k × Last v (formOf (rule a)) (from a) p)
-    last-at p lp = (
+    last-with : (p : ℕ) → p < maxPositions → T (has set p && lastIn w g a p) ↔ (R p × Last v (formOf (rule a)) (from a) p)
+    last-with p lp = (
       λ h.
           let d = and-T (has set p) (lastIn w g a p) .0 h in
           let e = enc .last-is g a p there lt (inside p lp (d .0)) .0 (d .1) in
           let l = reached p (last-inside (worldAt g) (formOf (rule a)) (from a) p e) .0 (d .0) in
-          (l, subst (λ (u : Assertion → Bool). Last u (formOf (rule a)) (from a) p) (at-g (some (l .0) (l .1))) e),
+          (l, subst (λ (u : Assertion → Bool). Last u (formOf (rule a)) (from a) p) (at-g (some p l)) e),
       λ h.
-          let e : Last (worldAt g) (formOf (rule a)) (from a) p = subst (λ (u : Assertion → Bool). Last u (formOf (rule a)) (from a) p) (sym (at-g (some (h .0 .0) (h .0 .1)))) (h .1) in
+          let e : Last (worldAt g) (formOf (rule a)) (from a) p = subst (λ (u : Assertion → Bool). Last u (formOf (rule a)) (from a) p) (sym (at-g (some p (h .0)))) (h .1) in
           let i = last-inside (worldAt g) (formOf (rule a)) (from a) p e in
           and-T (has set p) (lastIn w g a p) .1 (reached p i .1 (h .0), enc .last-is g a p there lt (omega (arith, i .1, enc .inside a lt)) .1 e),
     )
-      where
-        some : (s : ℕ) → Reach t (formOf (rule a)) (from a) s p k → 0 < k
-        some s r = omega (arith, reach-up t (formOf (rule a)) (from a) s p k r)
 
-    by-last : T (ends w g set a) ↔ Ending bytes (rule a) v t (from a) k
+  module _ (a : ℕ) (lt : a < w .rules) (set : List ℕ) (t : Text ByteSet Assertion) (k : ℕ) (inside : (q : ℕ) → q < maxPositions → T (has set q) → q < w .positions)
+      (g : ℕ) (there : g < lastGaps) (v : Assertion → Bool) (at-g : 0 < k → worldAt g ≡ v) where
+    pub last-at : ((q : ℕ) → Within (from a) (rule a) q → T (has set q) ↔ Reached t (formOf (rule a)) (from a) q k)
+        → (p : ℕ) → p < maxPositions → T (has set p && lastIn w g a p) ↔ (Reached t (formOf (rule a)) (from a) p k × Last v (formOf (rule a)) (from a) p)
+    last-at reached =
+        last-with a lt set k inside (λ q. Reached t (formOf (rule a)) (from a) q k) reached
+        (λ q r. omega (arith, reach-up t (formOf (rule a)) (from a) (r .0) q k (r .1))) g there v at-g
+
+    by-last : ((q : ℕ) → Within (from a) (rule a) q → T (has set q) ↔ LongReached a t q k) → T (ends w g set a) ↔ Ending bytes (rule a) v t (from a) k
     unfolding ends
-    by-last = (
-      λ h.
-          let c = any-T maxPositions (λ p. has set p && lastIn w g a p) .0 h in
-          let d = last-at (c .0) (c .1) .0 (c .2) in
-          (d .0 .0, c .0, d .0 .1, d .1),
-      λ h.
-          let i = last-inside v (formOf (rule a)) (from a) (h .1) (h .3) in
-          let lp : h .1 < maxPositions = omega (arith, i .1, enc .inside a lt, enc .few-positions) in
-          any-T maxPositions (λ p. has set p && lastIn w g a p) .1 (h .1, lp, last-at (h .1) lp .1 ((h .0, h .2), h .3)),
-    )
+    by-last reached =
+        let at = last-with a lt set k inside (λ q. LongReached a t q k) reached
+        (λ q r. omega (arith, reach-up t (formOf (rule a)) (from a) (r .0) q k (r .1))) g there v at-g in (
+          λ h.
+              let c = any-T maxPositions (λ p. has set p && lastIn w g a p) .0 h in
+              let d = at (c .0) (c .1) .0 (c .2) in
+              (d .0 .0, c .0, d .0 .1, d .1, d .0 .2),
+          λ h.
+              let i = last-inside v (formOf (rule a)) (from a) (h .1) (h .3) in
+              let lp : h .1 < maxPositions = omega (arith, i .1, enc .inside a lt, enc .few-positions) in
+              any-T maxPositions (λ p. has set p && lastIn w g a p) .1 (h .1, lp, at (h .1) lp .1 ((h .0, h .2, h .4), h .3)),
+        )
 
-  module _ (k : ℕ) (le : k ≤ length bytes) (s : Stream) (track : Alive k s) (a : ℕ) (lt : a < w .rules) where
+  module _ (k : ℕ) (le : k ≤ length bytes) (s : Stream) (track : Counts k s) (a : ℕ) (lt : a < w .rules) where
     live-ends : (g : ℕ) → g < lastGaps → (rest : List ℕ) (e : Bool) → Same has holds (take k bytes) rest false e
         → ((x : Assertion) → worldAt g x ≡ world (byte (s .last)) (known-after rest e) (e && last-line rest) x)
         → T (ends w g (s .live) a) ↔ EndsAt bytes (free a) k (known-after rest e) (e && last-line rest)
     live-ends g there rest e stays at-g =
-        both (by-last a lt (s .live) (stream (take k bytes) false) k (track .inside) (track .live a lt) g there
+        both (by-last a lt (s .live) (stream (take k bytes) false) k (track .inside) g there
         (world (known-before (take k bytes)) (known-after rest e) (e && last-line rest))
-        (λ some. fun-ext at-g ∙ ap (λ (u : Known). world u (known-after rest e) (e && last-line rest)) (sym (track .last some))))
-        (back (ends-from bytes (free a) (open-window a lt) short k le rest e stays (from a)))
+        (λ some. fun-ext at-g ∙ ap (λ (u : Known). world u (known-after rest e) (e && last-line rest)) (sym (track .last some))) (track .live a lt))
+        (back (ends-from bytes (rule a) short k le rest e stays (from a)))
 
     -- whatever follows, where byte x follows, and where the last line ends
     pub ends-is : T (ends w unsettled (s .live) a) ↔ EndsAt bytes (free a) k unknown false
@@ -167,15 +192,16 @@ module _ (w : Automaton) (rule : ℕ → Rule) (from : ℕ → ℕ) (tab : ℕ �
     ends-line-is =
         live-ends (beforeLast (s .last)) (lt-trans (beforeLast-follow (s .last)) (lit< tt)) (10 ∷ []) true (same (take k bytes) 10 [] true) (world-before-last (s .last))
 
-  ends-at-end-is : (s : Stream) → Alive (length bytes) s → Waits (length bytes) s → (a : ℕ) → a < w .rules
+  ends-at-end-is : (s : Stream) → Counts (length bytes) s → CountsAtEnd (length bytes) s → (a : ℕ) → a < w .rules
       → T (ends w (atEnd (s .last)) (unionOf (s .live) (s .held)) a) ↔ EndsLast bytes (free a)
   ends-at-end-is s track waits a lt =
       let n : ℕ = length bytes in
       let whole : take n bytes ≡ bytes = take-all n bytes (omega arith) in
       both (by-last a lt (unionOf (s .live) (s .held)) (stream bytes true) n (waits .inside)
-      (λ q i. subst (λ (l : List ℕ). T (has (unionOf (s .live) (s .held)) q) ↔ Reached (stream l true) (formOf (rule a)) (from a) q n) whole (waits .held a lt q i))
       (atEnd (s .last)) (atEnd-last (s .last)) (world (known-before bytes) edge true)
-      (λ some. fun-ext (world-at-end (s .last)) ∙ ap (λ (u : Known). world u edge true) (sym (track .last some) ∙ ap known-before whole))) (back (last-from bytes (free a) (open-window a lt) short (from a)))
+      (λ some. fun-ext (world-at-end (s .last)) ∙ ap (λ (u : Known). world u edge true) (sym (track .last some) ∙ ap known-before whole))
+      (λ q i. subst (λ (l : List ℕ). T (has (unionOf (s .live) (s .held)) q) ↔ LongReached a (stream l true) q n) whole (waits .held a lt q i)))
+      (back (last-from bytes (rule a) short (from a)))
 
   -- ---- one byte more
 
@@ -318,9 +344,8 @@ module _ (w : Automaton) (rule : ℕ → Rule) (from : ℕ → ℕ) (tab : ℕ �
         ltb→lt q (w .positions)
         (and-T (ltb q (w .positions)) (w .takes x q && (startsIn w (outer line) x q || any maxPositions (comes line q))) .0 (subst T (member line q lq) h) .0)
 
-    goes-on : Alive (suc k) (byteState w s x)
-    unfolding byteState
-    goes-on = record {
+    pub goes-on : (late own : ℕ → Bool) (pending : ℕ) → Alive (suc k) (stateBy w late own pending s x)
+    goes-on late own pending = record {
       taken = ap suc (track .taken);
       last = λ some. ap known-before (take-suc bytes k 0 lk) ∙ before-next (take k bytes) x;
       inside = step-inside false;
@@ -369,21 +394,43 @@ module _ (w : Automaton) (rule : ℕ → Rule) (from : ℕ → ℕ) (tab : ℕ �
         go true e h = inr (held-is q (omega (arith, i .1, enc .inside a lt, enc .few-positions)) .1 (subst T (sym e) tt, h))
         go false e h = inl h
 
-    -- a held pair
-    pending-is : (a : ℕ) → a < w .rules → T (on (nextPending w s x) a) ↔ Late bytes (free a) (suc k)
+    pub goes-waiting : (late own : ℕ → Bool) (pending : ℕ) → Waits (suc k) (stateBy w late own pending s x)
+    goes-waiting late own pending = record { inside = union-inside; held = union-is; held-inside = λ q lq h. step-inside true q lq (held-is q lq .0 h .1); held-alone = alone }
+      where
+        alone : (a : ℕ) → a < w .rules → (q : ℕ) → Within (from a) (rule a) q
+            → T (has (nextHeld w s x) q) ↔ ((e : ℕ) × (suc k ≡ suc e) × (getD bytes e 0 ≡ 10) × Reached (stream (take (suc k) bytes) true) (formOf (rule a)) (from a) q (suc k))
+        alone a lt q i =
+            let lq : q < maxPositions = omega (arith, i .1, enc .inside a lt, enc .few-positions) in (
+              λ h.
+                  let g = held-is q lq .0 h in
+                  let newline : eqb x 10 ≡ true = true-T (eqb x 10) (g .0) in
+                  (k, refl, eqb-true x 10 newline, steps-to true a lt q i .0 (subst (λ (b : Bool). T (has (reachedIn b) q)) (sym newline) (g .1))),
+              λ h.
+                  let at : h .0 ≡ k = omega (arith, h .1) in
+                  let newline : eqb x 10 ≡ true = eq-eqb x 10 (ap (λ (n : ℕ). getD bytes n 0) (sym at) ∙ h .2) in
+                  held-is q lq .1 (subst T (sym newline) tt, subst (λ (b : Bool). T (has (reachedIn b) q)) newline (steps-to true a lt q i .1 (h .3))),
+            )
+
+  -- ---- a held pair
+
+  module _ (k : ℕ) (lk : k < length bytes) (s : Stream) (track : Counts k s) where
+    abbrev y : ℕ
+    y = getD bytes k 0
+
+    pub pending-is : (a : ℕ) → a < w .rules → T (on (nextPending w s y) a) ↔ Late bytes (free a) (suc k)
     unfolding nextPending endsNewly sideOf
     pending-is a lt = (
       λ h.
-          let g = on-if (eqb x 10 && ltb 0 (s .taken)) .0 h in
+          let g = on-if (eqb y 10 && ltb 0 (s .taken)) .0 h in
           let c = tests .0 (subst T digit (g .1)) in
-          (k, refl, eqb-true x 10 (true-T (eqb x 10) (and-T (eqb x 10) (ltb 0 (s .taken)) .0 (g .0) .0)), c .0, c .1),
+          (k, refl, eqb-true y 10 (true-T (eqb y 10) (and-T (eqb y 10) (ltb 0 (s .taken)) .0 (g .0) .0)), c .0, c .1),
       λ h.
           let e : h .0 ≡ k = omega (arith, h .1) in
-          let newline : x ≡ 10 = ap (λ (n : ℕ). getD bytes n 0) (sym e) ∙ h .2 in
+          let newline : y ≡ 10 = ap (λ (n : ℕ). getD bytes n 0) (sym e) ∙ h .2 in
           let ends-k : EndsAt bytes (free a) k (byte Newline) true = subst (λ (n : ℕ). EndsAt bytes (free a) n (byte Newline) true) e (h .3) in
           let some : 0 < s .taken = omega (arith, track .taken, reach-up (stream (take k bytes) false) (formOf (rule a)) 0 (ends-k .0) (ends-k .1 .0) k (ends-k .1 .1)) in
-          on-if (eqb x 10 && ltb 0 (s .taken)) .1 (
-            and-T (eqb x 10) (ltb 0 (s .taken)) .1 (subst T (sym (eq-eqb x 10 newline)) tt, lt→ltb 0 (s .taken) some),
+          on-if (eqb y 10 && ltb 0 (s .taken)) .1 (
+            and-T (eqb y 10) (ltb 0 (s .taken)) .1 (subst T (sym (eq-eqb y 10 newline)) tt, lt→ltb 0 (s .taken) some),
             subst T (sym digit) (tests .1 (ends-k, λ y. h .4 (subst (λ (n : ℕ). EndsAt bytes (free a) n (byte Newline) false) (sym e) y))),
           ),
     )
@@ -408,24 +455,6 @@ module _ (w : Automaton) (rule : ℕ → Rule) (from : ℕ → ℕ) (tab : ℕ �
         on-if true = (λ h. (tt, h), λ h. h .1)
         on-if false = (λ h. absurd (subst T (on-zero a) h), λ h. absurd (h .0))
 
-    goes-waiting : Waits (suc k) (byteState w s x)
-    unfolding byteState
-    goes-waiting = record { inside = union-inside; held = union-is; held-inside = λ q lq h. step-inside true q lq (held-is q lq .0 h .1); held-alone = alone; pending = pending-is }
-      where
-        alone : (a : ℕ) → a < w .rules → (q : ℕ) → Within (from a) (rule a) q
-            → T (has (nextHeld w s x) q) ↔ ((e : ℕ) × (suc k ≡ suc e) × (getD bytes e 0 ≡ 10) × Reached (stream (take (suc k) bytes) true) (formOf (rule a)) (from a) q (suc k))
-        alone a lt q i =
-            let lq : q < maxPositions = omega (arith, i .1, enc .inside a lt, enc .few-positions) in (
-              λ h.
-                  let g = held-is q lq .0 h in
-                  let newline : eqb x 10 ≡ true = true-T (eqb x 10) (g .0) in
-                  (k, refl, eqb-true x 10 newline, steps-to true a lt q i .0 (subst (λ (b : Bool). T (has (reachedIn b) q)) (sym newline) (g .1))),
-              λ h.
-                  let at : h .0 ≡ k = omega (arith, h .1) in
-                  let newline : eqb x 10 ≡ true = eq-eqb x 10 (ap (λ (n : ℕ). getD bytes n 0) (sym at) ∙ h .2) in
-                  held-is q lq .1 (subst T (sym newline) tt, subst (λ (b : Bool). T (has (reachedIn b) q)) newline (steps-to true a lt q i .1 (h .3))),
-            )
-
   -- ---- the tests say which pairs fall
 
   -- a test of pairs, kept to those in the window
@@ -437,49 +466,57 @@ module _ (w : Automaton) (rule : ℕ → Rule) (from : ℕ → ℕ) (tab : ℕ �
         λ h. let x = apart .0 h in and-T b (w .inside a end) .1 (i .1 (x .0), in-it .1 (subst (AtOffset (rule a .windows)) (sym at) (x .1))),
       )
 
-  pub byte-tested : (k : ℕ) → k < length bytes → getD bytes k 0 < 256 → (s : Stream) → Tracked k s
-      → Tested w rule from tab enc bytes (suc k) k (suc k) (lateTest w s (getD bytes k 0)) (ownTest w s (getD bytes k 0)) (s .reported)
-  unfolding endsNewly byteState
-  byte-tested k lk small s track =
+  -- the rules that end with a byte, after which these positions are live
+  abbrev pub ownBy : Stream → ℕ → Bool
+  ownBy v = windowedIn w (ends w unsettled (v .live)) (v .taken)
+
+  pub byte-tested : (k : ℕ) → k < length bytes → (u v : Stream) → Counts k u → Counts (suc k) v → (marks : ℕ)
+      → ((a : ℕ) → a < w .rules → T (on marks a) ↔ Marked bytes (rule a) (suc k))
+      → Tested w rule from tab enc bytes (suc k) k (suc k) (lateTest w u (getD bytes k 0)) (ownBy v) marks
+  unfolding endsNewly
+  byte-tested k lk u v track after marks marked =
       let x : ℕ = getD bytes k 0 in
+      let gap : ℕ = between (u .last) (sideOf x) in
       record {
         only = λ a c lt f. only-byte bytes (rule a) k c lk f;
         one-is = λ a lt.
-            both (windowed a lt (suc k) k (s .taken) (track .alive .taken) (omega arith)
-            (endsNewly w (between (s .last) (sideOf x)) (lateIn w (s .live)) unsettled (s .live) a)
-            (by-set (endsNewly w (between (s .last) (sideOf x)) (lateIn w (s .live)) unsettled (s .live) a) (endsNewly w (between (s .last) (sideOf x)) (s .live) unsettled (s .live) a)
-            (late-newly w (enc .lates-are) (s .live) (between (s .last) (sideOf x)) a (between-inner (s .last) (sideOf x)))
-            (both (newly (ends w (between (s .last) (sideOf x)) (s .live) a) (ends w unsettled (s .live) a)
-            (ends-next-is k (omega arith) s (track .alive) a lt x) (ends-is k (omega arith) s (track .alive) a lt))
+            both (windowed a lt (suc k) k (u .taken) (track .taken) (omega arith)
+            (endsNewly w gap (lateIn w (u .live)) unsettled (u .live) a)
+            (by-set (endsNewly w gap (lateIn w (u .live)) unsettled (u .live) a) (endsNewly w gap (u .live) unsettled (u .live) a)
+            (late-newly w (enc .lates-are) (u .live) gap a (between-inner (u .last) (sideOf x)))
+            (both (newly (ends w gap (u .live) a) (ends w unsettled (u .live) a)
+            (ends-next-is k (omega arith) u track a lt x) (ends-is k (omega arith) u track a lt))
             (back (falls-late bytes (free a) k lk))))) (λ f. (omega arith, f), λ f. f .1);
         two-is = λ a lt.
-            windowed a lt (suc k) (suc k) (suc (s .taken)) (ap suc (track .alive .taken)) (omega arith) (ends w unsettled (nextLive w s x) a)
-            (both (ends-is (suc k) lk (byteState w s x) (goes-on k lk small s (track .alive)) a lt) (back (falls-own bytes (free a) (suc k) lk)));
-        marks-are = track .marks;
+            windowed a lt (suc k) (suc k) (v .taken) (after .taken) (omega arith) (ends w unsettled (v .live) a)
+            (both (ends-is (suc k) lk v after a lt) (back (falls-own bytes (free a) (suc k) lk)));
+        marks-are = marked;
       }
 
-  pub closing-tested : (s : Stream) → Tracked (length bytes) s
+  pub closing-tested : (s : Stream) → Counts (length bytes) s → CountsAtEnd (length bytes) s
+      → ((a : ℕ) → a < w .rules → T (on (s .pending) a) ↔ Late bytes (free a) (length bytes))
+      → ((a : ℕ) → a < w .rules → T (on (s .reported) a) ↔ Marked bytes (rule a) (suc (length bytes)))
       → Tested w rule from tab enc bytes (closing-moment bytes) (length bytes - 1) (length bytes) (heldTest w s) (endTest w s) (s .reported)
   unfolding endsNewly
-  closing-tested s track =
+  closing-tested s track waits pending marked =
       let n : ℕ = length bytes in
       record {
         only = λ a c lt f. only-closing bytes (rule a) c f;
-        one-is = λ a lt. held a lt (on (s .pending) a) (both (track .waits .pending a lt) (late-falls bytes (free a)));
+        one-is = λ a lt. held a lt (on (s .pending) a) (both (pending a lt) (late-falls bytes (free a)));
         two-is = λ a lt.
-            windowed a lt (closing-moment bytes) n (s .taken) (track .alive .taken) (omega arith)
+            windowed a lt (closing-moment bytes) n (s .taken) (track .taken) (omega arith)
             (endsNewly w (atEnd (s .last)) (unionOf (s .live) (s .held)) unsettled (s .live) a)
             (both (newly (ends w (atEnd (s .last)) (unionOf (s .live) (s .held)) a) (ends w unsettled (s .live) a)
-            (ends-at-end-is s (track .alive) (track .waits) a lt) (ends-is n (omega arith) s (track .alive) a lt))
+            (ends-at-end-is s track waits a lt) (ends-is n (omega arith) s track a lt))
             (back (falls-end bytes (free a))));
-        marks-are = track .marks;
+        marks-are = marked;
       }
     where
       held : (a : ℕ) → a < w .rules → (b : Bool) → T b ↔ ((length bytes - 1 < length bytes) × Falls bytes (free a) (closing-moment bytes) (length bytes - 1))
           → T (b && w .inside a (s .taken - 1)) ↔ ((length bytes - 1 < length bytes) × Falls bytes (rule a) (closing-moment bytes) (length bytes - 1))
       held a lt b i =
-          let at : s .taken - 1 ≡ length bytes - 1 = ap (λ (m : ℕ). m - 1) (track .alive .taken) in
-          let in-it = enc .inside-is a lt (s .taken - 1) (omega (arith, track .alive .taken)) in
+          let at : s .taken - 1 ≡ length bytes - 1 = ap (λ (m : ℕ). m - 1) (track .taken) in
+          let in-it = enc .inside-is a lt (s .taken - 1) (omega (arith, track .taken)) in
           let apart = falls-apart bytes (rule a) short (closing-moment bytes) (length bytes - 1) in (
             λ h. let x = and-T b (w .inside a (s .taken - 1)) .0 h in
                 (i .0 (x .0) .0, apart .1 (i .0 (x .0) .1, subst (AtOffset (rule a .windows)) at (in-it .0 (x .1)))),
@@ -489,15 +526,27 @@ module _ (w : Automaton) (rule : ℕ → Rule) (from : ℕ → ℕ) (tab : ℕ �
 
   -- ---- the state after any number of the bytes
 
-  pub tracks : (k : ℕ) → k < length bytes → getD bytes k 0 < 256 → (s : Stream) → Tracked k s → Tracked (suc k) (byteState w s (getD bytes k 0))
-  unfolding byteState
-  tracks k lk small s track =
+  -- by the positions that count before the byte, and after it
+  pub tracks : (k : ℕ) → k < length bytes → getD bytes k 0 < 256 → (s : Stream) → Tracked k s → (u v : Stream) → Counts k u → Counts (suc k) v
+      → Tracked (suc k) (stateBy w (lateTest w u (getD bytes k 0)) (ownBy v) (nextPending w u (getD bytes k 0)) s (getD bytes k 0))
+  tracks k lk small s track u v before after =
       let x : ℕ = getD bytes k 0 in
+      let late : ℕ → Bool = lateTest w u x in
       record {
-        alive = goes-on k lk small s (track .alive);
-        waits = goes-waiting k lk small s (track .alive);
-        marks = marks-next w rule from tab enc bytes (suc k) k (suc k) (lateTest w s x) (ownTest w s x) (s .reported) (byte-tested k lk small s track);
+        alive = goes-on k lk small s (track .alive) late (ownBy v) (nextPending w u x);
+        waits = goes-waiting k lk small s (track .alive) late (ownBy v) (nextPending w u x);
+        pending = pending-is k lk u before;
+        marks = marks-next w rule from tab enc bytes (suc k) k (suc k) late (ownBy v) (s .reported) (byte-tested k lk u v before after (s .reported) (track .marks));
       }
+
+  -- the live positions after any number of the bytes, whatever is reported
+  pub lives : ((i : ℕ) → i < length bytes → getD bytes i 0 < 256) → (s : Stream) → Alive 0 s → (k : ℕ) → k ≤ length bytes → Alive k (stateAfter w s bytes k)
+  unfolding after byteState
+  lives small s start zero le = start
+  lives small s start (suc k) le =
+      let u : Stream = stateAfter w s bytes k in
+      let x : ℕ = getD bytes k 0 in
+      goes-on k le (small k le) u (lives small s start k (omega arith)) (lateTest w u x) (ownTest w u x) (nextPending w u x)
 
   -- an opened stream
   pub opens : (s : Stream) → s .taken ≡ 0 → s .live ≡ emptySet → s .held ≡ emptySet → s .reported ≡ 0 → s .pending ≡ 0 → Tracked 0 s
@@ -513,8 +562,8 @@ module _ (w : Automaton) (rule : ℕ → Rule) (from : ℕ → ℕ) (tab : ℕ �
       held = λ a lt q i. (λ h. absurd (neither q (few a lt q i) h), λ h. absurd (omega (arith, reach-up (stream (take 0 bytes) true) (formOf (rule a)) (from a) (h .0) q 0 (h .1))));
       held-inside = λ q lq h. absurd (none-held q lq h);
       held-alone = λ a lt q i. (λ h. absurd (none-held q (few a lt q i) h), λ h. absurd (omega (arith, h .1)));
-      pending = λ a lt. (λ h. absurd (subst T (ap (λ (m : ℕ). on m a) pending ∙ on-zero a) h), λ h. absurd (omega (arith, h .1)));
     };
+    pending = λ a lt. (λ h. absurd (subst T (ap (λ (m : ℕ). on m a) pending ∙ on-zero a) h), λ h. absurd (omega (arith, h .1)));
     marks = λ a lt. (
       λ h. absurd (subst T (ap (λ (m : ℕ). on m a) reported ∙ on-zero a) h),
       λ h. let start : h .1 .0 ≡ 0 = omega (arith, h .1 .2) in absurd (none-at-zero bytes (rule a) (h .1 .1) (subst (λ (j : ℕ). Falls bytes (rule a) j (h .1 .1)) start (h .1 .3))),
@@ -535,8 +584,34 @@ module _ (w : Automaton) (rule : ℕ → Rule) (from : ℕ → ℕ) (tab : ℕ �
       few : (a : ℕ) → a < w .rules → (q : ℕ) → Within (from a) (rule a) q → q < maxPositions
       few a lt q i = omega (arith, i .1, enc .inside a lt, enc .few-positions)
 
-  -- the state after any number of the bytes
-  pub tracked : ((i : ℕ) → i < length bytes → getD bytes i 0 < 256) → (s : Stream) → Tracked 0 s → (k : ℕ) → k ≤ length bytes → Tracked k (stateAfter w s bytes k)
-  unfolding after
-  tracked small s start zero le = start
-  tracked small s start (suc k) le = tracks k le (small k le) (stateAfter w s bytes k) (tracked small s start k (omega arith))
+  -- ---- where no rule has a smallest length all positions count
+
+  module _ (none : (a : ℕ) → a < w .rules → (q : ℕ) → Within (from a) (rule a) q → least a ≡ 0) where
+    always : (a : ℕ) → a < w .rules → (q : ℕ) → Within (from a) (rule a) q → (t : Text ByteSet Assertion) (k : ℕ)
+        → Reached t (formOf (rule a)) (from a) q k ↔ LongReached a t q k
+    always a lt q i t k = (
+      λ h. (h .0, h .1, omega (arith, none a lt q i, reach-up t (formOf (rule a)) (from a) (h .0) q k (h .1))),
+      λ h. (h .0, h .1),
+    )
+
+    pub all-count : (k : ℕ) (s : Stream) → Alive k s → Counts k s
+    all-count k s h = record {
+      taken = h .taken;
+      last = h .last;
+      inside = h .inside;
+      live = λ a lt q i. both (h .live a lt q i) (always a lt q i (stream (take k bytes) false) k);
+    }
+
+    pub all-wait : (k : ℕ) (s : Stream) → Waits k s → CountsAtEnd k s
+    all-wait k s h = record { inside = h .inside; held = λ a lt q i. both (h .held a lt q i) (always a lt q i (stream (take k bytes) true) k) }
+
+    -- the state after any number of the bytes
+    pub tracked : ((i : ℕ) → i < length bytes → getD bytes i 0 < 256) → (s : Stream) → Tracked 0 s → (k : ℕ) → k ≤ length bytes → Tracked k (stateAfter w s bytes k)
+    unfolding after byteState
+    tracked small s start zero le = start
+    tracked small s start (suc k) le =
+        let u : Stream = stateAfter w s bytes k in
+        let x : ℕ = getD bytes k 0 in
+        let h : Tracked k u = tracked small s start k (omega arith) in
+        let next : Alive (suc k) (byteState w u x) = goes-on k le (small k le) u (h .alive) (lateTest w u x) (ownTest w u x) (nextPending w u x) in
+        tracks k le (small k le) u h u (byteState w u x) (all-count k u (h .alive)) (all-count (suc k) (byteState w u x) next)

@@ -6,10 +6,10 @@
 use mathlib.Core.Path.{_≡_}
 use mathlib.Core.Logic.{_⊎_, _↔_}
 use mathlib.Core.List.{List, [], map, List·Memᴰ}
-use mathlib.Core.Bool.{true, false}
+use mathlib.Core.Bool.{Bool, true, false, not, _||_}
 use Prim.Native.Nat.{ℕ, _+_, _*_, _^_, _<_, _≤_}
 use lib.Bits.{bitAnd}
-use lib.Dec.{T}
+use lib.Dec.{T, eqb}
 use lib.ListN.{length}
 use Rattle.table.specs.Layout.{tableWords, maxRules, maxPositions}
 use Rattle.table.specs.Table.{knownFlags, emptied}
@@ -54,9 +54,13 @@ acceptedIn c = acceptedAfter [] (additionsOf (c .steps))
 abbrev pub rulesIn : Setting → List Rule
 rulesIn c = map ruleOf (acceptedIn c)
 
--- no rule reports its start
+-- a rule needs starts: it reports them, or has a smallest length of its matches
+abbrev pub needsStart : Rule → Bool
+needsStart r = r .starts || not (eqb (r .windows .smallest-length) 0)
+
+-- no rule needs them
 abbrev pub Startless : Setting → Type 0
-Startless c = (r : Rule) → List·Memᴰ r (rulesIn c) → r .starts ≡ false
+Startless c = (r : Rule) → List·Memᴰ r (rulesIn c) → needsStart r ≡ false
 
 module _ {S L C : Type 0} (k : Kind S L C) where
   -- the stream that is opened
@@ -111,7 +115,7 @@ pub data Refusal (rules : List Accepted) (a : Addition) : Type 0 where
   all-there : maxRules ≤ length rules → Refusal rules a
   too-long : longest < length (a .pattern) → Refusal rules a
   -- 26: "A smallest offset above the largest"
-  empty-window : a .highest < a .lowest → Refusal rules a
+  empty-window : a .windows .largest-end < a .windows .smallest-end → Refusal rules a
   -- 6 to 16 and 23, each a predicate of its own: crates/pattern/specs/Reasons.antt
   in-pattern : (number place : ℕ) → Reason (a .pattern) (optionsOf (a .flags)) number place → Refusal rules a
   -- 17: "over 256 positions with those in the table"

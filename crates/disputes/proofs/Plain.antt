@@ -23,10 +23,11 @@ use Rattle.nodes.specs.Nodes.{Syntax}
 use Rattle.tokens.specs.declared.Options.{Options}
 use Rattle.pattern.specs.Walk.{Read, tree, refused}
 use Rattle.pattern.specs.Read.{tooLong, readOf, optionsOf}
+use Rattle.pattern.specs.Windows.{emptyWindow}
 use Rattle.pattern.specs.Reasons.{Reason, among}
 use Rattle.pattern.proofs.Accepted.{refusal-reason}
 use Rattle.rules.specs.Words.{isSingle, isLeftmost}
-use Rattle.rules.specs.Add.{Addition, additionIn, answer, unknownFlag, singleStart, emptyWindow, placed, readingOf}
+use Rattle.rules.specs.Add.{Addition, additionIn, answer, unknownFlag, singleStart, placed, readingOf}
 use Rattle.rules.specs.Additions as additions
 use Rattle.rules.specs.Additions.{Accepted, used, nextAnswer, acceptedOf, withNew, afterNext, acceptedAfter}
 use Rattle.rules.specs.declared.Added.{Added}
@@ -39,7 +40,7 @@ use Rattle.plain.specs.Answer.{Question, knownFlags, longestLog, leastSpace, ha
 use Rattle.plain.proofs.matches.Met.{met as matches-met}
 use Rattle.demands.specs.Kinds.{Kind, short, traces}
 use Rattle.demands.specs.Demands.{tableIn, acceptedIn, rulesIn, taken, joined, Demand3}
-use Rattle.disputes.specs.Plain.{Asked, AnyLength, additionOf, listOf, SameList, SameAmong, SameRefusals, Never, OneAnswer, Plain}
+use Rattle.disputes.specs.Plain.{Asked, additionOf, listOf, SameList, SameAmong, SameRefusals, Never, OneAnswer, Plain}
 use Rattle.demands.proofs.Theorems.{built, short-streams, traced-streams}
 
 -- ---- the checks
@@ -58,13 +59,13 @@ fits a x e =
 -- the checks of an addition to an emptied table are the matcher's: 2, 24, 5, 26, then the reader's
 module _ (q : Question) (space id : ℕ) (short : length (q .log) ≤ longestLog) (room : leastSpace ≤ space) where
   abbrev a : Addition
-  a = additionIn id (q .flags) (q .windows .smallest-end) (q .windows .largest-end) (q .pattern)
+  a = additionIn id (q .flags) (q .windows) (q .pattern)
 
   same-checks : nextAnswer [] a ≡ said (verdict q space)
-  unfolding verdict nextAnswer additions.taken used unknownFlag singleStart emptyWindow placed said
+  unfolding verdict nextAnswer additions.taken used unknownFlag singleStart placed said
   same-checks =
       rw (le-ltb longestLog (length (q .log)) short, le-ltb space leastSpace room, and-comm (isSingle (q .flags)) (isLeftmost (q .flags)))
-      (go (unknownFlag (q .flags)) (hasLeftmost (q .flags) && hasSingle (q .flags)) (tooLong (q .pattern)) (ltb (q .windows .largest-end) (q .windows .smallest-end)) (readingOf a) refl)
+      (go (unknownFlag (q .flags)) (hasLeftmost (q .flags) && hasSingle (q .flags)) (tooLong (q .pattern)) (emptyWindow (q .windows)) (readingOf a) refl)
     where
       go : (u b t w : Bool) (d : Read) → readingOf a ≡ d
           → cond u (answer 2 0) (cond b (answer 24 0) (cond t (answer 5 0) (cond w (answer 26 0) (placed 0 (length (q .pattern)) d))))
@@ -125,7 +126,7 @@ module _ (q : Question) (space : ℕ) where
   unfolding verdict Judged
   judged =
       go (not (eqb (bitAnd (q .flags) knownFlags) (q .flags))) (hasLeftmost (q .flags) && hasSingle (q .flags)) (tooLong (q .pattern))
-      (ltb (q .windows .largest-end) (q .windows .smallest-end)) (ltb longestLog (length (q .log))) (ltb space leastSpace) reading refl refl refl
+      (emptyWindow (q .windows)) (ltb longestLog (length (q .log))) (ltb space leastSpace) reading refl refl refl
     where
       go : (u b t w l s : Bool) (d : Read) → ltb longestLog (length (q .log)) ≡ l → ltb space leastSpace ≡ s → reading ≡ d
           → Judged (cond u (refused 2 0) (cond b (refused 24 0) (cond t (refused 5 0) (cond w (refused 26 0) (cond l (refused 28 0) (cond s (refused 20 0) d))))))
@@ -212,7 +213,7 @@ its-list q id s =
     rw (s .counted, s .offsets, s .starts) (paired id (s .list) (drop (length (s .list)) (q .old .offsets)) (drop (length (s .list)) (q .old .starts)))
 
 -- a table with that rule alone
-module _ (q : Asked) (none : AnyLength q) (id : ℕ) where
+module _ (q : Asked) (id : ℕ) where
   abbrev space : ℕ
   space = spaceOf (q .old)
 
@@ -230,18 +231,11 @@ module _ (q : Asked) (none : AnyLength q) (id : ℕ) where
       → Ordered (additions.ruleOf (ruleIn t) ∷ []) (q .question .log) (listOf id q)
   its-ordered t s =
       subst (Ordered (additions.ruleOf (ruleIn t) ∷ []) (q .question .log)) (sym (its-list q id s))
-      (subst (λ (n : ℕ). Ordered (record {
-        id = id;
-        single = hasSingle (q .question .flags);
-        starts = hasLeftmost (q .question .flags);
-        windows = record { smallest-end = q .question .windows .smallest-end; largest-end = q .question .windows .largest-end; smallest-length = n };
-        tree = t;
-      } ∷ []) (q .question .log) (map (reportBy id) (s .list)))
-      none (ordered-as (q .question .log) (ruleOf (q .question) t) 0 id (s .list) (s .ordered)))
+      (ordered-as (q .question .log) (ruleOf (q .question) t) 0 id (s .list) (s .ordered))
 
 same-list : {S L C : Type 0} (k : Kind S L C) → Demand3 k → SameList k
 unfolding Answered Judged
-same-list k demand q none ok id c only items calls closing same =
+same-list k demand q ok id c only items calls closing same =
     go (verdict (q .question) (spaceOf (q .old))) refl (judged (q .question) (spaceOf (q .old))) (q .answered)
   where
     go : (r : Read) → verdict (q .question) (spaceOf (q .old)) ≡ r → Judged (q .question) (spaceOf (q .old)) r → Answered (q .question) (q .old) (q .new) (q .answer) r
@@ -250,10 +244,10 @@ same-list k demand q none ok id c only items calls closing same =
         let zero : number ≡ 0 = sym (ap (λ (x : Matched). x .number) (h .0)) ∙ ok in
         absurd (true≢false (sym (mem-among number barred (List·Memᴰ·head zero)) ∙ j))
     go (tree t) e j h =
-        one-answer (additions.ruleOf (ruleIn q none id t) ∷ []) (q .question .log) (joined k c items) (listOf id q)
-        (subst (λ (l : List ℕ). Ordered (additions.ruleOf (ruleIn q none id t) ∷ []) l (joined k c items)) same
-        (subst (λ (rs : List Accepted). Ordered (map additions.ruleOf rs) (taken k c items) (joined k c items)) (only ∙ only-rule q none id t e j) (demand c items calls closing)))
-        (its-ordered q none id t (h .2))
+        one-answer (additions.ruleOf (ruleIn q id t) ∷ []) (q .question .log) (joined k c items) (listOf id q)
+        (subst (λ (l : List ℕ). Ordered (additions.ruleOf (ruleIn q id t) ∷ []) l (joined k c items)) same
+        (subst (λ (rs : List Accepted). Ordered (map additions.ruleOf rs) (taken k c items) (joined k c items)) (only ∙ only-rule q id t e j) (demand c items calls closing)))
+        (its-ordered q id t (h .2))
 
 -- in a table of many rules
 first : Accepted → List Accepted → Accepted
@@ -262,7 +256,7 @@ first r (x ∷ l) = x
 
 same-among : {S L C : Type 0} (k : Kind S L C) → Demand3 k → SameAmong k
 unfolding Answered Judged first
-same-among k demand q none ok c r there alone-is items calls closing same =
+same-among k demand q ok c r there alone-is items calls closing same =
     go (verdict (q .question) (spaceOf (q .old))) refl (judged (q .question) (spaceOf (q .old))) (q .answered)
   where
     go : (x : Read) → verdict (q .question) (spaceOf (q .old)) ≡ x → Judged (q .question) (spaceOf (q .old)) x → Answered (q .question) (q .old) (q .new) (q .answer) x
@@ -271,11 +265,11 @@ same-among k demand q none ok c r there alone-is items calls closing same =
         let zero : number ≡ 0 = sym (ap (λ (x : Matched). x .number) (h .0)) ∙ ok in
         absurd (true≢false (sym (mem-among number barred (List·Memᴰ·head zero)) ∙ j))
     go (tree t) e j h =
-        let is : ruleIn q none (r .id) t ≡ r = ap (first r) (sym (only-rule q none (r .id) t e j) ∙ alone-is) in
+        let is : ruleIn q (r .id) t ≡ r = ap (first r) (sym (only-rule q (r .id) t e j) ∙ alone-is) in
         one-answer (additions.ruleOf r ∷ []) (q .question .log) (ofId (r .id) (joined k c items)) (listOf (r .id) q)
         (subst (λ (l : List ℕ). Ordered (additions.ruleOf r ∷ []) l (ofId (r .id) (joined k c items))) same
         (alone (rulesIn c) (distinct (automaton (tableIn c)) (acceptedIn c) (built c (calls .0) .encodes)) (additions.ruleOf r) (Memᴰ·map additions.ruleOf there) (taken k c items) (joined k c items) (demand c items calls closing)))
-        (subst (λ (x : Accepted). Ordered (additions.ruleOf x ∷ []) (q .question .log) (listOf (r .id) q)) is (its-ordered q none (r .id) t (h .2)))
+        (subst (λ (x : Accepted). Ordered (additions.ruleOf x ∷ []) (q .question .log) (listOf (r .id) q)) is (its-ordered q (r .id) t (h .2)))
 
 pub plain : Plain
 plain = record {

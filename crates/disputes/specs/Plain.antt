@@ -8,7 +8,6 @@ use Prim.Native.Nat.{ℕ, min, _≤_}
 use lib.ListN.{length, take}
 use Rattle.table.specs.Layout.{tableWords}
 use Rattle.table.specs.Table.{emptied}
-use Rattle.regex.specs.Rule.{no-windows}
 use Rattle.regex.specs.Ordered.{Report, ofId}
 use Rattle.rules.specs.Add.{Addition, additionIn, answer, addAnswer}
 use Rattle.rules.specs.Additions.{Accepted, acceptedAfter}
@@ -29,15 +28,9 @@ pub record Asked : Type 0 where
   pub answer : Matched
   pub answered : Matches question old new answer
 
--- No addition takes a smallest length yet.
-abbrev pub AnyLength : Asked → Type 0
-AnyLength q = q .question .windows .smallest-length ≡ no-windows .smallest-length
-
--- the same pattern, flags and window as an addition, by some id
+-- the same pattern, flags and windows as an addition, by some id
 abbrev pub additionOf : (id : ℕ) → Asked → Addition
-additionOf id q =
-    additionIn id (q .question .flags) (q .question .windows .smallest-end) (q .question .windows .largest-end)
-    (q .question .pattern)
+additionOf id q = additionIn id (q .question .flags) (q .question .windows) (q .question .pattern)
 
 -- "It has no id; its lists are offsets and stream starts": its list, with an id
 abbrev pub listOf : (id : ℕ) → Asked → List Report
@@ -55,7 +48,7 @@ HasOnly c id q = acceptedIn c ≡ acceptedAfter [] (additionOf id q ∷ [])
 -- matcher's list.
 abbrev pub SameList : {S L C : Type 0} → Kind S L C → Type 0
 SameList {S} {L} {C} k =
-    (q : Asked) → AnyLength q → q .answer .number ≡ 0
+    (q : Asked) → q .answer .number ≡ 0
     → (id : ℕ) (c : Setting) → HasOnly c id q
     → (items : List (Item L C)) → Calls k c items → closes k c items
     → taken k c items ≡ q .question .log → joined k c items ≡ listOf id q
@@ -64,7 +57,7 @@ SameList {S} {L} {C} k =
 -- list.
 abbrev pub SameAmong : {S L C : Type 0} → Kind S L C → Type 0
 SameAmong {S} {L} {C} k =
-    (q : Asked) → AnyLength q → q .answer .number ≡ 0
+    (q : Asked) → q .answer .number ≡ 0
     → (c : Setting) (r : Accepted) → List·Memᴰ r (acceptedIn c)
     → acceptedAfter [] (additionOf (r .id) q ∷ []) ≡ r ∷ []
     → (items : List (Item L C)) → Calls k c items → closes k c items

@@ -15,14 +15,15 @@ use Rattle.regex.proofs.Counted.{within-limit}
 use Rattle.nodes.specs.Nodes.{Syntax}
 use Rattle.pattern.specs.Walk.{Read, tree, refused}
 use Rattle.pattern.specs.Read.{tooLong, readOf, limitedRead, optionsOf, answerOf}
+use Rattle.pattern.specs.Windows.{windowsOf, emptyWindow, sizeFault as patternFault}
 use Rattle.pattern.specs.declared.Reading.{Reading}
+use Rattle.pattern.specs.declared.bounds.Bounds.{Bounds}
 use Rattle.pattern.proofs.Answers.{accepted-tree, Accepted}
 use Rattle.plain.specs.Run.{Hit, closed, kept, Lent, lent}
-use Rattle.plain.specs.Answer.{Question, windowsOf, knownFlags, hasSingle, hasLeftmost, longestLog, leastSpace, verdict, ruleOf, Reports, refusal, Answered, Matches}
+use Rattle.plain.specs.Answer.{Question, knownFlags, hasSingle, hasLeftmost, longestLog, leastSpace, verdict, ruleOf, Reports, refusal, Answered, Matches}
 use Rattle.nodes.specs.Invariants.{formAt}
 use Rattle.plain.specs.Invariants.{choiceOf, Slots, Asks, Delivered, flagFault, sizeFault, firstFault, Checked, wantedBy}
 use Rattle.plain.specs.declared.Matched.{Matched}
-use Rattle.plain.specs.declared.Bounds.{Bounds}
 use Rattle.plain.specs.declared.run.Wanted.{Wanted}
 use Rattle.plain.proofs.Listed.{the-list, is-ordered, its-offsets, its-starts, its-length}
 
@@ -37,7 +38,7 @@ module _ (q : Question) (space : ℕ) where
   u3 = tooLong (q .pattern)
 
   abbrev u4 : Bool
-  u4 = ltb (q .windows .largest-end) (q .windows .smallest-end)
+  u4 = emptyWindow (q .windows)
 
   abbrev u5 : Bool
   u5 = ltb longestLog (length (q .log))
@@ -50,10 +51,10 @@ module _ (q : Question) (space : ℕ) where
 
   -- a check that fails decides
   early : (fault : ℕ) → fault ≡ firstFault q space → (fault ≡ 0 → ⊥) → verdict q space ≡ refused fault 0
-  unfolding verdict firstFault flagFault sizeFault
+  unfolding verdict firstFault flagFault sizeFault patternFault
   early fault e n = go u1 u2 u3 u4 u5 u6 e
     where
-      go : (a b c d g h : Bool) → fault ≡ cond (eqb (cond a 2 (cond b 24 0)) 0) (cond c 5 (cond d 26 (cond g 28 (cond h 20 0)))) (cond a 2 (cond b 24 0))
+      go : (a b c d g h : Bool) → fault ≡ cond (eqb (cond a 2 (cond b 24 0)) 0) (cond (eqb (cond c 5 (cond d 26 0)) 0) (cond g 28 (cond h 20 0)) (cond c 5 (cond d 26 0))) (cond a 2 (cond b 24 0))
           → cond a (refused 2 0) (cond b (refused 24 0) (cond c (refused 5 0) (cond d (refused 26 0) (cond g (refused 28 0) (cond h (refused 20 0) reads))))) ≡ refused fault 0
       go true b c d g h x = ap (λ (y : ℕ). refused y 0) (sym x)
       go false true c d g h x = ap (λ (y : ℕ). refused y 0) (sym x)
@@ -70,11 +71,11 @@ module _ (q : Question) (space : ℕ) where
     pub room : 1024 ≤ space
 
   pub passed : firstFault q space ≡ 0 → Passed
-  unfolding verdict firstFault flagFault sizeFault limitedRead
+  unfolding verdict firstFault flagFault sizeFault patternFault limitedRead
   passed e = go u1 u2 u3 u4 u5 u6 refl refl refl refl refl refl e
     where
       go : (a b c d g h : Bool) → u1 ≡ a → u2 ≡ b → u3 ≡ c → u4 ≡ d → u5 ≡ g → u6 ≡ h
-          → _≡_ {A = ℕ} (cond (eqb (cond a 2 (cond b 24 0)) 0) (cond c 5 (cond d 26 (cond g 28 (cond h 20 0)))) (cond a 2 (cond b 24 0))) 0 → Passed
+          → _≡_ {A = ℕ} (cond (eqb (cond a 2 (cond b 24 0)) 0) (cond (eqb (cond c 5 (cond d 26 0)) 0) (cond g 28 (cond h 20 0)) (cond c 5 (cond d 26 0))) (cond a 2 (cond b 24 0))) 0 → Passed
       go true b c d g h p1 p2 p3 p4 p5 p6 x = absurd (omega arith)
       go false true c d g h p1 p2 p3 p4 p5 p6 x = absurd (omega arith)
       go false false true d g h p1 p2 p3 p4 p5 p6 x = absurd (omega arith)

@@ -9,7 +9,7 @@ use lib.Dec.{ltb}
 use lib.ListN.{length, set, take, drop, length-append, length-set, length-drop, length-map}
 use Rattle.sets.specs.Set.{asOne}
 use Rattle.plain.specs.Run.{Hit, pick, shown, inside, kept, Lent, lent, filled}
-use Rattle.plain.specs.Answer.{windowsOf}
+use Rattle.pattern.specs.Windows.{windowsOf}
 use Rattle.plain.specs.Invariants.{choiceOf, due, writes, put, Slots, Alike, Reported, Delivered, Goes, Both}
 use Rattle.plain.specs.declared.run.Wanted.{Wanted}
 

@@ -15,7 +15,7 @@ use Rattle.regex.specs.Automaton.{null}
 use Rattle.marks.specs.Marks.{none, when, ends, moved}
 use Rattle.marks.specs.Gaps.{innerWorld, outerWorld, taken}
 use Rattle.plain.specs.Run.{before, after, marksAt, ownAt, lateAt, lineAt, endAt, Hit, shown, inside, Choice, pick, upTo, closed, Lent}
-use Rattle.plain.specs.Answer.{windowsOf}
+use Rattle.pattern.specs.Windows.{windowsOf}
 use Rattle.nodes.specs.Invariants.{Written, formAt}
 use Rattle.marks.specs.Invariants.{Took, Plays, Taking}
 use Rattle.plain.specs.Invariants.{choiceOf, due, Slots, Alike, Delivered, Both, Runs, Asks, Stands, Stepped, Closes, Closed, Ran}

@@ -12,9 +12,10 @@ use Rattle.regex.specs.Ordered.{Report, Ordered}
 use Rattle.nodes.specs.Nodes.{Syntax}
 use Rattle.pattern.specs.Walk.{Read, tree, refused}
 use Rattle.pattern.specs.Read.{tooLong, readOf, optionsOf}
+use Rattle.pattern.specs.Windows.{windowsOf, emptyWindow}
+use Rattle.pattern.specs.declared.bounds.Bounds.{Bounds}
 use Rattle.plain.specs.Run.{Lent}
 use Rattle.plain.specs.declared.Matched.{Matched}
-use Rattle.plain.specs.declared.Bounds.{Bounds}
 
 -- what the matcher is asked: pattern bytes, flags, windows, a whole log
 pub record Question : Type 0 where
@@ -22,10 +23,6 @@ pub record Question : Type 0 where
   pub flags : ℕ
   pub windows : Windows
   pub log : List ℕ
-
--- "smallest and largest end offset, and smallest match length"
-abbrev pub windowsOf : Bounds → Windows
-windowsOf v = record { smallest-end = v .lowest; largest-end = v .highest; smallest-length = v .shortest }
 
 abbrev pub question : (pattern : List ℕ) (flags : ℕ) (windows : Bounds) (log : List ℕ) → Question
 question pattern flags windows log =
@@ -58,7 +55,7 @@ verdict q space =
     cond (not (eqb (bitAnd (q .flags) knownFlags) (q .flags))) (refused 2 0)
     (cond (hasLeftmost (q .flags) && hasSingle (q .flags)) (refused 24 0)
     (cond (tooLong (q .pattern)) (refused 5 0)
-    (cond (ltb (q .windows .largest-end) (q .windows .smallest-end)) (refused 26 0)
+    (cond (emptyWindow (q .windows)) (refused 26 0)
     (cond (ltb longestLog (length (q .log))) (refused 28 0)
     (cond (ltb space leastSpace) (refused 20 0)
     (readOf (q .pattern) (optionsOf (q .flags))))))))

@@ -9,11 +9,11 @@ use lib.ListN.{length, set}
 use Rattle.regex.specs.Form.{positions}
 use Rattle.regex.specs.Rule.{Windows}
 use Rattle.nodes.specs.Invariants.{Written, formAt}
-use Rattle.pattern.specs.Read.{longest}
+use Rattle.pattern.specs.Windows.{windowsOf, sizeFault as patternFault}
+use Rattle.pattern.specs.declared.bounds.Bounds.{Bounds}
 use Rattle.marks.specs.Invariants.{Plays}
 use Rattle.plain.specs.Run.{marksAt, ownAt, lateAt, Hit, shown, inside, Choice, pick, upTo, closed, kept, Lent, lent, filled}
-use Rattle.plain.specs.Answer.{Question, windowsOf, knownFlags, hasSingle, hasLeftmost, longestLog, leastSpace}
-use Rattle.plain.specs.declared.Bounds.{Bounds}
+use Rattle.plain.specs.Answer.{Question, knownFlags, hasSingle, hasLeftmost, longestLog, leastSpace}
 use Rattle.plain.specs.declared.run.Taken.{Taken}
 use Rattle.plain.specs.declared.run.Wanted.{Wanted}
 
@@ -115,10 +115,8 @@ flagFault flags =
 
 unfoldable pub sizeFault : (pattern : ℕ) (w : Windows) (log space : ℕ) → ℕ
 sizeFault pattern w log space =
-    cond (ltb longest pattern) 5
-    (cond (ltb (w .largest-end) (w .smallest-end)) 26
-    (cond (ltb longestLog log) 28
-    (cond (ltb space leastSpace) 20 0)))
+    cond (eqb (patternFault pattern w) 0)
+    (cond (ltb longestLog log) 28 (cond (ltb space leastSpace) 20 0)) (patternFault pattern w)
 
 unfoldable pub firstFault : Question → (space : ℕ) → ℕ
 firstFault q space =

@@ -3,10 +3,12 @@
 // are moved along the rows of the rule as it is written out, byte by byte.
 mod run;
 
+use pattern::Bounds;
 use run::Wanted;
 ghost use mathlib.Core.Path.{_≡_};
 ghost use Prim.Native.Nat.{min};
-ghost use Rattle.plain.specs.Answer.{windowsOf, question, Matches, refusal};
+ghost use Rattle.pattern.specs.Windows.{windowsOf};
+ghost use Rattle.plain.specs.Answer.{question, Matches, refusal};
 ghost use Rattle.plain.specs.Run.{lent};
 ghost use Rattle.plain.specs.Invariants.{flagFault, sizeFault, firstFault, Checked, wantedBy};
 
@@ -18,20 +20,10 @@ pub struct Matched {
     pub count: usize,
 }
 
-// The windows of a rule: smallest and largest end offset, and smallest length of a match. One that
-// is left out is 0, the largest number, 0.
-pub struct Bounds {
-    pub lowest: u64,
-    pub highest: u64,
-    pub shortest: u64,
-}
-
 // The flags: caseless 1, dot matches all 2, line mode 4, single match 8, leftmost start 256.
 const KNOWN_FLAGS: u32 = 271;
 
-// The longest pattern and log, and the smallest report space.
-const LONGEST_PATTERN: usize = 1024;
-
+// The longest log, and the smallest report space.
 const LONGEST_LOG: usize = 1024;
 
 const SPACE: usize = 1024;
@@ -63,11 +55,9 @@ fn flag_fault(flags: u32) -> u32
 fn size_fault(pattern: usize, bounds: Bounds, log: usize, space: usize) -> u32
     ensures { λ r. ⌜ r ≡ sizeFault pattern (windowsOf bounds) log space ⌝ }
 {
-    if pattern > LONGEST_PATTERN {
-        return 5;
-    }
-    if bounds.highest < bounds.lowest {
-        return 26;
+    let fault = pattern::size_fault(pattern, bounds);
+    if fault != 0 {
+        return fault;
     }
     if log > LONGEST_LOG {
         return 28;

@@ -1,15 +1,15 @@
 // A log, byte by byte.
-use crate::Bounds;
 use marks::byte::take_byte;
 use marks::parts::WORDS;
 use marks::starts::NONE;
 use marks::write_out;
+use pattern::Bounds;
 ghost use mathlib.Core.Path.{_≡_};
 ghost use Prim.Native.Nat.{suc, _+_, _≤_, _<_};
 ghost use lib.ListN.{length};
 ghost use Rattle.sets.specs.Set.{asOne};
 ghost use Rattle.plain.specs.Run.{marksAt, closed, inside, shown, lent};
-ghost use Rattle.plain.specs.Answer.{windowsOf};
+ghost use Rattle.pattern.specs.Windows.{windowsOf};
 ghost use Rattle.nodes.specs.Invariants.{formAt};
 ghost use Rattle.plain.specs.Invariants.{Asks, due, choiceOf, Slots, Reported, Both, Delivered, Runs, Stands, Stepped, Closes, Closed, Ran};
 

@@ -6,13 +6,14 @@ use mathlib.Core.Bool.{Bool, true, false, cond, _||_, or-false, or-assoc}
 use mathlib.Core.Logic.{_↔_}
 use mathlib.Core.List.{List, [], _∷_, _++_, List·Memᴰ, List·Memᴰ·head, List·Memᴰ·tail}
 use Prim.Native.Nat.{ℕ, _+_, _^_, _≤_, _<_}
+use native.Mathlib.Nat.{not-suc-le-zero}
 use native.Mathlib.Decide.{decLt, ℕ-discrete}
 use native.Mathlib.Omega.{arith}
 use lib.Dec.{eqb, ltb}
 use lib.ListN.{length, length-append}
 use borrow.Author.Tests.{lt-ltb, le-ltb, ne-eqb, eqb-true}
 use Rattle.sets.specs.Set.{any}
-use Rattle.table.specs.Layout.{tableWords, maxRules, rulesOf, positionsOf, idWord}
+use Rattle.table.specs.Layout.{tableWords, maxRules, maxPositions, rulesOf, positionsOf, idWord}
 use Rattle.table.specs.Table.{isTable, emptied}
 use Rattle.table.specs.Automaton.{Automaton, automaton}
 use Rattle.table.proofs.Test.{Passes, passes, accepted, refused as no-table}
@@ -25,7 +26,7 @@ use Rattle.automaton.specs.Parts.{formParts}
 use Rattle.automaton.specs.declared.Parts.{Parts}
 use Rattle.automaton.proofs.Padded.{parts-whole}
 use Rattle.rules.specs.Gaps.{holdingAt, partsAt}
-use Rattle.rules.specs.Words.{placeOf, withWindow, added}
+use Rattle.rules.specs.Words.{placeOf, needsStart, withWindow, added, addedIn}
 use Rattle.rules.specs.Add.{Addition, readingOf, answer, hasId, addAnswer, withRule, addWords}
 use Rattle.rules.specs.Additions.{Narrow, Accepted, size, used, taken, nextAnswer, acceptedOf, withNew, afterNext, acceptedAfter}
 use Rattle.rules.specs.Encoded.{addAll, encode}
@@ -35,8 +36,9 @@ use Rattle.rules.proofs.Kept.{passes-added, has-id-added}
 use Rattle.rules.proofs.Views.{extended-in, inside-in}
 use Rattle.rules.proofs.Windows.{window-passes, window-rules, window-positions, window-has-id}
 use Rattle.rules.proofs.Parts.{sized-parts}
-use Rattle.rules.proofs.Sorted.{Placed, at, insert, laid, into, byId, byId-more, place, place-within, smaller-before, larger-there}
+use Rattle.rules.proofs.Sorted.{Placed, at, insert, laid, into, byId, byId-more, place, place-within, insert-each, smaller-before, larger-there}
 use Rattle.rules.proofs.Encodes.{Encodes, encodes-none, encodes-more}
+use Rattle.rules.proofs.Lengths.{Measures, measured, measures-old, measures-new}
 use Rattle.rules.proofs.Regions.{added-rules, added-positions}
 use Rattle.rules.proofs.Readings.{Reads, reads}
 use Rattle.rules.proofs.Checks.{Admits, zero-if, no-record, accepted-passes}
@@ -53,10 +55,10 @@ unfolding taken
 taken-more [] r id = or-false (eqb (r .id) id)
 taken-more (x ∷ xs) r id = ap (λ (b : Bool). eqb (x .id) id || b) (taken-more xs r id) ∙ sym (or-assoc (eqb (x .id) id) (taken xs id) (eqb (r .id) id))
 
-encode-more : (t : List ℕ) (rs : List Accepted) (r : Accepted) → encode t (rs ++ (r ∷ [])) ≡ added (withWindow (encode t rs) (r .id) (r .lowest) (r .highest)) (r .id) (r .flags) (partsAt (r .tree) (positionsOf (encode t rs)))
+encode-more : (t : List ℕ) (rs : List Accepted) (r : Accepted) → encode t (rs ++ (r ∷ [])) ≡ addedIn (encode t rs) (r .id) (r .flags) (r .windows) (partsAt (r .tree) (positionsOf (encode t rs)))
 unfolding encode
 encode-more t [] r = refl
-encode-more t (x ∷ xs) r = encode-more (added (withWindow t (x .id) (x .lowest) (x .highest)) (x .id) (x .flags) (partsAt (x .tree) (positionsOf t))) xs r
+encode-more t (x ∷ xs) r = encode-more (addedIn t (x .id) (x .flags) (x .windows) (partsAt (x .tree) (positionsOf t))) xs r
 
 -- ---- what a list leaves
 
@@ -67,6 +69,8 @@ pub record Built (t : List ℕ) (rs : List Accepted) : Type 0 where
   pub positions : positionsOf t ≡ used rs
   pub ids : (id : ℕ) → hasId t id ≡ taken rs id
   pub encodes : Encodes (automaton t) (byId rs)
+  -- with the smallest length of each
+  pub measures : (a : ℕ) → a < length (byId rs) → Measures t (at (byId rs) a)
 
 -- the words are emptied
 pub built-none : (t : List ℕ) → tableWords ≤ length t → Built (emptied t) []
@@ -78,6 +82,7 @@ built-none t long =
       positions = emptied-zero t long 2 (omega arith) (omega arith);
       ids = λ id. ap (λ (n : ℕ). any n (λ a. eqb (idWord (emptied t) a) id)) none;
       encodes = subst (λ (w : Automaton). Encodes w []) (sym (empty-automaton t long)) encodes-none;
+      measures = λ a h. absurd (not-suc-le-zero h);
     }
   where
     none : rulesOf (emptied t) ≡ 0
@@ -141,46 +146,70 @@ module _ (t : List ℕ) (rs : List Accepted) (b : Built t rs) (a : Addition) (na
           let z : place new ps ≡ c = omega arith in
           subst (λ (j : ℕ). a .id ≤ at ps j .rule .id) z (larger-there new ps (omega arith))
 
-  -- the table with the window
+  -- whether its positions keep a start
+  abbrev keeping : Bool
+  keeping = needsStart (a .flags) (a .windows)
+
+  -- the table with the windows
   abbrev s : List ℕ
-  s = withWindow t (a .id) (a .lowest) (a .highest)
+  s = withWindow t (a .id) (a .windows)
 
   few-rules : rulesOf t < maxRules
   few-rules = omega (arith, b .rules, ok .few)
 
   passed-s : Passes s
-  passed-s = window-passes t (a .id) (a .lowest) (a .highest) (b .passed .long) few-rules (b .passed)
+  passed-s = window-passes t (a .id) (a .windows) (b .passed .long) few-rules (b .passed)
 
   rules-s : rulesOf s ≡ rulesOf t
-  rules-s = window-rules t (a .id) (a .lowest) (a .highest) (b .passed .long) few-rules
+  rules-s = window-rules t (a .id) (a .windows) (b .passed .long) few-rules
 
   positions-s : positionsOf s ≡ positionsOf t
-  positions-s = window-positions t (a .id) (a .lowest) (a .highest) (b .passed .long) few-rules
+  positions-s = window-positions t (a .id) (a .windows) (b .passed .long) few-rules
 
   ids-s : (id : ℕ) → hasId s id ≡ hasId t id
-  ids-s = window-has-id t (a .id) (a .lowest) (a .highest) (b .passed .long) few-rules
+  ids-s = window-has-id t (a .id) (a .windows) (b .passed .long) few-rules
 
-  encoded : Encodes (automaton (added s (a .id) (a .flags) parts)) (byId (rs ++ (r ∷ [])))
+  -- the table with the rule
+  abbrev u : List ℕ
+  u = addedIn t (a .id) (a .flags) (a .windows) parts
+
+  fits : positionsOf t + parts 0 .positions ≤ maxPositions
+  fits = omega (arith, b .positions, more, ok .room)
+
+  in-order : insert new ps ≡ byId (rs ++ (r ∷ []))
+  in-order = sym (byId-more rs r ∙ ap (λ (k : ℕ). insert (record { rule = r; from = k }) ps) (sym (b .positions)))
+
+  -- the smallest lengths
+  old-measures : (c : ℕ) → c < length ps → Measures u (at ps c)
+  unfolding automaton
+  old-measures c h = measures-old t r parts more (b .passed .long) few-rules fits (at ps c) (b .encodes .rule c h .within) (b .measures c h)
+
+  new-measures : Measures u new
+  new-measures = measures-new t r parts more (b .passed .long) few-rules fits
+
+  encoded : Encodes (automaton u) (byId (rs ++ (r ∷ [])))
   unfolding automaton
   encoded =
-      subst (Encodes (automaton (added s (a .id) (a .flags) parts))) (sym (byId-more rs r ∙ ap (λ (k : ℕ). insert (record { rule = r; from = k }) ps) (sym (b .positions))))
-      (encodes-more (automaton t) (automaton (added s (a .id) (a .flags) parts)) (placeOf t (a .id)) r parts
-      (extended-in t (a .id) (a .flags) (a .lowest) (a .highest) parts (b .passed .long) few-rules (omega (arith, b .positions, more)))
+      subst (Encodes (automaton u)) in-order
+      (encodes-more (automaton t) (automaton u) (placeOf t (a .id)) r parts
+      (extended-in t (a .id) (a .flags) (a .windows) parts (b .passed .long) few-rules fits)
       are (omega (arith, b .positions)) ps (b .encodes) here (read .full)
       (λ c h e. fresh c (omega (arith, b .encodes .rules)) (word-id c (omega (arith, b .encodes .rules)) ∙ e))
-      (inside-in t (a .id) (a .flags) (a .lowest) (a .highest) parts (b .passed .long) few-rules (omega (arith, b .positions, more))))
+      (inside-in t (a .id) (a .flags) (a .windows) parts (b .passed .long) few-rules fits)
+      (λ c h. measured u (at ps c) (old-measures c h)) (measured u new new-measures))
 
-  pub built-more : Built (added (withWindow t (a .id) (a .lowest) (a .highest)) (a .id) (a .flags) (partsAt x (positionsOf t))) (rs ++ (acceptedOf a x ∷ []))
+  pub built-more : Built (addedIn t (a .id) (a .flags) (a .windows) (partsAt x (positionsOf t))) (rs ++ (acceptedOf a x ∷ []))
   built-more =
       record {
-        passed = passes-added s (a .id) (a .flags) parts passed-s (omega (arith, rules-s, b .rules)) (omega (arith, positions-s, b .positions, more)) narrow
+        passed = passes-added s (a .id) (a .flags) keeping parts passed-s (omega (arith, rules-s, b .rules)) (omega (arith, positions-s, b .positions, more)) narrow
             (no-record s (a .id) (ids-s (a .id) ∙ b .ids (a .id) ∙ ok .free));
-        rules = added-rules s (a .id) (a .flags) parts (passed-s .long) ∙ ap (λ (k : ℕ). k + 1) (rules-s ∙ b .rules) ∙ sym (length-append rs (r ∷ []));
-        positions = added-positions s (a .id) (a .flags) parts (passed-s .long) ∙ ap₂ (λ (j k : ℕ). j + k) (positions-s ∙ b .positions) more ∙ sym (used-more rs r);
+        rules = added-rules s (a .id) (a .flags) keeping parts (passed-s .long) ∙ ap (λ (k : ℕ). k + 1) (rules-s ∙ b .rules) ∙ sym (length-append rs (r ∷ []));
+        positions = added-positions s (a .id) (a .flags) keeping parts (passed-s .long) ∙ ap₂ (λ (j k : ℕ). j + k) (positions-s ∙ b .positions) more ∙ sym (used-more rs r);
         ids = λ id.
-            has-id-added s (a .id) (a .flags) parts (passed-s .long) (omega (arith, rules-s, b .rules)) id
+            has-id-added s (a .id) (a .flags) keeping parts (passed-s .long) (omega (arith, rules-s, b .rules)) id
             ∙ ap (λ (y : Bool). y || eqb (a .id) id) (ids-s id ∙ b .ids id) ∙ sym (taken-more rs r id);
         encodes = encoded;
+        measures = subst (λ (qs : List Placed). (c : ℕ) → c < length qs → Measures u (at qs c)) in-order (insert-each new (Measures u) ps old-measures new-measures);
       }
 
 -- ---- the answer

@@ -21,12 +21,13 @@ use Rattle.regex.proofs.Counted.{within-limit}
 use Rattle.nodes.specs.Nodes.{Syntax, treeAt}
 use Rattle.pattern.specs.Walk.{Read, tree, refused}
 use Rattle.pattern.specs.Read.{tooLong, optionsOf, limitedRead, answerOf}
+use Rattle.pattern.specs.Windows.{emptyWindow, sizeFault}
 use Rattle.pattern.specs.declared.Reading.{Reading}
 use Rattle.pattern.proofs.Answers.{within, accepted-tree}
 use Rattle.rules.specs.Gaps.{partsAt}
-use Rattle.rules.specs.Words.{withWindow, added}
-use Rattle.rules.specs.Add.{Addition, readingOf, answer, unknownFlag, singleStart, emptyWindow, hasId, placed, addAnswer, withRule, addWords}
-use Rattle.rules.specs.Invariants.{firstFault, sizeFault}
+use Rattle.rules.specs.Words.{needsStart, withWindow, added}
+use Rattle.rules.specs.Add.{Addition, readingOf, answer, unknownFlag, singleStart, hasId, placed, addAnswer, withRule, addWords}
+use Rattle.rules.specs.Invariants.{firstFault}
 use Rattle.rules.specs.declared.Added.{Added}
 use Rattle.rules.proofs.Windows.{length-window, window-rules, window-positions}
 
@@ -103,7 +104,7 @@ module _ (t : List ℕ) (a : Addition) where
   early f e n = kept (answer f 0) (go (isTable t) (unknownFlag (a .flags)) (singleStart (a .flags)) (hasId t (a .id)) (leb maxRules (rulesOf t)) e) n
     where
       last : Added
-      last = cond (tooLong (a .pattern)) (answer 5 0) (cond (emptyWindow a) (answer 26 0) (placed (positionsOf t) (length (a .pattern)) (readingOf a)))
+      last = cond (tooLong (a .pattern)) (answer 5 0) (cond (emptyWindow (a .windows)) (answer 26 0) (placed (positionsOf t) (length (a .pattern)) (readingOf a)))
 
       go : (t b s c d : Bool) → f ≡ cond t (cond b 2 (cond s 24 (cond c 3 (cond d 4 0)))) 1
           → answer f 0 ≡ cond t (cond b (answer 2 0) (cond s (answer 24 0) (cond c (answer 3 0) (cond d (answer 4 0) last)))) (answer 1 0)
@@ -135,14 +136,14 @@ module _ (t : List ℕ) (a : Addition) where
     pub passed-few : rulesOf t < maxRules
     passed-few = leb-false maxRules (rulesOf t) (checks .4)
 
-    after-size : addAnswer t a ≡ cond (tooLong (a .pattern)) (answer 5 0) (cond (emptyWindow a) (answer 26 0) (placed (positionsOf t) (length (a .pattern)) (readingOf a)))
+    after-size : addAnswer t a ≡ cond (tooLong (a .pattern)) (answer 5 0) (cond (emptyWindow (a .windows)) (answer 26 0) (placed (positionsOf t) (length (a .pattern)) (readingOf a)))
     unfolding addAnswer
     after-size = rw (checks .0, checks .1, checks .2, checks .3, checks .4)
 
     -- by the length and the window
-    pub unfit : (f : ℕ) → f ≡ sizeFault a → (f ≡ 0 → ⊥) → Answers (answer f 0) t
+    pub unfit : (f : ℕ) → f ≡ sizeFault (length (a .pattern)) (a .windows) → (f ≡ 0 → ⊥) → Answers (answer f 0) t
     unfolding sizeFault
-    unfit f e n = kept (answer f 0) (go (tooLong (a .pattern)) (emptyWindow a) e ∙ sym after-size) n
+    unfit f e n = kept (answer f 0) (go (tooLong (a .pattern)) (emptyWindow (a .windows)) e ∙ sym after-size) n
       where
         go : (l w : Bool) → f ≡ cond l 5 (cond w 26 0)
             → answer f 0 ≡ cond l (answer 5 0) (cond w (answer 26 0) (placed (positionsOf t) (length (a .pattern)) (readingOf a)))
@@ -150,14 +151,14 @@ module _ (t : List ℕ) (a : Addition) where
         go false true z = ap (λ (k : ℕ). answer k 0) z
         go false false z = absurd (n z)
 
-    module _ (fitting : 0 ≡ sizeFault a) where
+    module _ (fitting : 0 ≡ sizeFault (length (a .pattern)) (a .windows)) where
       -- what the reader gives of the pattern
       abbrev given : Read
       given = limitedRead (a .pattern) (optionsOf (a .flags))
 
       then-read : addAnswer t a ≡ placed (positionsOf t) (length (a .pattern)) given
       unfolding limitedRead sizeFault
-      then-read = after-size ∙ go (tooLong (a .pattern)) (emptyWindow a) fitting
+      then-read = after-size ∙ go (tooLong (a .pattern)) (emptyWindow (a .windows)) fitting
         where
           go : (b c : Bool) → _≡_ {A = ℕ} 0 (cond b 5 (cond c 26 0))
               → cond b (answer 5 0) (cond c (answer 26 0) (placed (positionsOf t) (length (a .pattern)) (readingOf a))) ≡ placed (positionsOf t) (length (a .pattern)) (cond b (refused 5 0) (readingOf a))
@@ -214,18 +215,22 @@ module _ (t : List ℕ) (a : Addition) where
           room : positionsOf t + positions (write x) ≤ limit
           room = omega (arith, counted)
 
-          -- the table with the window has as many rules and positions
+          -- whether its positions keep a start
+          abbrev keeping : Bool
+          keeping = needsStart (a .flags) (a .windows)
+
+          -- the table with the windows has as many rules and positions
           abbrev s : List ℕ
-          s = withWindow t (a .id) (a .lowest) (a .highest)
+          s = withWindow t (a .id) (a .windows)
 
           positions-s : positionsOf s ≡ positionsOf t
-          positions-s = window-positions t (a .id) (a .lowest) (a .highest) (passed-table .long) passed-few
+          positions-s = window-positions t (a .id) (a .windows) (passed-table .long) passed-few
 
           pub long-room : tableWords ≤ length s
-          long-room = omega (arith, length-window t (a .id) (a .lowest) (a .highest) (passed-table .long) passed-few, passed-table .long)
+          long-room = omega (arith, length-window t (a .id) (a .windows) (passed-table .long) passed-few, passed-table .long)
 
           pub few-room : rulesOf s < maxRules
-          few-room = omega (arith, window-rules t (a .id) (a .lowest) (a .highest) (passed-table .long) passed-few, passed-few)
+          few-room = omega (arith, window-rules t (a .id) (a .windows) (passed-table .long) passed-few, passed-few)
 
           pub fits-room : positionsOf s + positions (write (treeAt (r .nodes) (r .root))) ≤ maxPositions
           fits-room =
@@ -235,8 +240,8 @@ module _ (t : List ℕ) (a : Addition) where
           pub same-positions : positionsOf t ≡ positionsOf s
           same-positions = sym positions-s
 
-          pub accepted : (u : List ℕ) → u ≡ added s (a .id) (a .flags) (partsAt (treeAt (r .nodes) (r .root)) (positionsOf s)) → Answers (answer 0 0) u
+          pub accepted : (u : List ℕ) → u ≡ added s (a .id) (a .flags) keeping (partsAt (treeAt (r .nodes) (r .root)) (positionsOf s)) → Answers (answer 0 0) u
           unfolding addWords withRule
           accepted u w =
               let z : addAnswer t a ≡ answer 0 0 = last-answer ∙ ap (λ (b : Bool). cond b (answer 17 (length (a .pattern))) (answer 0 0)) (le-ltb limit (positionsOf t + positions (write x)) room) in
-              (sym z, w ∙ ap₂ (λ (y : Syntax) (n : ℕ). added s (a .id) (a .flags) (partsAt y n)) here positions-s ∙ sym (ap₂ (λ (d : Added) (o : Read). cond (eqb (d .number) 0) (withRule t a o) t) z read))
+              (sym z, w ∙ ap₂ (λ (y : Syntax) (n : ℕ). added s (a .id) (a .flags) keeping (partsAt y n)) here positions-s ∙ sym (ap₂ (λ (d : Added) (o : Read). cond (eqb (d .number) 0) (withRule t a o) t) z read))

@@ -21,10 +21,11 @@ use Rattle.regex.specs.Count.{limit}
 use Rattle.nodes.specs.Nodes.{Syntax}
 use Rattle.pattern.specs.Walk.{Read, tree, refused}
 use Rattle.pattern.specs.Read.{longest, tooLong, optionsOf}
+use Rattle.pattern.specs.Windows.{emptyWindow}
 use Rattle.automaton.specs.declared.Parts.{Parts}
 use Rattle.rules.specs.Gaps.{holdingAt, partsAt}
-use Rattle.rules.specs.Words.{withWindow, added}
-use Rattle.rules.specs.Add.{Addition, readingOf, answer, unknownFlag, singleStart, emptyWindow, hasId, placed, addAnswer, withRule, addWords}
+use Rattle.rules.specs.Words.{needsStart, withWindow, added}
+use Rattle.rules.specs.Add.{Addition, readingOf, answer, unknownFlag, singleStart, hasId, placed, addAnswer, withRule, addWords}
 use Rattle.rules.specs.declared.Added.{Added}
 use Rattle.rules.proofs.Kept.{passes-added}
 use Rattle.rules.proofs.Windows.{window-passes, window-rules, window-positions, window-has-id}
@@ -42,7 +43,7 @@ module _ (there : Bool) (rules used : ℕ) (a : Addition) where
     pub free : there ≡ false
     pub few : rules < maxRules
     pub short : length (a .pattern) ≤ longest
-    pub open-window : emptyWindow a ≡ false
+    pub open-window : emptyWindow (a .windows) ≡ false
     pub read : Syntax
     pub reading : readingOf a ≡ tree read
     pub room : used + positions (write read) ≤ maxPositions
@@ -54,18 +55,18 @@ module _ (there : Bool) (rules used : ℕ) (a : Addition) where
       (cond there (answer 3 0)
       (cond (leb maxRules rules) (answer 4 0)
       (cond (tooLong (a .pattern)) (answer 5 0)
-      (cond (emptyWindow a) (answer 26 0)
+      (cond (emptyWindow (a .windows)) (answer 26 0)
       (placed used (length (a .pattern)) (readingOf a)))))))
 
   admits : checked .number ≡ 0 → Admits
   unfolding unknownFlag placed
-  admits = go (unknownFlag (a .flags)) (singleStart (a .flags)) there (leb maxRules rules) (tooLong (a .pattern)) (emptyWindow a) (readingOf a) refl refl refl refl refl refl refl
+  admits = go (unknownFlag (a .flags)) (singleStart (a .flags)) there (leb maxRules rules) (tooLong (a .pattern)) (emptyWindow (a .windows)) (readingOf a) refl refl refl refl refl refl refl
     where
       fits : (x : Syntax) (c : Bool) → ltb limit (used + positions (write x)) ≡ c → cond c (answer 17 (length (a .pattern))) (answer 0 0) .number ≡ 0 → used + positions (write x) ≤ limit
       fits x true e h = absurd (omega (arith, h))
       fits x false e h = ltb-false limit (used + positions (write x)) e
 
-      go : (u b k f l e : Bool) (d : Read) → unknownFlag (a .flags) ≡ u → singleStart (a .flags) ≡ b → there ≡ k → leb maxRules rules ≡ f → tooLong (a .pattern) ≡ l → emptyWindow a ≡ e → readingOf a ≡ d
+      go : (u b k f l e : Bool) (d : Read) → unknownFlag (a .flags) ≡ u → singleStart (a .flags) ≡ b → there ≡ k → leb maxRules rules ≡ f → tooLong (a .pattern) ≡ l → emptyWindow (a .windows) ≡ e → readingOf a ≡ d
           → cond u (answer 2 0) (cond b (answer 24 0) (cond k (answer 3 0) (cond f (answer 4 0) (cond l (answer 5 0) (cond e (answer 26 0) (placed used (length (a .pattern)) d)))))) .number ≡ 0 → Admits
       go true b k f l e d p o q r m n s h = absurd (omega (arith, h))
       go false true k f l e d p o q r m n s h = absurd (omega (arith, h))
@@ -128,33 +129,37 @@ module _ (t : List ℕ) (a : Addition) (ok : addAnswer t a .number ≡ 0) where
       ∙ ap (λ (d : Added). d .place) (admitted (hasId t (a .id)) (rulesOf t) (positionsOf t) a (checks .1))
 
   abbrev s : List ℕ
-  s = withWindow t (a .id) (a .lowest) (a .highest)
+  s = withWindow t (a .id) (a .windows)
+
+  -- whether its positions keep a start
+  abbrev keeping : Bool
+  keeping = needsStart (a .flags) (a .windows)
 
   long : tableWords ≤ length t
   long = passes t (checks .0) .long
 
   passes-s : Passes s
-  passes-s = window-passes t (a .id) (a .lowest) (a .highest) long (checks .1 .few) (passes t (checks .0))
+  passes-s = window-passes t (a .id) (a .windows) long (checks .1 .few) (passes t (checks .0))
 
   rules-s : rulesOf s ≡ rulesOf t
-  rules-s = window-rules t (a .id) (a .lowest) (a .highest) long (checks .1 .few)
+  rules-s = window-rules t (a .id) (a .windows) long (checks .1 .few)
 
   positions-s : positionsOf s ≡ positionsOf t
-  positions-s = window-positions t (a .id) (a .lowest) (a .highest) long (checks .1 .few)
+  positions-s = window-positions t (a .id) (a .windows) long (checks .1 .few)
 
-  with-rule : addWords t a ≡ added s (a .id) (a .flags) parts
+  with-rule : addWords t a ≡ added s (a .id) (a .flags) keeping parts
   unfolding addWords withRule
   with-rule = rw (eq-eqb (addAnswer t a .number) 0 ok, checks .1 .reading)
 
   -- the words have one rule more
   pub accepted-rules : rulesOf (addWords t a) ≡ rulesOf t + 1
-  accepted-rules = ap rulesOf with-rule ∙ added-rules s (a .id) (a .flags) parts (passes-s .long) ∙ ap (λ (n : ℕ). n + 1) rules-s
+  accepted-rules = ap rulesOf with-rule ∙ added-rules s (a .id) (a .flags) keeping parts (passes-s .long) ∙ ap (λ (n : ℕ). n + 1) rules-s
 
   -- and pass the test
   pub accepted-passes : a .id < 2 ^ 32 → isTable (addWords t a) ≡ true
   accepted-passes narrow =
       ap isTable with-rule
-      ∙ accepted (added s (a .id) (a .flags) parts)
-      (passes-added s (a .id) (a .flags) parts passes-s (omega (arith, rules-s, checks .1 .few))
+      ∙ accepted (added s (a .id) (a .flags) keeping parts)
+      (passes-added s (a .id) (a .flags) keeping parts passes-s (omega (arith, rules-s, checks .1 .few))
       (omega (arith, positions-s, checks .1 .room, sized-parts (checks .1 .read) (positionsOf t) (holdingAt 0) (checks .1 .room))) narrow
-      (no-record s (a .id) (window-has-id t (a .id) (a .lowest) (a .highest) long (checks .1 .few) (a .id) ∙ checks .1 .free)))
+      (no-record s (a .id) (window-has-id t (a .id) (a .windows) long (checks .1 .few) (a .id) ∙ checks .1 .free)))

@@ -35,7 +35,7 @@ use Rattle.regex.proofs.Reports.{Distinct}
 use Rattle.automaton.specs.Parts.{worldOf, formParts}
 use Rattle.automaton.specs.declared.Parts.{Parts}
 use Rattle.rules.specs.Gaps.{holdingAt}
-use Rattle.rules.specs.Words.{raised, isSingle, isLeftmost}
+use Rattle.rules.specs.Words.{raised, isSingle, isLeftmost, needsStart}
 use Rattle.rules.specs.Additions.{Accepted, size, ruleOf}
 use Rattle.rules.proofs.Views.{Extended}
 use Rattle.rules.proofs.Windows.{putIn, insideOf}
@@ -60,14 +60,23 @@ itemOf p q = getD (items (formOf p)) (q - p .from) []
 abbrev pub worldAt : (gap : ℕ) → Assertion → Bool
 worldAt g = worldOf (holdingAt g)
 
+-- its positions keep a start, or none does
+abbrev pub Keeps : Automaton → Placed → Type 0
+Keeps w p = (q : ℕ) → Of p q → w .keeps q ≡ needsStart (p .rule .flags) (p .rule .windows)
+
+-- a match that reaches them may be reported once it is as long as the rule wants
+abbrev pub Long : Automaton → Placed → Type 0
+Long w p = (q : ℕ) → Of p q → (s e : ℕ) → s ≤ e → w .long q s e ≡ leb (s + p .rule .windows .smallest-length) e
+
 -- the rule p stands in place a of the automaton w
 pub record Stands (w : Automaton) (a : ℕ) (p : Placed) : Type 0 where
   pub id-is : w .id a ≡ p .rule .id
   pub once-is : w .once a ≡ isSingle (p .rule .flags)
   pub leftmost-is : w .leftmost a ≡ isLeftmost (p .rule .flags)
-  pub keeps-is : (q : ℕ) → Of p q → w .keeps q ≡ isLeftmost (p .rule .flags)
-  -- it may report at the end offsets of its window
-  pub inside-is : (e : ℕ) → w .inside a e ≡ insideOf (p .rule .lowest) (p .rule .highest) e
+  pub keeps-is : Keeps w p
+  -- it may report at the end offsets of its windows, and the matches that are long enough
+  pub inside-is : (e : ℕ) → w .inside a e ≡ insideOf (p .rule .windows) e
+  pub long-is : Long w p
   -- it takes a byte at least
   pub full : nullable (p .rule .tree) ≡ false
   pub within : p .from + size (p .rule) ≤ w .positions
@@ -143,7 +152,7 @@ encodes-none =
 
 -- ---- one rule more
 
-module _ (w v : Automaton) (k : ℕ) (r : Accepted) (parts : ℕ → Parts) (x : Extended w v k (r .id) (r .flags) parts)
+module _ (w v : Automaton) (k : ℕ) (r : Accepted) (parts : ℕ → Parts) (x : Extended w v k (r .id) (r .flags) (needsStart (r .flags) (r .windows)) parts)
     (is : (g : ℕ) → parts g ≡ formParts (write (r .tree)) (w .positions) (holdingAt g)) (room : w .positions + size r ≤ maxPositions) where
   abbrev n : ℕ
   n = w .positions
@@ -153,6 +162,9 @@ module _ (w v : Automaton) (k : ℕ) (r : Accepted) (parts : ℕ → Parts) (x :
 
   abbrev new : Placed
   new = record { rule = r; from = w .positions }
+
+  abbrev keeping : Bool
+  keeping = needsStart (r .flags) (r .windows)
 
   more : parts 0 .positions ≡ positions f
   more = ap (λ (p : Parts). p .positions) (is 0) ∙ parts-positions f n (holdingAt 0)
@@ -184,7 +196,7 @@ module _ (w v : Automaton) (k : ℕ) (r : Accepted) (parts : ℕ → Parts) (x :
   -- ---- an old rule
 
   module _ (p : Placed) (a c : ℕ) (s : Stands w a p) (id-kept : v .id c ≡ w .id a) (once-kept : v .once c ≡ w .once a) (leftmost-kept : v .leftmost c ≡ w .leftmost a)
-      (inside-kept : (e : ℕ) → v .inside c e ≡ w .inside a e)
+      (inside-kept : (e : ℕ) → v .inside c e ≡ w .inside a e) (long-kept : Keeps v p → Long v p)
       (last-kept : (g q : ℕ) → g < lastGaps → q < n + positions f → lastIn v g c q ≡ (ltb q n && lastIn w g a q)) where
     -- its positions are old ones
     old : (q : ℕ) → Of p q → q < n
@@ -218,19 +230,23 @@ module _ (w v : Automaton) (k : ℕ) (r : Accepted) (parts : ℕ → Parts) (x :
             new-follow g o q z (omega arith) m (omega arith) ∙ follow-out-to f n (worldAt g) o q (low q below) ∙ sym (outside (omega arith))
         go (no l) (no m) = x .follow-rest g o q (omega (arith, more)) ∙ s .follow-is g o q z h
 
+    kept-keeps : Keeps v p
+    kept-keeps q h =
+        let below : q < n = old q h in
+        x .keeps-in q (omega arith)
+        ∙ joined q below (w .keeps q) (keeping && from-to n (n + parts 0 .positions) q)
+        (ap (λ (b : Bool). keeping && b) (from-to-below n (n + parts 0 .positions) q below) ∙ and-false keeping)
+        ∙ s .keeps-is q h
+
     stands-old : Stands v c p
     stands-old =
         record {
           id-is = id-kept ∙ s .id-is;
           once-is = once-kept ∙ s .once-is;
           leftmost-is = leftmost-kept ∙ s .leftmost-is;
-          keeps-is = λ q h.
-              let below : q < n = old q h in
-              x .keeps-in q (omega arith)
-              ∙ joined q below (w .keeps q) (isLeftmost (r .flags) && from-to n (n + parts 0 .positions) q)
-              (ap (λ (b : Bool). isLeftmost (r .flags) && b) (from-to-below n (n + parts 0 .positions) q below) ∙ and-false (isLeftmost (r .flags)))
-              ∙ s .keeps-is q h;
+          keeps-is = kept-keeps;
           inside-is = λ e. inside-kept e ∙ s .inside-is e;
+          long-is = long-kept kept-keeps;
           full = s .full;
           within = omega (arith, s .within, grown);
           takes-is = λ y q l h.
@@ -251,7 +267,7 @@ module _ (w v : Automaton) (k : ℕ) (r : Accepted) (parts : ℕ → Parts) (x :
   -- ---- the new rule
 
   module _ (full : nullable (r .tree) ≡ false) (id-new : v .id k ≡ r .id) (once-new : v .once k ≡ isSingle (r .flags))
-      (leftmost-new : v .leftmost k ≡ isLeftmost (r .flags)) (inside-new : (e : ℕ) → v .inside k e ≡ insideOf (r .lowest) (r .highest) e)
+      (leftmost-new : v .leftmost k ≡ isLeftmost (r .flags)) (inside-new : (e : ℕ) → v .inside k e ≡ insideOf (r .windows) e) (long-new : Keeps v new → Long v new)
       (last-here : (g q : ℕ) → g < lastGaps → q < n + positions f → lastIn v g k q ≡ has (parts g .last) q)
       (nothing-after : (g o q : ℕ) → n ≤ o → w .follow g o q ≡ false) where
     -- an old set has none of its positions
@@ -268,17 +284,21 @@ module _ (w v : Automaton) (k : ℕ) (r : Accepted) (parts : ℕ → Parts) (x :
         go (no l) (no m) =
             x .follow-rest g o q (omega (arith, more)) ∙ nothing-after g o q (omega arith) ∙ sym (follow-out-from f n (worldAt g) o q (high o (omega arith)))
 
+    own-keeps : Keeps v new
+    own-keeps q h =
+        x .keeps-in q (omega arith)
+        ∙ masked q (h .0) (w .keeps q) (keeping && from-to n (n + parts 0 .positions) q)
+        ∙ ap (λ (b : Bool). keeping && b) (from-to-in n (n + parts 0 .positions) q (h .0) (omega (arith, more, h .1))) ∙ and-true keeping
+
     stands-new : Stands v k new
     stands-new =
         record {
           id-is = id-new;
           once-is = once-new;
           leftmost-is = leftmost-new;
-          keeps-is = λ q h.
-              x .keeps-in q (omega arith)
-              ∙ masked q (h .0) (w .keeps q) (isLeftmost (r .flags) && from-to n (n + parts 0 .positions) q)
-              ∙ ap (λ (b : Bool). isLeftmost (r .flags) && b) (from-to-in n (n + parts 0 .positions) q (h .0) (omega (arith, more, h .1))) ∙ and-true (isLeftmost (r .flags));
+          keeps-is = own-keeps;
           inside-is = inside-new;
+          long-is = long-new own-keeps;
           full = full;
           within = omega (arith, grown);
           takes-is = λ y q l h.
@@ -295,7 +315,8 @@ module _ (w v : Automaton) (k : ℕ) (r : Accepted) (parts : ℕ → Parts) (x :
 
   module _ (ps : List Placed) (e : Encodes w ps) (here : place new ps ≡ k) (full : nullable (r .tree) ≡ false)
       (fresh : (a : ℕ) → a < length ps → at ps a .rule .id ≡ r .id → ⊥)
-      (inside-in : (a : ℕ) → a ≤ w .rules → (e : ℕ) → v .inside a e ≡ putIn k (insideOf (r .lowest) (r .highest)) (w .inside) a e) where
+      (inside-in : (a : ℕ) → a ≤ w .rules → (e : ℕ) → v .inside a e ≡ putIn k (insideOf (r .windows)) (w .inside) a e)
+      (long-old : (a : ℕ) → a < length ps → Keeps v (at ps a) → Long v (at ps a)) (long-new : Keeps v new → Long v new) where
     abbrev qs : List Placed
     qs = insert new ps
 
@@ -423,7 +444,8 @@ module _ (w v : Automaton) (k : ℕ) (r : Accepted) (parts : ℕ → Parts) (x :
             (x .id-in a (omega (arith, e .rules)) ∙ put-before (r .id) (w .id) a l)
             (x .once-in a (omega (arith, e .rules)) ∙ put-before (isSingle (r .flags)) (w .once) a l)
             (x .leftmost-in a (omega (arith, e .rules)) ∙ put-before (isLeftmost (r .flags)) (w .leftmost) a l)
-            (λ z. inside-in a (omega (arith, e .rules)) z ∙ ap (λ (g : ℕ → Bool). g z) (put-before (insideOf (r .lowest) (r .highest)) (w .inside) a l))
+            (λ z. inside-in a (omega (arith, e .rules)) z ∙ ap (λ (g : ℕ → Bool). g z) (put-before (insideOf (r .windows)) (w .inside) a l))
+            (long-old a (omega (arith, k-le)))
             (last-old a a (inl (l, refl)) (omega (arith, k-le))))
         go (no l) (yes m) =
             subst (Stands v a) (sym (at-after a m))
@@ -431,7 +453,8 @@ module _ (w v : Automaton) (k : ℕ) (r : Accepted) (parts : ℕ → Parts) (x :
             (x .id-in a (omega (arith, e .rules)) ∙ put-after (r .id) (w .id) a m)
             (x .once-in a (omega (arith, e .rules)) ∙ put-after (isSingle (r .flags)) (w .once) a m)
             (x .leftmost-in a (omega (arith, e .rules)) ∙ put-after (isLeftmost (r .flags)) (w .leftmost) a m)
-            (λ z. inside-in a (omega (arith, e .rules)) z ∙ ap (λ (g : ℕ → Bool). g z) (put-after (insideOf (r .lowest) (r .highest)) (w .inside) a m))
+            (λ z. inside-in a (omega (arith, e .rules)) z ∙ ap (λ (g : ℕ → Bool). g z) (put-after (insideOf (r .windows)) (w .inside) a m))
+            (long-old (a - 1) (omega arith))
             (last-old (a - 1) a (inr (omega arith, omega arith)) (omega arith)))
         go (no l) (no m) =
             let z : k ≡ a = omega arith in
@@ -441,7 +464,8 @@ module _ (w v : Automaton) (k : ℕ) (r : Accepted) (parts : ℕ → Parts) (x :
             (x .id-in k (omega (arith, e .rules)) ∙ put-here (r .id) (w .id))
             (x .once-in k (omega (arith, e .rules)) ∙ put-here (isSingle (r .flags)) (w .once))
             (x .leftmost-in k (omega (arith, e .rules)) ∙ put-here (isLeftmost (r .flags)) (w .leftmost))
-            (λ z. inside-in k (omega (arith, e .rules)) z ∙ ap (λ (g : ℕ → Bool). g z) (put-here (insideOf (r .lowest) (r .highest)) (w .inside)))
+            (λ z. inside-in k (omega (arith, e .rules)) z ∙ ap (λ (g : ℕ → Bool). g z) (put-here (insideOf (r .windows)) (w .inside)))
+            long-new
             last-new
             (e .rest)))
 

@@ -106,19 +106,19 @@ module _ (at k : ℕ) (new : Bool) (s : List ℕ) where
 
 -- ---- the positions that keep a start
 
-module _ (n more : ℕ) (leftmost : Bool) (s : List ℕ) where
+module _ (n more : ℕ) (keeping : Bool) (s : List ℕ) where
   abbrev kept : List ℕ
-  kept = mergedRow s keepersAt n (newKeepers n more leftmost)
+  kept = mergedRow s keepersAt n (newKeepers n more keeping)
 
-  length-keepers : length (keepersPut n more leftmost s) ≡ length s
+  length-keepers : length (keepersPut n more keeping s) ≡ length s
   unfolding keepersPut merged
   length-keepers = length-over keepersAt (keepersAt + 4) (λ w. getD kept (w - keepersAt) 0) s
 
-  keepers-out : (w : ℕ) → Out keepersAt (keepersAt + 4) w → getD (keepersPut n more leftmost s) w 0 ≡ getD s w 0
+  keepers-out : (w : ℕ) → Out keepersAt (keepersAt + 4) w → getD (keepersPut n more keeping s) w 0 ≡ getD s w 0
   unfolding keepersPut merged
   keepers-out w o = over-out keepersAt (keepersAt + 4) (λ w. getD kept (w - keepersAt) 0) s w o
 
-  keepers-in : tableWords ≤ length s → (w : ℕ) → keepersAt ≤ w → w < keepersAt + 4 → getD (keepersPut n more leftmost s) w 0 ≡ getD kept (w - keepersAt) 0
+  keepers-in : tableWords ≤ length s → (w : ℕ) → keepersAt ≤ w → w < keepersAt + 4 → getD (keepersPut n more keeping s) w 0 ≡ getD kept (w - keepersAt) 0
   unfolding keepersPut merged
   keepers-in m w h l = over-in keepersAt (keepersAt + 4) (λ w. getD kept (w - keepersAt) 0) s w h l (omega arith)
 
@@ -175,7 +175,7 @@ module _ (s : List ℕ) where
 
 -- ---- follow sets as the definition has them, where the words before were the table's
 
-module _ (t : List ℕ) (id flags : ℕ) (parts : ℕ → Parts) (even : (g : ℕ) → parts g .positions ≡ parts 0 .positions) (room : positionsOf t + parts 0 .positions ≤ maxPositions)
+module _ (t : List ℕ) (id flags : ℕ) (keeping : Bool) (parts : ℕ → Parts) (even : (g : ℕ) → parts g .positions ≡ parts 0 .positions) (room : positionsOf t + parts 0 .positions ≤ maxPositions)
     (g : ℕ) (low : g < followGaps) (s : List ℕ) (long : tableWords ≤ length s) (same : (w : ℕ) → followAt g 0 ≤ w → w < followAt g 0 + 1024 → getD s w 0 ≡ getD t w 0) where
   abbrev held : ℕ
   held = positionsOf t
@@ -189,7 +189,7 @@ module _ (t : List ℕ) (id flags : ℕ) (parts : ℕ → Parts) (even : (g : �
   fits : held + fresh ≤ maxPositions
   fits = omega (arith, even g)
 
-  follow-made : (p i : ℕ) → p < maxPositions → i < 4 → getD written (followAt g p + i) 0 ≡ followWords t id flags parts g p i
+  follow-made : (p i : ℕ) → p < maxPositions → i < 4 → getD written (followAt g p + i) 0 ≡ followWords t id flags keeping parts g p i
   unfolding followWords oldRow
   follow-made p i h l = ap (λ (w : ℕ). getD written (w + i) 0) (sym there) ∙ go (decLt p held) (decLt p (held + parts 0 .positions))
     where
@@ -203,7 +203,7 @@ module _ (t : List ℕ) (id flags : ℕ) (parts : ℕ → Parts) (even : (g : �
           ∙ merged-none t (followAt g 0 + p * 4) held
           ∙ ap (λ (w : ℕ). setOf (λ q. ltb q held && rowHas t w q)) there
 
-      go : Dec (p < held) → Dec (p < held + parts 0 .positions) → getD written (followAt g 0 + p * 4 + i) 0 ≡ followWords t id flags parts g p i
+      go : Dec (p < held) → Dec (p < held + parts 0 .positions) → getD written (followAt g 0 + p * 4 + i) 0 ≡ followWords t id flags keeping parts g p i
       go (yes x) y = rw (lt-ltb p held x) (follow-old (followAt g 0) held (parts g .follow) fresh s fits (omega arith) p i x l ∙ ap (λ (r : List ℕ). getD r i 0) row)
       go (no x) (yes y) =
           rw (le-ltb p held (omega arith), lt-ltb p (held + parts 0 .positions) y)
@@ -215,7 +215,7 @@ module _ (t : List ℕ) (id flags : ℕ) (parts : ℕ → Parts) (even : (g : �
 
 -- ---- all of it
 
-module _ (t : List ℕ) (id flags : ℕ) (parts : ℕ → Parts) (even : (g : ℕ) → parts g .positions ≡ parts 0 .positions)
+module _ (t : List ℕ) (id flags : ℕ) (keeping : Bool) (parts : ℕ → Parts) (even : (g : ℕ) → parts g .positions ≡ parts 0 .positions)
     (long : tableWords ≤ length t) (few : rulesOf t < maxRules) (room : positionsOf t + parts 0 .positions ≤ maxPositions) where
   abbrev n : ℕ
   n = positionsOf t
@@ -243,7 +243,7 @@ module _ (t : List ℕ) (id flags : ℕ) (parts : ℕ → Parts) (even : (g : �
   a4 = ownersPut n more place a3
 
   abbrev s1 : List ℕ
-  s1 = keepersPut n more (isLeftmost flags) a4
+  s1 = keepersPut n more keeping a4
 
   abbrev before : ℕ → List ℕ
   before g = gapsPut g n parts s1
@@ -282,7 +282,7 @@ module _ (t : List ℕ) (id flags : ℕ) (parts : ℕ → Parts) (even : (g : �
   length-a4 = length-owners n more place a3 ∙ length-a3
 
   length-1 : length s1 ≡ length t
-  length-1 = length-keepers n more (isLeftmost flags) a4 ∙ length-a4
+  length-1 = length-keepers n more keeping a4 ∙ length-a4
 
   length-before : (g : ℕ) → length (before g) ≡ length t
   length-before g = length-gaps n parts rooms s1 g ∙ length-1
@@ -314,7 +314,7 @@ module _ (t : List ℕ) (id flags : ℕ) (parts : ℕ → Parts) (even : (g : �
   untouched : (w : ℕ) → Out (idAt 0) (idAt maxRules) w → Out 3 4 w → Out (ownerAt 0) (ownerAt maxPositions) w → Out leftmostsAt (leftmostsAt + 1) w → Out keepersAt (keepersAt + 4) w
       → getD s1 w 0 ≡ getD t w 0
   untouched w i d o m k =
-      keepers-out n more (isLeftmost flags) a4 w k ∙ owners-out n more place a3 w o ∙ digits-out leftmostsAt place (isLeftmost flags) a2 w m
+      keepers-out n more keeping a4 w k ∙ owners-out n more place a3 w o ∙ digits-out leftmostsAt place (isLeftmost flags) a2 w m
       ∙ digits-out 3 place (isSingle flags) a1 w d ∙ ids-out w i
 
   still : (w : ℕ) → Out (idAt 0) (idAt maxRules) w → Out 3 4 w → Out (ownerAt 0) (keepersAt + 4) w → getD s1 w 0 ≡ getD t w 0
@@ -325,7 +325,7 @@ module _ (t : List ℕ) (id flags : ℕ) (parts : ℕ → Parts) (even : (g : �
 
   -- ---- the sets of first positions, and of last ones
 
-  first-in : (g i : ℕ) → g < firstGaps → i < 4 → getD s2 (firstAt g + i) 0 ≡ firstWords t id flags parts g i
+  first-in : (g i : ℕ) → g < firstGaps → i < 4 → getD s2 (firstAt g + i) 0 ≡ firstWords t id flags keeping parts g i
   unfolding firstWords joinedRow oldRow mergedRow
   first-in g i h l =
       at-gap g (firstAt g + i) h (λ j x y. (λ a b. omega arith, λ c a b. omega arith, λ c a b. omega arith))
@@ -334,7 +334,7 @@ module _ (t : List ℕ) (id flags : ℕ) (parts : ℕ → Parts) (even : (g : �
       (merged-same (before g) t (firstAt g) n (parts g .first)
       (λ j x. was g (firstAt g + j) (λ m y. (λ a b. omega arith, λ c a b. omega arith, λ c a b. omega arith)) (λ a b. omega arith) (λ a b. omega arith) (λ a b. omega arith)))
 
-  last-in : (g i : ℕ) → g < lastGaps → i < 4 → getD s2 (lastAt g + i) 0 ≡ lastWords t id flags parts g i
+  last-in : (g i : ℕ) → g < lastGaps → i < 4 → getD s2 (lastAt g + i) 0 ≡ lastWords t id flags keeping parts g i
   unfolding lastWords joinedRow oldRow mergedRow
   last-in g i h l =
       at-gap g (lastAt g + i) (omega arith) (λ j x y. (λ a b. omega arith, λ c a b. omega arith, λ c a b. omega arith))
@@ -345,28 +345,28 @@ module _ (t : List ℕ) (id flags : ℕ) (parts : ℕ → Parts) (even : (g : �
 
   -- ---- the follow sets
 
-  follow-in : (g p i : ℕ) → g < followGaps → p < maxPositions → i < 4 → getD s2 (followAt g p + i) 0 ≡ followWords t id flags parts g p i
+  follow-in : (g p i : ℕ) → g < followGaps → p < maxPositions → i < 4 → getD s2 (followAt g p + i) 0 ≡ followWords t id flags keeping parts g p i
   follow-in g p i h m l =
       at-gap g (followAt g p + i) (omega arith) (λ j x y. (λ a b. omega arith, λ c a b. omega arith, λ c a b. omega arith))
       ∙ gap-follow n g (parts g) (rooms g) (before g) h (followAt g p + i)
-      ∙ follow-made t id flags parts even room g h (withLast n g (parts g) (rooms g) (before g)) (omega (arith, length-last n g (parts g) (rooms g) (before g), length-before g))
+      ∙ follow-made t id flags keeping parts even room g h (withLast n g (parts g) (rooms g) (before g)) (omega (arith, length-last n g (parts g) (rooms g) (before g), length-before g))
       (λ w x y.
       last-out n g (parts g) (rooms g) (before g) w (λ c a b. omega arith) ∙ first-out n g (parts g) (rooms g) (before g) w (λ a b. omega arith)
       ∙ was g w (λ j z. (λ a b. omega arith, λ c a b. omega arith, λ c a b. omega arith)) (λ a b. omega arith) (λ a b. omega arith) (λ a b. omega arith)) p i m l
 
   -- ---- a word by its region
 
-  last-word : (w : ℕ) → lastAt 0 ≤ w → w < lastAt lastGaps → getD s6 w 0 ≡ addedWord t id flags parts w
+  last-word : (w : ℕ) → lastAt 0 ≤ w → w < lastAt lastGaps → getD s6 w 0 ≡ addedWord t id flags keeping parts w
   last-word w h l =
       let e : w ≡ lastAt ((w - lastAt 0) / 4) + (w - lastAt 0) % 4 = omega arith in
       after-gaps w (omega arith) (λ a b. omega arith) (λ a b. omega arith) (λ a b. omega arith) ∙ ap (λ (j : ℕ). getD s2 j 0) e
-      ∙ last-in ((w - lastAt 0) / 4) ((w - lastAt 0) % 4) (omega arith) (omega arith) ∙ sym (word-last t id flags parts w h l)
+      ∙ last-in ((w - lastAt 0) / 4) ((w - lastAt 0) % 4) (omega arith) (omega arith) ∙ sym (word-last t id flags keeping parts w h l)
 
-  first-word : (w : ℕ) → firstAt 0 ≤ w → w < firstAt firstGaps → getD s6 w 0 ≡ addedWord t id flags parts w
+  first-word : (w : ℕ) → firstAt 0 ≤ w → w < firstAt firstGaps → getD s6 w 0 ≡ addedWord t id flags keeping parts w
   first-word w h l =
       let e : w ≡ firstAt ((w - firstAt 0) / 4) + (w - firstAt 0) % 4 = omega arith in
       after-gaps w (omega arith) (λ a b. omega arith) (λ a b. omega arith) (λ a b. omega arith) ∙ ap (λ (j : ℕ). getD s2 j 0) e
-      ∙ first-in ((w - firstAt 0) / 4) ((w - firstAt 0) % 4) (omega arith) (omega arith) ∙ sym (word-first t id flags parts w h l)
+      ∙ first-in ((w - firstAt 0) / 4) ((w - firstAt 0) % 4) (omega arith) (omega arith) ∙ sym (word-first t id flags keeping parts w h l)
 
   -- a word that no gap has
   no-gap : (w : ℕ) → Out (firstAt 0) (firstAt firstGaps) w → Out (lastAt 0) (lastAt lastGaps) w → Out (followAt 0 0) (followAt followGaps 0) w → getD s2 w 0 ≡ getD s1 w 0
@@ -374,88 +374,88 @@ module _ (t : List ℕ) (id flags : ℕ) (parts : ℕ → Parts) (even : (g : �
       gaps-out n parts rooms s1 firstGaps w
       (λ h x. (λ a b. f (omega arith) (omega arith), λ c a b. r (omega arith) (omega arith), λ c a b. g (omega arith) (omega arith)))
 
-  id-word : (w : ℕ) → idAt 0 ≤ w → w < idAt maxRules → getD s6 w 0 ≡ addedWord t id flags parts w
+  id-word : (w : ℕ) → idAt 0 ≤ w → w < idAt maxRules → getD s6 w 0 ≡ addedWord t id flags keeping parts w
   unfolding idWords
   id-word w h l =
       let e : w ≡ idAt (w - idAt 0) = omega arith in
       after-gaps w (omega arith) (λ a b. omega arith) (λ a b. omega arith) (λ a b. omega arith) ∙ no-gap w (λ a b. omega arith) (λ a b. omega arith) (λ a b. omega arith)
-      ∙ keepers-out n more (isLeftmost flags) a4 w (λ a b. omega arith) ∙ owners-out n more place a3 w (λ a b. omega arith)
+      ∙ keepers-out n more keeping a4 w (λ a b. omega arith) ∙ owners-out n more place a3 w (λ a b. omega arith)
       ∙ digits-out leftmostsAt place (isLeftmost flags) a2 w (λ a b. omega arith) ∙ digits-out 3 place (isSingle flags) a1 w (λ a b. omega arith)
-      ∙ ap (λ (j : ℕ). getD a1 j 0) e ∙ number-in (idAt 0) (rulesOf t) place id t (place-le t id) few (omega arith) (w - idAt 0) (omega arith) ∙ sym (word-id t id flags parts w h l)
+      ∙ ap (λ (j : ℕ). getD a1 j 0) e ∙ number-in (idAt 0) (rulesOf t) place id t (place-le t id) few (omega arith) (w - idAt 0) (omega arith) ∙ sym (word-id t id flags keeping parts w h l)
 
-  owner-word : (w : ℕ) → ownerAt 0 ≤ w → w < ownerAt maxPositions → getD s6 w 0 ≡ addedWord t id flags parts w
+  owner-word : (w : ℕ) → ownerAt 0 ≤ w → w < ownerAt maxPositions → getD s6 w 0 ≡ addedWord t id flags keeping parts w
   unfolding ownerWords
   owner-word w h l =
       let e : w ≡ ownerAt (w - ownerAt 0) = omega arith in
       after-gaps w (omega arith) (λ a b. omega arith) (λ a b. omega arith) (λ a b. omega arith) ∙ no-gap w (λ a b. omega arith) (λ a b. omega arith) (λ a b. omega arith)
-      ∙ keepers-out n more (isLeftmost flags) a4 w (λ a b. omega arith) ∙ owners-in n more place a3 (omega (arith, length-a3)) w h l
+      ∙ keepers-out n more keeping a4 w (λ a b. omega arith) ∙ owners-in n more place a3 (omega (arith, length-a3)) w h l
       ∙ ap (ownerWith n more place (w - ownerAt 0))
       (digits-out leftmostsAt place (isLeftmost flags) a2 w (λ a b. omega arith) ∙ digits-out 3 place (isSingle flags) a1 w (λ a b. omega arith)
       ∙ ids-out w (λ a b. omega arith) ∙ ap (λ (j : ℕ). getD t j 0) e)
-      ∙ sym (word-owner t id flags parts w h l)
+      ∙ sym (word-owner t id flags keeping parts w h l)
 
-  follow-word : (w : ℕ) → followAt 0 0 ≤ w → w < followAt followGaps 0 → getD s6 w 0 ≡ addedWord t id flags parts w
+  follow-word : (w : ℕ) → followAt 0 0 ≤ w → w < followAt followGaps 0 → getD s6 w 0 ≡ addedWord t id flags keeping parts w
   follow-word w h l =
       let e : w ≡ followAt ((w - followAt 0 0) / 1024) ((w - followAt 0 0) % 1024 / 4) + (w - followAt 0 0) % 4 = omega arith in
       after-gaps w (omega arith) (λ a b. omega arith) (λ a b. omega arith) (λ a b. omega arith) ∙ ap (λ (j : ℕ). getD s2 j 0) e
       ∙ follow-in ((w - followAt 0 0) / 1024) ((w - followAt 0 0) % 1024 / 4) ((w - followAt 0 0) % 4) (omega arith) (omega arith) (omega arith)
-      ∙ sym (word-follow t id flags parts w h l)
+      ∙ sym (word-follow t id flags keeping parts w h l)
 
-  taker-in : (x i : ℕ) → x < bytes → i < 4 → getD s3 (takersAt x + i) 0 ≡ takersWords t id flags parts x i
+  taker-in : (x i : ℕ) → x < bytes → i < 4 → getD s3 (takersAt x + i) 0 ≡ takersWords t id flags keeping parts x i
   unfolding takersWords newTaker oldRow newTakers
   taker-in x i h l =
       takers-in n (parts 0 .takes) more s2 (omega (arith, length-before firstGaps)) x i h l
       ∙ ap (λ (r : List ℕ). getD r i 0)
       (merged-same s2 t (takersAt x) n (newTakers (parts 0 .takes) n more x)
       (λ j k. no-gap (takersAt x + j) (λ a b. omega arith) (λ a b. omega arith) (λ a b. omega arith) ∙ still (takersAt x + j) (λ a b. omega arith) (λ a b. omega arith) (λ a b. omega arith))
-      ∙ merged-new t (takersAt x) n (newTaker t id flags parts x))
+      ∙ merged-new t (takersAt x) n (newTaker t id flags keeping parts x))
 
-  takers-word : (w : ℕ) → takersAt 0 ≤ w → w < takersAt bytes → getD s6 w 0 ≡ addedWord t id flags parts w
+  takers-word : (w : ℕ) → takersAt 0 ≤ w → w < takersAt bytes → getD s6 w 0 ≡ addedWord t id flags keeping parts w
   takers-word w h l =
       let e : w ≡ takersAt ((w - takersAt 0) / 4) + (w - takersAt 0) % 4 = omega arith in
       after-takers w (omega arith) (λ a b. omega arith) (λ a b. omega arith) ∙ ap (λ (j : ℕ). getD s3 j 0) e
-      ∙ taker-in ((w - takersAt 0) / 4) ((w - takersAt 0) % 4) (omega arith) (omega arith) ∙ sym (word-takers t id flags parts w h l)
+      ∙ taker-in ((w - takersAt 0) / 4) ((w - takersAt 0) % 4) (omega arith) (omega arith) ∙ sym (word-takers t id flags keeping parts w h l)
 
   -- a set of last positions, read from its four words
-  last-row-of : (g q : ℕ) → g < lastGaps → q < maxPositions → ((i : ℕ) → g < lastGaps → i < 4 → getD s4 (lastAt g + i) 0 ≡ lastWords t id flags parts g i)
+  last-row-of : (g q : ℕ) → g < lastGaps → q < maxPositions → ((i : ℕ) → g < lastGaps → i < 4 → getD s4 (lastAt g + i) 0 ≡ lastWords t id flags keeping parts g i)
       → rowHas s4 (lastAt g) q ≡ (oldRow t (lastAt g) q || has (parts g .last) q)
   unfolding lastWords joinedRow
   last-row-of g q h l e = row-set s4 (lastAt g) (λ q. oldRow t (lastAt g) q || has (parts g .last) q) (λ i m. e i h m) q l
 
   -- the openers read the sets of the takers and of the first positions, which are written by then
-  opener-in : (x : ℕ) → x < bytes → openerOf s3 x ≡ opener t id flags parts x
+  opener-in : (x : ℕ) → x < bytes → openerOf s3 x ≡ opener t id flags keeping parts x
   unfolding openerOf opener takersWords firstWords joinedRow
   opener-in x h =
       ap asOne (any-ext maxPositions _ _ (λ q l. ap₂ (λ (b c : Bool). b && c)
-      (row-set s3 (takersAt x) (λ q. oldRow t (takersAt x) q || newTaker t id flags parts x q) (λ i m. taker-in x i h m) q l)
+      (row-set s3 (takersAt x) (λ q. oldRow t (takersAt x) q || newTaker t id flags keeping parts x q) (λ i m. taker-in x i h m) q l)
       (any-ext innerGaps _ _ (λ g m.
       row-set s3 (firstAt g) (λ q. oldRow t (firstAt g) q || has (parts g .first) q)
       (λ i k. takers-out n (parts 0 .takes) more s2 (firstAt g + i) (λ a b. omega arith) ∙ first-in g i (omega arith) k) q l))))
 
-  opener-word : (w : ℕ) → openerAt 0 ≤ w → w < openerAt bytes → getD s6 w 0 ≡ addedWord t id flags parts w
+  opener-word : (w : ℕ) → openerAt 0 ≤ w → w < openerAt bytes → getD s6 w 0 ≡ addedWord t id flags keeping parts w
   opener-word w h l =
       after-openers w (omega arith) (λ a b. omega arith) ∙ openers-in s3 (omega (arith, length-3)) w h l
-      ∙ opener-in (w - openerAt 0) (omega arith) ∙ sym (word-opener t id flags parts w h l)
+      ∙ opener-in (w - openerAt 0) (omega arith) ∙ sym (word-opener t id flags keeping parts w h l)
 
   -- so do the positions that wait for the next byte, of the last ones
   late-in : lateSet s4 ≡ setOf (λ q. any innerGaps (λ g. oldRow t (lastAt g) q || has (parts g .last) q) && not (oldRow t (lastAt unsettled) q || has (parts unsettled .last) q))
   unfolding lateSet
   late-in = setOf-ext _ _ (λ q l. ap₂ (λ (b c : Bool). b && not c) (any-ext innerGaps _ _ (λ g m. ending g q (omega arith) l)) (ending unsettled q (omega arith) l))
     where
-      still-last : (g i : ℕ) → g < lastGaps → i < 4 → getD s4 (lastAt g + i) 0 ≡ lastWords t id flags parts g i
+      still-last : (g i : ℕ) → g < lastGaps → i < 4 → getD s4 (lastAt g + i) 0 ≡ lastWords t id flags keeping parts g i
       still-last g i h l =
           openers-out s3 (lastAt g + i) (λ a b. omega arith) ∙ takers-out n (parts 0 .takes) more s2 (lastAt g + i) (λ a b. omega arith) ∙ last-in g i h l
 
       ending : (g q : ℕ) → g < lastGaps → q < maxPositions → rowHas s4 (lastAt g) q ≡ (oldRow t (lastAt g) q || has (parts g .last) q)
       ending g q h l = last-row-of g q h l (λ i h m. still-last g i h m)
 
-  late-word : (w : ℕ) → latesAt ≤ w → w < latesAt + 4 → getD s6 w 0 ≡ addedWord t id flags parts w
+  late-word : (w : ℕ) → latesAt ≤ w → w < latesAt + 4 → getD s6 w 0 ≡ addedWord t id flags keeping parts w
   unfolding lateWords
   late-word w h l =
       counts-high (rulesOf t + 1) (n + more) s5 w (omega arith) ∙ lates-in s4 (omega (arith, length-4)) w h l
-      ∙ ap (λ (s : List ℕ). getD s (w - latesAt) 0) late-in ∙ sym (word-late t id flags parts w h l)
+      ∙ ap (λ (s : List ℕ). getD s (w - latesAt) 0) late-in ∙ sym (word-late t id flags keeping parts w h l)
 
-  header-word : (w : ℕ) → w < 4 → getD s6 w 0 ≡ addedWord t id flags parts w
+  header-word : (w : ℕ) → w < 4 → getD s6 w 0 ≡ addedWord t id flags keeping parts w
   unfolding addedWord singlesWord
   header-word zero h =
       counts-low (rulesOf t + 1) (n + more) s5 ∙ lates-out s4 0 (λ a b. omega arith) ∙ openers-out s3 0 (λ a b. omega arith) ∙ takers-out n (parts 0 .takes) more s2 0 (λ a b. omega arith)
@@ -464,33 +464,33 @@ module _ (t : List ℕ) (id flags : ℕ) (parts : ℕ → Parts) (even : (g : �
   header-word (suc (suc zero)) h = counts-positions (rulesOf t + 1) (n + more) s5 (omega (arith, length-5))
   header-word (suc (suc (suc zero))) h =
       after-gaps 3 (omega arith) (λ a b. omega arith) (λ a b. omega arith) (λ a b. omega arith) ∙ no-gap 3 (λ a b. omega arith) (λ a b. omega arith) (λ a b. omega arith)
-      ∙ keepers-out n more (isLeftmost flags) a4 3 (λ a b. omega arith) ∙ owners-out n more place a3 3 (λ a b. omega arith)
+      ∙ keepers-out n more keeping a4 3 (λ a b. omega arith) ∙ owners-out n more place a3 3 (λ a b. omega arith)
       ∙ digits-out leftmostsAt place (isLeftmost flags) a2 3 (λ a b. omega arith) ∙ digits-in 3 place (isSingle flags) a1 (omega (arith, length-a1))
       ∙ ap (digitsWith place (isSingle flags)) (ids-out 3 (λ a b. omega arith))
   header-word (suc (suc (suc (suc w)))) h = absurd (omega arith)
 
-  leftmosts-word : (w : ℕ) → leftmostsAt ≤ w → w < leftmostsAt + 1 → getD s6 w 0 ≡ addedWord t id flags parts w
+  leftmosts-word : (w : ℕ) → leftmostsAt ≤ w → w < leftmostsAt + 1 → getD s6 w 0 ≡ addedWord t id flags keeping parts w
   unfolding addedWord leftmostsWord
   leftmosts-word w h l =
       let here : w ≡ leftmostsAt = omega arith in
       ap (λ (j : ℕ). getD s6 j 0) here
       ∙ after-gaps leftmostsAt (omega arith) (λ a b. omega arith) (λ a b. omega arith) (λ a b. omega arith) ∙ no-gap leftmostsAt (λ a b. omega arith) (λ a b. omega arith) (λ a b. omega arith)
-      ∙ keepers-out n more (isLeftmost flags) a4 leftmostsAt (λ a b. omega arith) ∙ owners-out n more place a3 leftmostsAt (λ a b. omega arith)
+      ∙ keepers-out n more keeping a4 leftmostsAt (λ a b. omega arith) ∙ owners-out n more place a3 leftmostsAt (λ a b. omega arith)
       ∙ digits-in leftmostsAt place (isLeftmost flags) a2 (omega (arith, length-a2))
       ∙ ap (digitsWith place (isLeftmost flags)) (digits-out 3 place (isSingle flags) a1 leftmostsAt (λ a b. omega arith) ∙ ids-out leftmostsAt (λ a b. omega arith))
-      ∙ ap (addedWord t id flags parts) (sym here)
+      ∙ ap (addedWord t id flags keeping parts) (sym here)
 
-  keeper-word : (w : ℕ) → keepersAt ≤ w → w < keepersAt + 4 → getD s6 w 0 ≡ addedWord t id flags parts w
+  keeper-word : (w : ℕ) → keepersAt ≤ w → w < keepersAt + 4 → getD s6 w 0 ≡ addedWord t id flags keeping parts w
   unfolding keeperWords newKeeper oldRow newKeepers
   keeper-word w h l =
       after-gaps w (omega arith) (λ a b. omega arith) (λ a b. omega arith) (λ a b. omega arith) ∙ no-gap w (λ a b. omega arith) (λ a b. omega arith) (λ a b. omega arith)
-      ∙ keepers-in n more (isLeftmost flags) a4 (omega (arith, length-a4)) w h l
+      ∙ keepers-in n more keeping a4 (omega (arith, length-a4)) w h l
       ∙ ap (λ (r : List ℕ). getD r (w - keepersAt) 0)
-      (merged-same a4 t keepersAt n (newKeepers n more (isLeftmost flags)) (λ j k.
+      (merged-same a4 t keepersAt n (newKeepers n more keeping) (λ j k.
       owners-out n more place a3 (keepersAt + j) (λ a b. omega arith) ∙ digits-out leftmostsAt place (isLeftmost flags) a2 (keepersAt + j) (λ a b. omega arith)
       ∙ digits-out 3 place (isSingle flags) a1 (keepersAt + j) (λ a b. omega arith) ∙ ids-out (keepersAt + j) (λ a b. omega arith))
-      ∙ merged-new t keepersAt n (newKeeper t id flags parts))
-      ∙ sym (word-keeper t id flags parts w h l)
+      ∙ merged-new t keepersAt n (newKeeper t id flags keeping parts))
+      ∙ sym (word-keeper t id flags keeping parts w h l)
 
   -- no region has word w
   pub record Nowhere (w : ℕ) : Type 0 where
@@ -507,9 +507,9 @@ module _ (t : List ℕ) (id flags : ℕ) (parts : ℕ → Parts) (even : (g : �
     pub keepers : Out keepersAt (keepersAt + 4) w
 
   -- it stays
-  no-region : (w : ℕ) → Nowhere w → getD t w 0 ≡ addedWord t id flags parts w
+  no-region : (w : ℕ) → Nowhere w → getD t w 0 ≡ addedWord t id flags keeping parts w
   no-region w o =
-      sym (word-other t id flags parts w (record {
+      sym (word-other t id flags keeping parts w (record {
         rules = ne-eqb w 1 (λ z. o .header (omega arith) (omega arith));
         positions = ne-eqb w 2 (λ z. o .header (omega arith) (omega arith));
         singles = ne-eqb w 3 (λ z. o .header (omega arith) (omega arith));
@@ -525,12 +525,12 @@ module _ (t : List ℕ) (id flags : ℕ) (parts : ℕ → Parts) (even : (g : �
         keepers = from-to-out keepersAt (keepersAt + 4) w (o .keepers);
       }))
 
-  plain-word : (w : ℕ) → Nowhere w → getD s6 w 0 ≡ addedWord t id flags parts w
+  plain-word : (w : ℕ) → Nowhere w → getD s6 w 0 ≡ addedWord t id flags keeping parts w
   plain-word w o =
       side 0 4 w (λ a. absurd (omega arith)) (λ a b. absurd (o .header a b)) (λ a. after-gaps w (omega arith) (o .lates) (o .openers) (o .takers))
       ∙ no-gap w (o .firsts) (o .lasts) (o .follows) ∙ untouched w (o .ids) (λ a b. o .header (omega arith) (omega arith)) (o .owners) (o .leftmosts) (o .keepers) ∙ no-region w o
 
-  word-is : (w : ℕ) → getD s6 w 0 ≡ addedWord t id flags parts w
+  word-is : (w : ℕ) → getD s6 w 0 ≡ addedWord t id flags keeping parts w
   word-is w =
       split 0 4 w (λ a b. header-word w b)
       (λ h. split (lastAt 0) (lastAt lastGaps) w (last-word w)
@@ -545,12 +545,12 @@ module _ (t : List ℕ) (id flags : ℕ) (parts : ℕ → Parts) (even : (g : �
       (λ y. split keepersAt (keepersAt + 4) w (keeper-word w)
       (λ z. plain-word w (record { header = h; lasts = e; lates = d; firsts = f; ids = i; openers = j; owners = l; takers = k; follows = m; leftmosts = y; keepers = z }))))))))))))
 
-  made : s6 ≡ added t id flags parts
+  made : s6 ≡ added t id flags keeping parts
   made =
-      ext-getD 0 s6 (added t id flags parts) (length-counts (rulesOf t + 1) (n + more) s5 ∙ length-5 ∙ sym (length-added t id flags parts long)) (λ w h. go w (decLt w tableWords))
+      ext-getD 0 s6 (added t id flags keeping parts) (length-counts (rulesOf t + 1) (n + more) s5 ∙ length-5 ∙ sym (length-added t id flags keeping parts long)) (λ w h. go w (decLt w tableWords))
     where
-      go : (w : ℕ) → Dec (w < tableWords) → getD s6 w 0 ≡ getD (added t id flags parts) w 0
-      go w (yes h) = word-is w ∙ sym (added-word t id flags parts long w h)
+      go : (w : ℕ) → Dec (w < tableWords) → getD s6 w 0 ≡ getD (added t id flags keeping parts) w 0
+      go w (yes h) = word-is w ∙ sym (added-word t id flags keeping parts long w h)
       go w (no h) =
           word-is w
           ∙ sym (no-region w (record {
@@ -566,10 +566,10 @@ module _ (t : List ℕ) (id flags : ℕ) (parts : ℕ → Parts) (even : (g : �
             leftmosts = λ a b. omega arith;
             keepers = λ a b. omega arith;
           }))
-          ∙ sym (added-beyond t id flags parts long w (omega arith))
+          ∙ sym (added-beyond t id flags keeping parts long w (omega arith))
 
 -- what `add_rule` leaves, call by call
-module _ (t : List ℕ) (id flags : ℕ) (x : Syntax) (long : tableWords ≤ length t) (few : rulesOf t < maxRules) (room : positionsOf t + positions (write x) ≤ maxPositions) where
+module _ (t : List ℕ) (id flags : ℕ) (keeping : Bool) (x : Syntax) (long : tableWords ≤ length t) (few : rulesOf t < maxRules) (room : positionsOf t + positions (write x) ≤ maxPositions) where
   abbrev parts : ℕ → Parts
   parts = partsAt x (positionsOf t)
 
@@ -577,16 +577,16 @@ module _ (t : List ℕ) (id flags : ℕ) (x : Syntax) (long : tableWords ≤ len
   sizes g = sized-parts x (positionsOf t) (holdingAt g) room
 
   pub added-is : (p : Parts) → p ≡ partsAt x (positionsOf t) 0 → (a b c d d' e : List ℕ)
-      → a ≡ placePut (rulesOf t) (positionsOf t) (p .positions) id (isSingle flags) (isLeftmost flags) t → b ≡ gapsPut firstGaps (positionsOf t) (partsAt x (positionsOf t)) a
+      → a ≡ placePut (rulesOf t) (positionsOf t) (p .positions) id (isSingle flags) (isLeftmost flags) keeping t → b ≡ gapsPut firstGaps (positionsOf t) (partsAt x (positionsOf t)) a
       → c ≡ takersPut (positionsOf t) (p .takes) (p .positions) b → d ≡ openersPut c → d' ≡ latesPut d
       → e ≡ countsPut (rulesOf t + 1) (positionsOf t + p .positions) d'
-      → e ≡ added t id flags (partsAt x (positionsOf t))
+      → e ≡ added t id flags keeping (partsAt x (positionsOf t))
   unfolding placeOf placePut
   added-is p is a b c d d' e f g h i i' j =
-      let first : a ≡ placePut (rulesOf t) (positionsOf t) (parts 0 .positions) id (isSingle flags) (isLeftmost flags) t =
-      f ∙ ap (λ (q : Parts). placePut (rulesOf t) (positionsOf t) (q .positions) id (isSingle flags) (isLeftmost flags) t) is in
+      let first : a ≡ placePut (rulesOf t) (positionsOf t) (parts 0 .positions) id (isSingle flags) (isLeftmost flags) keeping t =
+      f ∙ ap (λ (q : Parts). placePut (rulesOf t) (positionsOf t) (q .positions) id (isSingle flags) (isLeftmost flags) keeping t) is in
       j ∙ ap₂ (λ (q : Parts) (l : List ℕ). countsPut (rulesOf t + 1) (positionsOf t + q .positions) l) is
       (i' ∙ ap latesPut (i ∙ ap openersPut
       (h ∙ ap₂ (λ (q : Parts) (l : List ℕ). takersPut (positionsOf t) (q .takes) (q .positions) l) is
       (g ∙ ap (gapsPut firstGaps (positionsOf t) parts) first))))
-      ∙ made t id flags parts (λ g. sizes g ∙ sym (sizes 0)) long few (omega (arith, sizes 0))
+      ∙ made t id flags keeping parts (λ g. sizes g ∙ sym (sizes 0)) long few (omega (arith, sizes 0))

@@ -1,16 +1,18 @@
 -- Rules in the order of their ids, each with its first position. A rule goes in at the place of its
 -- id, which is how the table keeps its ids.
-use mathlib.Core.Path.{_≡_, refl, sym, ap, _∙_}
+use mathlib.Core.Path.{_≡_, refl, sym, ap, _∙_, subst}
 use mathlib.Core.Bool.{Bool, true, false, cond}
 use mathlib.Core.Logic.{_⊎_, inl, inr}
 use mathlib.Core.List.{List, [], _∷_, _++_, List·Memᴰ, List·Memᴰ·head, List·Memᴰ·tail, List·Memᴰ·not-nil, List·Memᴰ·cases-cons, List·Memᴰ·eq-of-singleton, Memᴰ·cast}
-use Prim.Native.Nat.{ℕ, zero, suc, _+_, _≤_, _<_}
+use Prim.Native.Nat.{ℕ, zero, suc, _+_, _-_, _≤_, _<_}
 use native.Mathlib.Nat.{not-suc-le-zero, le-of-suc-le-suc}
+use native.Mathlib.Decide.{decLt}
 use native.Mathlib.Omega.{arith}
 use lib.Dec.{ltb}
 use lib.ListN.{length, getD}
 use borrow.Author.Tests.{ltb-true, ltb-false}
 use Rattle.regex.specs.Tree.{empty}
+use Rattle.regex.specs.Rule.{no-windows}
 use Rattle.rules.specs.Additions.{Accepted, size, used}
 
 -- a rule and its first position
@@ -20,7 +22,7 @@ pub record Placed : Type 0 where
 
 -- the rule in a place, and nothing past the last
 abbrev nothing : Placed
-nothing = record { rule = record { id = 0; flags = 0; lowest = 0; highest = 0; tree = empty }; from = 0 }
+nothing = record { rule = record { id = 0; flags = 0; windows = no-windows; tree = empty }; from = 0 }
 
 abbrev pub at : List Placed → ℕ → Placed
 at ps a = getD ps a nothing
@@ -143,6 +145,17 @@ module _ (p : Placed) where
       go true zero l ih = absurd (not-suc-le-zero l)
       go true (suc a) l ih = ih a (le-of-suc-le-suc l)
       go false a l ih = refl
+
+  -- what holds of each rule, and of the new one, holds of each once it is in
+  pub insert-each : (P : Placed → Type 0) (ps : List Placed) → ((a : ℕ) → a < length ps → P (at ps a)) → P p → (a : ℕ) → a < length (insert p ps) → P (at (insert p ps) a)
+  insert-each P ps old new a h = go (decLt a (place p ps)) (decLt (place p ps) a)
+    where
+      go : Dec (a < place p ps) → Dec (place p ps < a) → P (at (insert p ps) a)
+      go (yes l) m = subst P (sym (insert-before ps a l)) (old a (omega (arith, place-within ps)))
+      go (no l) (no m) = let e : place p ps ≡ a = omega arith in subst (λ (b : ℕ). P (at (insert p ps) b)) e (subst P (sym (insert-there ps)) new)
+      go (no l) (yes m) =
+          let e : suc (a - 1) ≡ a = omega arith in
+          subst (λ (b : ℕ). P (at (insert p ps) b)) e (subst P (sym (insert-after ps (a - 1) (omega arith))) (old (a - 1) (omega (arith, length-insert ps))))
 
   -- ---- the same rules
 

@@ -12,15 +12,15 @@ use lib.ListN.{length, getD}
 use borrow.Author.Tests.{lt-ltb, le-ltb, eq-eqb, ne-eqb}
 use Rattle.sets.specs.Set.{has, setOf, emptySet, fullSet, inserted, unionOf, intersectionOf, complementOf, keptBelow, isEmpty, any, count, asOne}
 use Rattle.sets.proofs.Laws.{has-setOf, has-full, has-intersection, setOf-ext, inserted-setOf, union-setOf, intersection-setOf, complement-setOf, any-ext}
-use Rattle.table.specs.Layout.{maxPositions, leftmostsAt, keepersAt, firstAt, idAt, idWord, lastAt, latesAt, followAt, takersAt, rowHas, from-to}
+use Rattle.table.specs.Layout.{maxPositions, leftmostsAt, keepersAt, firstAt, idAt, idWord, lastAt, latesAt, followAt, takersAt, rowHas, from-to, lengthsAt, lengthsOf}
 use Rattle.table.specs.Gaps.{lastGaps, followGaps, innerGaps, unsettled}
-use Rattle.table.proofs.Over.{from-to-in, from-to-below, from-to-above, over, Written, written-none, written-above, written-block, written-all}
+use Rattle.table.proofs.Over.{from-to-in, from-to-below, from-to-above, over, over-ext, Written, written-none, written-above, written-block, written-all}
 use Rattle.table.specs.Invariants.{copied, movedUp}
 use Rattle.nodes.specs.Nodes.{Syntax, asserts}
 use Rattle.automaton.specs.declared.Parts.{Parts}
 use Rattle.automaton.proofs.Unasserted.{same-parts}
 use Rattle.rules.specs.Gaps.{holdingAt, partsAt}
-use Rattle.rules.specs.Words.{digitsWith}
+use Rattle.rules.specs.Words.{digitsWith, lengthsWith, lengthsPut}
 use Rattle.rules.specs.Invariants.{merged, mergedRow, rowsWord, mergedRows, smaller, numberPut, digitsPut, ownersPut, newKeepers, keepersPut, placePut, newTakers, followPut, gapPut, gapsPut, innerRows, lateSet, latesPut, openerOf}
 use Rattle.rules.proofs.Rows.{merged-words, merged-same}
 
@@ -132,6 +132,12 @@ pub digits-is : (at k : ℕ) (new : Bool) (word : ℕ) (t s : List ℕ) → word
 unfolding digitsPut
 digits-is at k new word t s a b = b ∙ ap (λ (x : ℕ). copied at 1 (x ∷ []) t) a
 
+pub lengths-is : (shortest word : ℕ) (t s : List ℕ) → word ≡ lengthsWith shortest (lengthsOf t) → s ≡ copied lengthsAt 1 (word ∷ []) t → s ≡ lengthsPut shortest t
+unfolding lengthsPut
+lengths-is shortest word t s a b =
+    b ∙ over-ext lengthsAt (lengthsAt + 1) (λ w. getD (word ∷ []) (w - lengthsAt) 0) (λ w. lengthsWith shortest (lengthsOf t)) t
+    (λ w x y l. let e : w - lengthsAt ≡ 0 = omega arith in ap (λ (j : ℕ). getD (word ∷ []) j 0) e ∙ a)
+
 -- the positions from n on: below n + more, and not below n
 pub keepers-new : (n more : ℕ) (all old rest : List ℕ) → all ≡ keptBelow fullSet (n + more) → old ≡ keptBelow fullSet n → rest ≡ complementOf old
     → intersectionOf all rest ≡ newKeepers n more true
@@ -153,16 +159,16 @@ pub keepers-none : (n more : ℕ) → emptySet ≡ newKeepers n more false
 unfolding emptySet newKeepers
 keepers-none n more = refl
 
-pub keepers-is : (n more : ℕ) (leftmost : Bool) (new t s : List ℕ) → new ≡ newKeepers n more leftmost → s ≡ merged keepersAt n new t → s ≡ keepersPut n more leftmost t
+pub keepers-is : (n more : ℕ) (keeping : Bool) (new t s : List ℕ) → new ≡ newKeepers n more keeping → s ≡ merged keepersAt n new t → s ≡ keepersPut n more keeping t
 unfolding keepersPut
-keepers-is n more leftmost new t s a b = b ∙ ap (λ (l : List ℕ). merged keepersAt n l t) a
+keepers-is n more keeping new t s a b = b ∙ ap (λ (l : List ℕ). merged keepersAt n l t) a
 
-pub place-is : (rules n more id k : ℕ) (single leftmost : Bool) (t s1 s2 s3 s4 s5 : List ℕ) → k ≡ count rules (smaller t id) → s1 ≡ numberPut (idAt 0) rules k id t
-    → s2 ≡ digitsPut 3 k single s1 → s3 ≡ digitsPut leftmostsAt k leftmost s2 → s4 ≡ ownersPut n more k s3 → s5 ≡ keepersPut n more leftmost s4
-    → s5 ≡ placePut rules n more id single leftmost t
+pub place-is : (rules n more id k : ℕ) (single leftmost keeping : Bool) (t s1 s2 s3 s4 s5 : List ℕ) → k ≡ count rules (smaller t id) → s1 ≡ numberPut (idAt 0) rules k id t
+    → s2 ≡ digitsPut 3 k single s1 → s3 ≡ digitsPut leftmostsAt k leftmost s2 → s4 ≡ ownersPut n more k s3 → s5 ≡ keepersPut n more keeping s4
+    → s5 ≡ placePut rules n more id single leftmost keeping t
 unfolding placePut
-place-is rules n more id k single leftmost t s1 s2 s3 s4 s5 place a b c d e =
-    e ∙ ap (keepersPut n more leftmost) (d ∙ ap (ownersPut n more k) (c ∙ ap (digitsPut leftmostsAt k leftmost) (b ∙ ap (digitsPut 3 k single) a))
+place-is rules n more id k single leftmost keeping t s1 s2 s3 s4 s5 place a b c d e =
+    e ∙ ap (keepersPut n more keeping) (d ∙ ap (ownersPut n more k) (c ∙ ap (digitsPut leftmostsAt k leftmost) (b ∙ ap (digitsPut 3 k single) a))
     ∙ ap (λ (j : ℕ). ownersPut n more j (digitsPut leftmostsAt j leftmost (digitsPut 3 j single (numberPut (idAt 0) rules j id t)))) place)
 
 -- ---- the sets of the gaps between two bytes

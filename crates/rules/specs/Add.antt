@@ -10,30 +10,29 @@ use Rattle.table.specs.Layout.{maxRules, rulesOf, positionsOf, idWord}
 use Rattle.table.specs.Table.{isTable, knownFlags}
 use Rattle.regex.specs.Form.{write, positions}
 use Rattle.regex.specs.Count.{limit}
-use Rattle.regex.specs.Rule.{no-windows}
+use Rattle.regex.specs.Rule.{Windows, no-windows}
 use Rattle.pattern.specs.Walk.{Read, tree, refused}
 use Rattle.pattern.specs.Read.{tooLong, readOf, optionsOf}
+use Rattle.pattern.specs.Windows.{emptyWindow}
 use Rattle.rules.specs.Gaps.{partsAt}
-use Rattle.rules.specs.Words.{isSingle, isLeftmost, withWindow, added}
+use Rattle.rules.specs.Words.{isSingle, isLeftmost, addedIn}
 use Rattle.rules.specs.declared.Added.{Added}
 
--- what an addition is handed besides the words: "Ids: any 32-bit number", flags, pattern bytes
+-- what an addition is handed besides the words: "Ids: any 32-bit number", flags, windows, pattern
+-- bytes
 pub record Addition : Type 0 where
   pub id : ℕ
   pub flags : ℕ
-  -- "smallest and largest end offset", "each optional per rule"
-  pub lowest : ℕ
-  pub highest : ℕ
+  pub windows : Windows
   pub pattern : List ℕ
 
-abbrev pub additionIn : (id flags lowest highest : ℕ) (pattern : List ℕ) → Addition
-additionIn id flags lowest highest pattern =
-    record { id = id; flags = flags; lowest = lowest; highest = highest; pattern = pattern }
+abbrev pub additionIn : (id flags : ℕ) → Windows → (pattern : List ℕ) → Addition
+additionIn id flags windows pattern =
+    record { id = id; flags = flags; windows = windows; pattern = pattern }
 
--- without a window
+-- each "optional per rule": all left out
 abbrev pub addition : (id flags : ℕ) (pattern : List ℕ) → Addition
-addition id flags pattern =
-    additionIn id flags (no-windows .smallest-end) (no-windows .largest-end) pattern
+addition id flags pattern = additionIn id flags no-windows pattern
 
 -- what its pattern reads as, under its flags
 abbrev pub readingOf : Addition → Read
@@ -52,10 +51,6 @@ unknownFlag flags = not (eqb (bitAnd flags knownFlags) flags)
 -- 24: "Flag 256 with flag 8 is refused with 24, checked right after 2, place 0."
 unfoldable pub singleStart : ℕ → Bool
 singleStart flags = isSingle flags && isLeftmost flags
-
--- 26: "A smallest offset above the largest is refused with 26, right after 5, place 0."
-unfoldable pub emptyWindow : Addition → Bool
-emptyWindow a = ltb (a .highest) (a .lowest)
 
 unfoldable pub hasId : List ℕ → ℕ → Bool
 hasId t id = any (rulesOf t) (λ a. eqb (idWord t a) id)
@@ -76,15 +71,14 @@ addAnswer t a =
     (cond (hasId t (a .id)) (answer 3 0)
     (cond (leb maxRules (rulesOf t)) (answer 4 0)
     (cond (tooLong (a .pattern)) (answer 5 0)
-    (cond (emptyWindow a) (answer 26 0)
+    (cond (emptyWindow (a .windows)) (answer 26 0)
     (placed (positionsOf t) (length (a .pattern)) (readingOf a))))))))
     (answer 1 0)
 
 -- the words with an accepted rule
 unfoldable pub withRule : List ℕ → Addition → Read → List ℕ
 withRule t a (refused number place) = t
-withRule t a (tree x) =
-    added (withWindow t (a .id) (a .lowest) (a .highest)) (a .id) (a .flags) (partsAt x (positionsOf t))
+withRule t a (tree x) = addedIn t (a .id) (a .flags) (a .windows) (partsAt x (positionsOf t))
 
 -- "A refused addition .. leaves the table as it was." An accepted one puts in what its pattern
 -- reads as.

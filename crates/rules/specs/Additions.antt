@@ -7,12 +7,13 @@ use lib.Dec.{eqb, leb}
 use lib.ListN.{length}
 use Rattle.table.specs.Layout.{maxRules}
 use Rattle.regex.specs.Form.{write, positions}
-use Rattle.regex.specs.Rule.{Rule, no-windows}
+use Rattle.regex.specs.Rule.{Rule, Windows}
 use Rattle.nodes.specs.Nodes.{Syntax}
 use Rattle.pattern.specs.Walk.{Read, tree, refused}
 use Rattle.pattern.specs.Read.{tooLong}
+use Rattle.pattern.specs.Windows.{emptyWindow}
 use Rattle.rules.specs.Words.{isSingle, isLeftmost}
-use Rattle.rules.specs.Add.{Addition, readingOf, answer, unknownFlag, singleStart, emptyWindow, placed}
+use Rattle.rules.specs.Add.{Addition, readingOf, answer, unknownFlag, singleStart, placed}
 use Rattle.rules.specs.declared.Added.{Added}
 
 -- "Ids: any 32-bit number"
@@ -20,21 +21,20 @@ unfoldable pub Narrow : List Addition → Type 0
 Narrow [] = Unit {0}
 Narrow (a ∷ l) = (a .id < 2 ^ 32) × Narrow l
 
--- an accepted rule: its id, its flags, its window, and the tree that its pattern reads as
+-- an accepted rule: its id, its flags, its windows, and the tree that its pattern reads as
 pub record Accepted : Type 0 where
   pub id : ℕ
   pub flags : ℕ
-  pub lowest : ℕ
-  pub highest : ℕ
+  pub windows : Windows
   pub tree : Syntax
 
--- as a rule that has a meaning; no addition brings a smallest length
+-- as a rule that has a meaning
 abbrev pub ruleOf : Accepted → Rule
 ruleOf r = record {
   id = r .id;
   single = isSingle (r .flags);
   starts = isLeftmost (r .flags);
-  windows = record { smallest-end = r .lowest; largest-end = r .highest; smallest-length = no-windows .smallest-length };
+  windows = r .windows;
   tree = r .tree;
 }
 
@@ -60,13 +60,12 @@ nextAnswer rs a =
     (cond (taken rs (a .id)) (answer 3 0)
     (cond (leb maxRules (length rs)) (answer 4 0)
     (cond (tooLong (a .pattern)) (answer 5 0)
-    (cond (emptyWindow a) (answer 26 0)
+    (cond (emptyWindow (a .windows)) (answer 26 0)
     (placed (used rs) (length (a .pattern)) (readingOf a)))))))
 
 -- the rule of an accepted addition
 abbrev pub acceptedOf : Addition → Syntax → Accepted
-acceptedOf a x =
-    record { id = a .id; flags = a .flags; lowest = a .lowest; highest = a .highest; tree = x }
+acceptedOf a x = record { id = a .id; flags = a .flags; windows = a .windows; tree = x }
 
 -- the rules after it: an accepted one comes last, a refused one changes nothing
 unfoldable pub withNew : List Accepted → Addition → Read → List Accepted

@@ -4,7 +4,7 @@ use mathlib.Core.List.{List, [], _∷_}
 use Prim.Native.Nat.{ℕ}
 use Rattle.table.specs.Layout.{positionsOf}
 use Rattle.rules.specs.Gaps.{partsAt}
-use Rattle.rules.specs.Words.{withWindow, added}
+use Rattle.rules.specs.Words.{addedIn}
 use Rattle.rules.specs.Add.{Addition, addWords}
 use Rattle.rules.specs.Additions.{Accepted}
 
@@ -17,4 +17,4 @@ addAll t (a ∷ l) = addAll (addWords t a) l
 unfoldable pub encode : List ℕ → List Accepted → List ℕ
 encode t [] = t
 encode t (r ∷ rs) =
-    encode (added (withWindow t (r .id) (r .lowest) (r .highest)) (r .id) (r .flags) (partsAt (r .tree) (positionsOf t))) rs
+    encode (addedIn t (r .id) (r .flags) (r .windows) (partsAt (r .tree) (positionsOf t))) rs

@@ -10,10 +10,9 @@ use Rattle.table.specs.Layout.{maxRules, maxPositions, bytes, rulesOf, leftmost
 use Rattle.table.specs.Gaps.{lastGaps, followGaps, innerGaps, unsettled}
 use Rattle.table.specs.Table.{isTable}
 use Rattle.table.specs.Invariants.{over, copied, movedUp}
-use Rattle.pattern.specs.Read.{tooLong}
 use Rattle.automaton.specs.declared.Parts.{Parts}
 use Rattle.rules.specs.Words.{digitsWith, ownerWith}
-use Rattle.rules.specs.Add.{Addition, unknownFlag, singleStart, emptyWindow, hasId}
+use Rattle.rules.specs.Add.{unknownFlag, singleStart, hasId}
 
 -- ---- the checks before the pattern is read
 
@@ -26,10 +25,6 @@ firstFault t id flags =
     (cond (hasId t id) 3
     (cond (leb maxRules (rulesOf t)) 4 0))))
     1
-
--- and of 5 and 26
-unfoldable pub sizeFault : Addition → ℕ
-sizeFault a = cond (tooLong (a .pattern)) 5 (cond (emptyWindow a) 26 0)
 
 -- ---- the writers
 
@@ -66,18 +61,18 @@ digitsPut at k new t = copied at 1 (digitsWith k new (getD t at 0) ∷ []) t
 unfoldable pub ownersPut : (n more k : ℕ) → List ℕ → List ℕ
 ownersPut n more k t = over (ownerAt 0) (ownerAt maxPositions) (λ w. ownerWith n more k (w - ownerAt 0) (getD t w 0)) t
 
--- the positions that keep a start, with those of the new rule if it reports one
+-- the positions that keep a start, with those of the new rule if they do
 unfoldable pub newKeepers : (n more : ℕ) → Bool → List ℕ
-newKeepers n more leftmost = setOf (λ q. leftmost && from-to n (n + more) q)
+newKeepers n more keeping = setOf (λ q. keeping && from-to n (n + more) q)
 
 unfoldable pub keepersPut : (n more : ℕ) → Bool → List ℕ → List ℕ
-keepersPut n more leftmost t = merged keepersAt n (newKeepers n more leftmost) t
+keepersPut n more keeping t = merged keepersAt n (newKeepers n more keeping) t
 
 -- all these, for a rule in the place of its id; the single-match rules have word 3
-unfoldable pub placePut : (rules n more id : ℕ) → (single leftmost : Bool) → List ℕ → List ℕ
-placePut rules n more id single leftmost t =
+unfoldable pub placePut : (rules n more id : ℕ) → (single leftmost keeping : Bool) → List ℕ → List ℕ
+placePut rules n more id single leftmost keeping t =
     let k : ℕ = count rules (smaller t id) in
-    keepersPut n more leftmost (ownersPut n more k
+    keepersPut n more keeping (ownersPut n more k
     (digitsPut leftmostsAt k leftmost (digitsPut 3 k single (numberPut (idAt 0) rules k id t))))
 
 -- follow sets from `at` on: those of the n old positions, and after them the new ones

@@ -8,10 +8,10 @@ use Prim.Native.Nat.{ℕ, zero, suc, _+_, _-_, _*_, _/_, _%_}
 use lib.Dec.{eqb, leb, ltb}
 use lib.ListN.{getD, drop}
 use Rattle.sets.specs.Set.{on, has, setOf, wordOf, any, asOne, count}
-use Rattle.table.specs.Layout.{tableWords, maxRules, maxPositions, bytes, rulesOf, positionsOf, singlesOf, leftmostsAt, leftmostsOf, windowedAt, windowedOf, lowestAt, highestAt, keepersAt, firstAt, idAt, idWord, openerAt, ownerAt, lastAt, latesAt, followAt, takersAt, rowHas, from-to}
+use Rattle.table.specs.Layout.{tableWords, maxRules, maxPositions, bytes, rulesOf, positionsOf, singlesOf, leftmostsAt, leftmostsOf, windowedAt, windowedOf, lowestAt, highestAt, lengthsAt, lengthsOf, shortestAt, keepersAt, firstAt, idAt, idWord, openerAt, ownerAt, lastAt, latesAt, followAt, takersAt, rowHas, from-to}
 use Rattle.table.specs.Gaps.{firstGaps, followGaps, lastGaps, innerGaps, unsettled}
 use Rattle.table.specs.Invariants.{over}
-use Rattle.regex.specs.Rule.{no-windows}
+use Rattle.regex.specs.Rule.{Windows, no-windows}
 use Rattle.automaton.specs.declared.Parts.{Parts}
 
 -- the words f 0, f 1, .. up to n of them
@@ -58,24 +58,47 @@ abbrev pub isLeftmost : ℕ → Bool
 isLeftmost flags = eqb (flags / 256 % 2) 1
 
 -- a rule has a window of end offsets unless both are left out
-abbrev pub hasWindow : (lowest highest : ℕ) → Bool
-hasWindow lowest highest = not (eqb lowest 0) || not (eqb highest (no-windows .largest-end))
+abbrev pub hasWindow : Windows → Bool
+hasWindow v = not (eqb (v .smallest-end) 0) || not (eqb (v .largest-end) (no-windows .largest-end))
+
+-- a rule's positions keep a start where the rule reports one, or has a smallest length
+abbrev pub needsStart : (flags : ℕ) → Windows → Bool
+needsStart flags v = isLeftmost flags || not (eqb (v .smallest-length) 0)
 
 -- the numbers of the rules that stand from `at` on, with that of the rule in place k
 unfoldable pub numbersPut : (at rules k new : ℕ) → List ℕ → List ℕ
 numbersPut at rules k new t =
     over at (at + maxRules) (λ w. numbersWith rules k new (λ a. getD t (at + a) 0) (w - at)) t
 
--- the window of the new rule, put in at its place; all other words stay
-unfoldable pub withWindow : List ℕ → (id lowest highest : ℕ) → List ℕ
-withWindow t id lowest highest =
+-- the end offsets of the new rule, put in at its place
+unfoldable pub withOffsets : List ℕ → (id : ℕ) → Windows → List ℕ
+withOffsets t id v =
     let k : ℕ = placeOf t id in
-    over windowedAt (windowedAt + 1) (λ w. digitsWith k (hasWindow lowest highest) (windowedOf t))
-    (numbersPut (highestAt 0) (rulesOf t) k highest (numbersPut (lowestAt 0) (rulesOf t) k lowest t))
+    over windowedAt (windowedAt + 1) (λ w. digitsWith k (hasWindow v) (windowedOf t))
+    (numbersPut (highestAt 0) (rulesOf t) k (v .largest-end)
+    (numbersPut (lowestAt 0) (rulesOf t) k (v .smallest-end) t))
 
--- the new rule's parts are given for each gap; how many positions it has, and which bytes they
--- take, is the same at all
-module _ (t : List ℕ) (id flags : ℕ) (parts : ℕ → Parts) where
+-- the word that is not 0 where some rule has a smallest length
+abbrev pub lengthsWith : (shortest old : ℕ) → ℕ
+lengthsWith shortest old = cond (eqb shortest 0) old 1
+
+unfoldable pub lengthsPut : (shortest : ℕ) → List ℕ → List ℕ
+lengthsPut shortest t = over lengthsAt (lengthsAt + 1) (λ w. lengthsWith shortest (lengthsOf t)) t
+
+-- a smallest length for each position from n on: these are of no rule yet, so the new rule's have
+-- it, and later rules put in their own
+unfoldable pub shortestPut : (n shortest : ℕ) → List ℕ → List ℕ
+shortestPut n shortest t = over (shortestAt n) (shortestAt maxPositions) (λ w. shortest) t
+
+-- the windows of the new rule put in; all other words stay
+unfoldable pub withWindow : List ℕ → (id : ℕ) → Windows → List ℕ
+withWindow t id v =
+    shortestPut (positionsOf t) (v .smallest-length)
+    (lengthsPut (v .smallest-length) (withOffsets t id v))
+
+-- The new rule's parts are given for each gap; how many positions it has, and which bytes they
+-- take, is the same at all. Whether its positions keep a start is given too.
+module _ (t : List ℕ) (id flags : ℕ) (keeping : Bool) (parts : ℕ → Parts) where
   abbrev more : ℕ
   more = parts 0 .positions
 
@@ -95,9 +118,9 @@ module _ (t : List ℕ) (id flags : ℕ) (parts : ℕ → Parts) where
   unfoldable pub leftmostsWord : ℕ
   leftmostsWord = digitsWith (placeOf t id) (isLeftmost flags) (leftmostsOf t)
 
-  -- word i of the set of the positions that keep a start: those of such a rule
+  -- word i of the set of the positions that keep a start
   unfoldable pub newKeeper : ℕ → Bool
-  newKeeper q = isLeftmost flags && from-to (positionsOf t) (positionsOf t + more) q
+  newKeeper q = keeping && from-to (positionsOf t) (positionsOf t + more) q
 
   unfoldable pub keeperWords : ℕ → ℕ
   keeperWords i = getD (setOf (λ q. oldRow t keepersAt q || newKeeper q)) i 0
@@ -164,3 +187,7 @@ module _ (t : List ℕ) (id flags : ℕ) (parts : ℕ → Parts) where
   -- the table with the rule; words beyond 16,384 are untouched
   unfoldable pub added : List ℕ
   added = wordsOf tableWords addedWord ++ drop tableWords t
+
+-- the table with the rule and its windows
+abbrev pub addedIn : List ℕ → (id flags : ℕ) → Windows → (ℕ → Parts) → List ℕ
+addedIn t id flags v parts = added (withWindow t id v) id flags (needsStart flags v) parts

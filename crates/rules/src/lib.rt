@@ -1,9 +1,10 @@
-// Adding a rule: pattern bytes, id and flags in; a refusal with its place that leaves every word as
-// it was, or the table with the rule. Every refusal is settled before the first word is written.
+// Adding a rule: pattern bytes, id, flags and windows in; a refusal with its place that leaves every
+// word as it was, or the table with the rule. Every refusal is settled before the first word is
+// written.
 // specs/Add.antt says what the answer is, specs/Words.antt what the words are then.
 mod write;
 
-use pattern::LONGEST;
+use pattern::Bounds;
 use table::layout::IDS_AT;
 use table::layout::KNOWN_FLAGS;
 use table::layout::LEFTMOST;
@@ -17,8 +18,9 @@ ghost use mathlib.Core.Path.{_≡_};
 ghost use Prim.Native.Nat.{_≤_};
 ghost use lib.ListN.{length};
 ghost use Rattle.table.specs.Layout.{tableWords, maxRules, rulesOf};
+ghost use Rattle.pattern.specs.Windows.{windowsOf};
 ghost use Rattle.rules.specs.Add.{addition, additionIn, hasId, addAnswer, addWords};
-ghost use Rattle.rules.specs.Invariants.{firstFault, sizeFault};
+ghost use Rattle.rules.specs.Invariants.{firstFault};
 
 // The answer of an addition: number 0 and place 0, or the refusal's number and place.
 pub struct Added {
@@ -63,36 +65,21 @@ fn first_fault(words: &[u64], id: u32, flags: u32) -> u32
     1
 }
 
-// The checks of the pattern's length and of the window, in order.
-fn size_fault(pattern: &[u8], lowest: u64, highest: u64) -> u32
-    ensures { λ r. ⌜ r ≡ sizeFault (additionIn 0 0 lowest highest (now (pattern .entry))) ⌝ }
-{
-    if pattern.len() > LONGEST {
-        return 5;
-    }
-    if highest < lowest {
-        return 26;
-    }
-    0
-}
-
-// Adds a rule that reports at every end offset, or refuses it and leaves every word as it was.
+// Adds a rule with no window, or refuses it and leaves every word as it was.
 pub fn add(words: &mut [u64], id: u32, flags: u32, pattern: &[u8]) -> Added
     ensures { λ r. ⌜ (r ≡ addAnswer (now (words .entry)) (addition id flags (now (pattern .entry)))) × (now (words .exit) ≡ addWords (now (words .entry)) (addition id flags (now (pattern .entry)))) ⌝ }
 {
-    add_within(words, id, flags, 0, NO_END, pattern)
+    let bounds = Bounds {
+        lowest: 0,
+        highest: NO_END,
+        shortest: 0,
+    };
+    add_within(words, id, flags, bounds, pattern)
 }
 
-// Adds a rule that reports at the end offsets from the lowest to the highest.
-pub fn add_within(
-    words: &mut [u64],
-    id: u32,
-    flags: u32,
-    lowest: u64,
-    highest: u64,
-    pattern: &[u8],
-) -> Added
-    ensures { λ r. ⌜ (r ≡ addAnswer (now (words .entry)) (additionIn id flags lowest highest (now (pattern .entry)))) × (now (words .exit) ≡ addWords (now (words .entry)) (additionIn id flags lowest highest (now (pattern .entry)))) ⌝ }
+// Adds a rule that reports where its three windows hold.
+pub fn add_within(words: &mut [u64], id: u32, flags: u32, bounds: Bounds, pattern: &[u8]) -> Added
+    ensures { λ r. ⌜ (r ≡ addAnswer (now (words .entry)) (additionIn id flags (windowsOf bounds) (now (pattern .entry)))) × (now (words .exit) ≡ addWords (now (words .entry)) (additionIn id flags (windowsOf bounds) (now (pattern .entry)))) ⌝ }
 {
     let fault = first_fault(words, id, flags);
     if fault != 0 {
@@ -101,7 +88,7 @@ pub fn add_within(
             place: 0,
         };
     }
-    let size = size_fault(pattern, lowest, highest);
+    let size = pattern::size_fault(pattern.len(), bounds);
     if size != 0 {
         return Added {
             number: size,
@@ -128,8 +115,9 @@ pub fn add_within(
         words[POSITIONS_AT] as usize,
         write::holding(0),
     );
-    write::put_window(words, id, lowest, highest);
-    write::add_rule(words, id, flags, &nodes, reading.root, parts);
+    let keeping = write::needs_start(flags, bounds);
+    write::put_window(words, id, bounds);
+    write::add_rule(words, id, flags, keeping, &nodes, reading.root, parts);
     Added {
         number: 0,
         place: 0,

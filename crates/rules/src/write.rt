@@ -2,6 +2,7 @@
 // is above them is a row of calls, one for each part of the table. specs/Invariants.antt says what
 // each makes, and `add_rule` makes the words of specs/Words.antt.
 use automaton::Parts;
+use pattern::Bounds;
 use table::gaps::FIRST_GAPS;
 use table::gaps::FOLLOW_GAPS;
 use table::gaps::INNER_GAPS;
@@ -17,6 +18,7 @@ use table::layout::LAST_AT;
 use table::layout::LATES_AT;
 use table::layout::LEFTMOST;
 use table::layout::LEFTMOSTS_AT;
+use table::layout::LENGTHS_AT;
 use table::layout::LOWEST_AT;
 use table::layout::MAX_RULES;
 use table::layout::NO_END;
@@ -25,6 +27,7 @@ use table::layout::OWNERS_AT;
 use table::layout::POSITIONS_AT;
 use table::layout::RULES_AT;
 use table::layout::SET_WORDS;
+use table::layout::SHORTEST_AT;
 use table::layout::SINGLE;
 use table::layout::SINGLES_AT;
 use table::layout::TAKERS_AT;
@@ -40,8 +43,9 @@ ghost use Rattle.table.specs.Invariants.{copied, movedUp};
 ghost use Rattle.table.specs.Gaps.{firstGaps};
 ghost use Rattle.regex.specs.Form.{write, positions};
 ghost use Rattle.nodes.specs.Nodes.{treeAt};
+ghost use Rattle.pattern.specs.Windows.{windowsOf};
 ghost use Rattle.rules.specs.Gaps.{holdingAt, partsAt};
-ghost use Rattle.rules.specs.Words.{digitsWith, ownerWith, hasWindow, withWindow, added};
+ghost use Rattle.rules.specs.Words.{digitsWith, ownerWith, hasWindow, needsStart, lengthsWith, lengthsPut, shortestPut, withOffsets, withWindow, added};
 ghost use Rattle.rules.specs.Invariants.{merged, maskedRows, smaller, numberPut, digitsPut, ownersPut, newKeepers, keepersPut, placePut, newTakers, takersPut, followPut, gapPut, gapsPut, innerRows, latesPut, openerOf, openersPut, countsPut};
 
 // The assertions that are known to hold at each gap, as specs/Gaps.antt has them.
@@ -200,22 +204,68 @@ fn put_digits(words: &mut [u64], at: usize, k: usize, new: bool)
 }
 
 // Whether a rule has a window of end offsets: both are left out where it has none.
-fn has_window(lowest: u64, highest: u64) -> bool
-    ensures { λ r. ⌜ r ≡ hasWindow lowest highest ⌝ }
+fn has_window(bounds: Bounds) -> bool
+    ensures { λ r. ⌜ r ≡ hasWindow (windowsOf bounds) ⌝ }
 {
-    (lowest != 0) | (highest != NO_END)
+    (bounds.lowest != 0) | (bounds.highest != NO_END)
 }
 
-// The window of a rule with this id, put in at the rule's place.
-pub(super) fn put_window(words: &mut [u64], id: u32, lowest: u64, highest: u64)
+// Whether a rule's positions keep a start: it reports one, or has a smallest length.
+pub(super) fn needs_start(flags: u32, bounds: Bounds) -> bool
+    ensures { λ r. ⌜ r ≡ needsStart flags (windowsOf bounds) ⌝ }
+{
+    (flags / LEFTMOST % 2 == 1) | (bounds.shortest != 0)
+}
+
+// The end offsets of a rule with this id, put in at the rule's place.
+fn put_offsets(words: &mut [u64], id: u32, bounds: Bounds)
     requires { ⌜ (tableWords ≤ length (now words)) × (rulesOf (now words) < maxRules) ⌝ }
-    ensures { λ r. ⌜ now (words .exit) ≡ withWindow (now (words .entry)) id lowest highest ⌝ }
+    ensures { λ r. ⌜ now (words .exit) ≡ withOffsets (now (words .entry)) id (windowsOf bounds) ⌝ }
 {
     let rules = words[RULES_AT] as usize;
     let k = place_of(words, rules, id as u64);
-    put_number(words, LOWEST_AT, rules, k, lowest);
-    put_number(words, HIGHEST_AT, rules, k, highest);
-    put_digits(words, WINDOWED_AT, k, has_window(lowest, highest));
+    put_number(words, LOWEST_AT, rules, k, bounds.lowest);
+    put_number(words, HIGHEST_AT, rules, k, bounds.highest);
+    put_digits(words, WINDOWED_AT, k, has_window(bounds));
+}
+
+// The word that is not 0 where some rule has a smallest length, with that of one more.
+fn lengths_with(old: u64, shortest: u64) -> u64
+    ensures { λ r. ⌜ r ≡ lengthsWith shortest old ⌝ }
+{
+    if shortest == 0 { old } else { 1 }
+}
+
+// The same in the words.
+fn put_lengths(words: &mut [u64], shortest: u64)
+    requires { ⌜ tableWords ≤ length (now words) ⌝ }
+    ensures { λ r. ⌜ now (words .exit) ≡ lengthsPut shortest (now (words .entry)) ⌝ }
+{
+    let one = [lengths_with(words[LENGTHS_AT], shortest)];
+    put_words(words, LENGTHS_AT, &one, 1);
+}
+
+// A smallest length for each position from n on.
+fn put_shortest(words: &mut [u64], n: usize, shortest: u64)
+    requires { ⌜ (tableWords ≤ length (now words)) × (n ≤ maxPositions) ⌝ }
+    ensures { λ r. ⌜ now (words .exit) ≡ shortestPut n shortest (now (words .entry)) ⌝ }
+{
+    let mut q = n;
+    while q < 256 {
+        words[SHORTEST_AT + q] = shortest;
+        q += 1;
+    }
+}
+
+// The windows of a rule with this id, whose positions come after those that the table has.
+pub(super) fn put_window(words: &mut [u64], id: u32, bounds: Bounds)
+    requires { ⌜ (tableWords ≤ length (now words)) × (rulesOf (now words) < maxRules) × (positionsOf (now words) ≤ maxPositions) ⌝ }
+    ensures { λ r. ⌜ now (words .exit) ≡ withWindow (now (words .entry)) id (windowsOf bounds) ⌝ }
+{
+    let n = words[POSITIONS_AT] as usize;
+    put_offsets(words, id, bounds);
+    put_lengths(words, bounds.shortest);
+    put_shortest(words, n, bounds.shortest);
 }
 
 // The owner of position q, which was `o`, once a rule with the positions from n on is put in at
@@ -253,11 +303,11 @@ fn put_owners(words: &mut [u64], n: usize, more: usize, k: usize)
 }
 
 // The new positions, from n on, that keep a start.
-fn new_keepers(n: usize, more: usize, leftmost: bool) -> [u64; 4]
+fn new_keepers(n: usize, more: usize, keeping: bool) -> [u64; 4]
     requires { ⌜ n + more ≤ maxPositions ⌝ }
-    ensures { λ r. ⌜ r ≡ newKeepers n more leftmost ⌝ }
+    ensures { λ r. ⌜ r ≡ newKeepers n more keeping ⌝ }
 {
-    if leftmost {
+    if keeping {
         let all = sets::below(sets::full(), n + more);
         let old = sets::below(sets::full(), n);
         return sets::intersection(all, sets::complement(old));
@@ -266,11 +316,11 @@ fn new_keepers(n: usize, more: usize, leftmost: bool) -> [u64; 4]
 }
 
 // The same in the words.
-fn put_keepers(words: &mut [u64], n: usize, more: usize, leftmost: bool)
+fn put_keepers(words: &mut [u64], n: usize, more: usize, keeping: bool)
     requires { ⌜ (tableWords ≤ length (now words)) × (n + more ≤ maxPositions) ⌝ }
-    ensures { λ r. ⌜ now (words .exit) ≡ keepersPut n more leftmost (now (words .entry)) ⌝ }
+    ensures { λ r. ⌜ now (words .exit) ≡ keepersPut n more keeping (now (words .entry)) ⌝ }
 {
-    let new = new_keepers(n, more, leftmost);
+    let new = new_keepers(n, more, keeping);
     merge_row(words, KEEPERS_AT, n, new);
 }
 
@@ -284,16 +334,17 @@ fn put_place(
     id: u64,
     single: bool,
     leftmost: bool,
+    keeping: bool,
 )
     requires { ⌜ (tableWords ≤ length (now words)) × (rules < maxRules) × (n + more ≤ maxPositions) ⌝ }
-    ensures { λ r. ⌜ now (words .exit) ≡ placePut rules n more id single leftmost (now (words .entry)) ⌝ }
+    ensures { λ r. ⌜ now (words .exit) ≡ placePut rules n more id single leftmost keeping (now (words .entry)) ⌝ }
 {
     let k = place_of(words, rules, id);
     put_number(words, IDS_AT, rules, k, id);
     put_digits(words, SINGLES_AT, k, single);
     put_digits(words, LEFTMOSTS_AT, k, leftmost);
     put_owners(words, n, more, k);
-    put_keepers(words, n, more, leftmost);
+    put_keepers(words, n, more, keeping);
 }
 
 // Follow sets from `at` on: those of the n old positions, and after them the new ones.
@@ -459,24 +510,25 @@ fn put_counts(words: &mut [u64], rules: u64, positions: u64)
 }
 
 // The table with one rule more, the tree of node `root`, whose positions come after those that the
-// table has. `parts` are its parts at the first gap.
+// table has, and keep a start if `keeping`. `parts` are its parts at the first gap.
 pub(super) fn add_rule(
     words: &mut [u64],
     id: u32,
     flags: u32,
+    keeping: bool,
     nodes: &[u64],
     root: usize,
     parts: Parts,
 )
     requires { ⌜ (tableWords ≤ length (now words)) × (rulesOf (now words) < maxRules) × (positionsOf (now words) + positions (write (treeAt (now nodes) root)) ≤ maxPositions) × (parts ≡ partsAt (treeAt (now nodes) root) (positionsOf (now words)) 0) ⌝ }
-    ensures { λ r. ⌜ now (words .exit) ≡ added (now (words .entry)) id flags (partsAt (treeAt (now (nodes .entry)) root) (positionsOf (now (words .entry)))) ⌝ }
+    ensures { λ r. ⌜ now (words .exit) ≡ added (now (words .entry)) id flags keeping (partsAt (treeAt (now (nodes .entry)) root) (positionsOf (now (words .entry)))) ⌝ }
 {
     let rules = words[RULES_AT] as usize;
     let n = words[POSITIONS_AT] as usize;
     let more = parts.positions;
     let single = flags / SINGLE % 2 == 1;
     let leftmost = flags / LEFTMOST % 2 == 1;
-    put_place(words, rules, n, more, id as u64, single, leftmost);
+    put_place(words, rules, n, more, id as u64, single, leftmost, keeping);
     put_gaps(words, n, nodes, root, parts);
     let takes = parts.takes;
     put_takers(words, n, &takes, more);

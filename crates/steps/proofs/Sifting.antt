@@ -1,6 +1,6 @@
--- The rules whose window has an end offset. Each turn takes the lowest digit that is left out of
--- the word of rules with a window, and drops it from those found unless its window has the offset.
--- Assumes nothing.
+-- The digits of a word that pass a test. Each turn takes the lowest digit that is left out of those
+-- that are asked, and drops it from those found unless it passes. So the rules whose window has an
+-- end offset are found. Assumes nothing.
 use mathlib.Core.Path.{_≡_, refl, sym, ap, ap₂, _∙_}
 use mathlib.Core.Bool.{Bool, true, false, true≢false, not, _&&_, _||_, and-true, and-false, and-assoc, or-true}
 use mathlib.Core.List.{List}
@@ -40,88 +40,98 @@ is-dropped found a fits h = record {
 
 -- ---- the turns
 
-module _ (t : List ℕ) (end : ℕ) where
-  -- what is found so far: of the rules, those that are left to look at and those that pass
-  pub record SiftLeft (rules left found : ℕ) : Type 0 where
-    pub small : left < 2 ^ 64
-    pub found-small : found < 2 ^ 64
-    pub with-window : (k : ℕ) → on left k ≡ true → on (windowedOf t) k ≡ true
-    pub each : (k : ℕ) → k < 64 → on found k ≡ (on rules k && (on left k || automaton t .inside k end))
+-- What is found so far of some digits: those that are left to look at, and those that pass. Only
+-- the digits of `asked` are looked at; every other passes.
+pub record SiftLeft (asked : ℕ) (pass : ℕ → Bool) (all left found : ℕ) : Type 0 where
+  pub small : left < 2 ^ 64
+  pub found-small : found < 2 ^ 64
+  pub only : (k : ℕ) → on left k ≡ true → on asked k ≡ true
+  pub each : (k : ℕ) → k < 64 → on found k ≡ (on all k && (on left k || pass k))
 
-  -- a rule with a window passes by its two words, and every other passes
-  windowed-pass : (k : ℕ) → k < 64 → on (windowedOf t) k ≡ true → automaton t .inside k end ≡ windowHas t k end
-  unfolding automaton
-  windowed-pass k h e = rw (lt-ltb k maxRules h, e)
-
-  others-pass : (k : ℕ) → on (windowedOf t) k ≡ false → automaton t .inside k end ≡ true
-  unfolding automaton
-  others-pass k e = rw (e, and-false (ltb k maxRules))
-
-  pub sift-none : (rules left : ℕ) → rules < 2 ^ 64 → left < 2 ^ 64 → left ≡ bitAnd rules (windowedOf t) → SiftLeft rules left rules
-  sift-none rules left all fits e = record {
-    small = fits;
-    found-small = all;
-    with-window = λ k h. second (on rules k) (on (windowedOf t) k) (sym (digits k) ∙ h);
-    each = λ k h. sym (ap (λ (b : Bool). on rules k && (b || automaton t .inside k end)) (digits k) ∙ go k (on rules k) (on (windowedOf t) k) refl);
+module _ (asked : ℕ) (pass : ℕ → Bool) (others : (k : ℕ) → k < 64 → on asked k ≡ false → pass k ≡ true) where
+  pub sift-none : (all left : ℕ) → all < 2 ^ 64 → left < 2 ^ 64 → left ≡ bitAnd all asked → SiftLeft asked pass all left all
+  sift-none all left fits less e = record {
+    small = less;
+    found-small = fits;
+    only = λ k h. second (on all k) (on asked k) (sym (digits k) ∙ h);
+    each = λ k h. sym (ap (λ (b : Bool). on all k && (b || pass k)) (digits k) ∙ go k h (on all k) (on asked k) refl);
   }
     where
-      digits : (k : ℕ) → on left k ≡ (on rules k && on (windowedOf t) k)
-      digits k = ap (λ (x : ℕ). on x k) e ∙ on-and rules (windowedOf t) k
+      digits : (k : ℕ) → on left k ≡ (on all k && on asked k)
+      digits k = ap (λ (x : ℕ). on x k) e ∙ on-and all asked k
 
       second : (b c : Bool) → (b && c) ≡ true → c ≡ true
       second true c h = h
       second false c h = absurd (true≢false (sym h))
 
-      go : (k : ℕ) (b c : Bool) → on (windowedOf t) k ≡ c → (b && ((b && c) || automaton t .inside k end)) ≡ b
-      go k false c h = refl
-      go k true true h = refl
-      go k true false h = others-pass k h
+      go : (k : ℕ) → k < 64 → (b c : Bool) → on asked k ≡ c → (b && ((b && c) || pass k)) ≡ b
+      go k l false c h = refl
+      go k l true true h = refl
+      go k l true false h = others k l h
 
-  module _ (rules left found r : ℕ) (inv : SiftLeft rules left found) (some : ¬ (left ≡ 0)) where
-    abbrev z : ℕ
-    z = trailingZeros 64 left
+-- a turn looks at the lowest digit that is left: it stays where it passes
+module _ (asked : ℕ) (pass : ℕ → Bool) {all left found : ℕ} (inv : SiftLeft asked pass all left found) (some : ¬ (left ≡ 0)) where
+  abbrev z : ℕ
+  z = trailingZeros 64 left
 
-    abbrev rest : ℕ
-    rest = bitAnd left (left - 1)
+  abbrev rest : ℕ
+  rest = bitAnd left (left - 1)
 
-    low : z < 64
-    low = digit left (inv .small) some
+  pub low : z < 64
+  low = digit left (inv .small) some
 
-    asked : on left z ≡ true
-    asked = zeros-on 64 left (inv .small) (omega arith) .1
+  there : on left z ≡ true
+  there = zeros-on 64 left (inv .small) (omega arith) .1
 
-    cleared : on rest z ≡ false
-    cleared = ap (λ (x : ℕ). on x z) (clear-low 64 left (inv .small) (omega arith)) ∙ cleared-off (left / 2 ^ suc z) (suc z) z (omega arith)
+  pub is-asked : on asked z ≡ true
+  is-asked = inv .only z there
 
-    pub sift-turn : Sifted found z (windowHas t z end) r → SiftLeft rules rest r
-    sift-turn s = record {
-      small = fits-still left (inv .small) some;
-      found-small = s .small;
-      with-window = λ k h. inv .with-window k (on-turn left (inv .small) some k ∙ ap (λ (b : Bool). eqb k z || b) h ∙ or-true (eqb k z));
-      each = λ k h. s .each k h ∙ ap (λ (b : Bool). b && (windowHas t z end || not (eqb k z))) (inv .each k h) ∙ go k (ℕ-discrete k z);
-    }
-      where
-        pass : Bool
-        pass = windowHas t z end
+  cleared : on rest z ≡ false
+  cleared = ap (λ (x : ℕ). on x z) (clear-low 64 left (inv .small) (omega arith)) ∙ cleared-off (left / 2 ^ suc z) (suc z) z (omega arith)
 
-        here : (b c d : Bool) → ((b && (true || c)) && (d || false)) ≡ (b && (false || d))
-        here true c true = refl
-        here true c false = refl
-        here false c d = refl
+  pub sift-turn : {r : ℕ} (stays : Bool) → pass z ≡ stays → Sifted found z stays r → SiftLeft asked pass all rest r
+  sift-turn stays is s = record {
+    small = fits-still left (inv .small) some;
+    found-small = s .small;
+    only = λ k h. inv .only k (on-turn left (inv .small) some k ∙ ap (λ (b : Bool). eqb k z || b) h ∙ or-true (eqb k z));
+    each = λ k h. s .each k h ∙ ap (λ (b : Bool). b && (stays || not (eqb k z))) (inv .each k h) ∙ go k (ℕ-discrete k z);
+  }
+    where
+      here : (b c d : Bool) → ((b && (true || c)) && (d || false)) ≡ (b && (false || d))
+      here true c true = refl
+      here true c false = refl
+      here false c d = refl
 
-        go : (k : ℕ) → Dec (k ≡ z) → ((on rules k && (on left k || automaton t .inside k end)) && (pass || not (eqb k z))) ≡ (on rules k && (on rest k || automaton t .inside k end))
-        go k (yes e) =
-            let at : automaton t .inside k end ≡ pass = ap (λ (j : ℕ). automaton t .inside j end) e ∙ windowed-pass z low (inv .with-window z asked) in
-            rw (eq-eqb k z e, ap (on left) e ∙ asked, ap (on rest) e ∙ cleared) (here (on rules k) (automaton t .inside k end) pass ∙ sym (ap (λ (b : Bool). on rules k && (false || b)) at))
-        go k (no e) =
-            let same : on left k ≡ on rest k = on-turn left (inv .small) some k ∙ ap (λ (b : Bool). b || on rest k) (ne-eqb k z e) in
-            rw (ne-eqb k z e, same) (ap (λ (b : Bool). (on rules k && (on rest k || automaton t .inside k end)) && b) (or-true pass) ∙ and-true (on rules k && (on rest k || automaton t .inside k end)))
+      go : (k : ℕ) → Dec (k ≡ z) → ((on all k && (on left k || pass k)) && (stays || not (eqb k z))) ≡ (on all k && (on rest k || pass k))
+      go k (yes e) =
+          let at : pass k ≡ stays = ap pass e ∙ is in
+          rw (eq-eqb k z e, ap (on left) e ∙ there, ap (on rest) e ∙ cleared) (here (on all k) (pass k) stays ∙ sym (ap (λ (b : Bool). on all k && (false || b)) at))
+      go k (no e) =
+          let same : on left k ≡ on rest k = on-turn left (inv .small) some k ∙ ap (λ (b : Bool). b || on rest k) (ne-eqb k z e) in
+          rw (ne-eqb k z e, same) (ap (λ (b : Bool). (on all k && (on rest k || pass k)) && b) (or-true stays) ∙ and-true (on all k && (on rest k || pass k)))
 
-  pub sift-done : (rules left found : ℕ) → SiftLeft rules left found → left ≡ 0 → found ≡ inWindow (automaton t) rules end
-  sift-done rules left found inv e =
-      sym (wordOf-on 64 found (inv .found-small))
-      ∙ wordOf-ext 64 (on found) (windowed (automaton t) (on rules) end)
-      (λ k h. inv .each k h ∙ ap (λ (b : Bool). on rules k && (b || automaton t .inside k end)) (ap (λ (x : ℕ). on x k) e ∙ on-zero k))
+pub sift-done : (asked : ℕ) (pass : ℕ → Bool) {all left found : ℕ} → SiftLeft asked pass all left found → left ≡ 0
+    → found ≡ wordOf 64 (λ k. on all k && pass k)
+sift-done asked pass {all} {left} {found} inv e =
+    sym (wordOf-on 64 found (inv .found-small))
+    ∙ wordOf-ext 64 (on found) (λ k. on all k && pass k)
+    (λ k h. inv .each k h ∙ ap (λ (b : Bool). on all k && (b || pass k)) (ap (λ (x : ℕ). on x k) e ∙ on-zero k))
+
+-- ---- the windows of the rules
+
+module _ (t : List ℕ) (end : ℕ) where
+  -- the rules whose window has the end offset
+  abbrev pub inside : ℕ → Bool
+  inside k = automaton t .inside k end
+
+  -- a rule with a window passes by its two words, and every other passes
+  pub windowed-pass : (k : ℕ) → k < 64 → on (windowedOf t) k ≡ true → automaton t .inside k end ≡ windowHas t k end
+  unfolding automaton
+  windowed-pass k h e = rw (lt-ltb k maxRules h, e)
+
+  pub others-pass : (k : ℕ) → k < 64 → on (windowedOf t) k ≡ false → automaton t .inside k end ≡ true
+  unfolding automaton
+  others-pass k h e = rw (e, and-false (ltb k maxRules))
 
 -- ---- the rules that pass a test
 

@@ -25,7 +25,7 @@ use Rattle.table.proofs.Members.{not-below}
 use Rattle.stream.specs.declared.Stream.{Stream}
 use Rattle.stream.specs.declared.Scanned.{Scanned}
 use Rattle.stream.specs.declared.Closed.{Closed}
-use Rattle.stream.specs.Byte.{nextHeld, nextPending, runMarks, twoMarks, lateTest, ownTest, byteState, plain, after, stateAfter, reportsOf, costOf, closeReports, busyOf}
+use Rattle.stream.specs.Byte.{stateBy, nextHeld, nextPending, runMarks, twoMarks, lateTest, ownTest, byteState, plain, after, stateAfter, reportsOf, costOf, closeReports, busyOf}
 use Rattle.stream.specs.Valid.{streamLimit, sameCounts, liveInside, marksSingle, underLimit, heldInside, pendingInside, pendingLate, begun, sound, needsStarts, valid}
 use Rattle.stream.specs.Calls.{Lists, Call, fresh, opened, space, closeNumber, callNumber, takenBy, scanned, shut, closed}
 use Rattle.stream.proofs.Machines.{fits-le, fits-within}
@@ -90,51 +90,65 @@ module _ (w : Automaton) (line : Bool) (before after : Side) (live : List ℕ) (
       ap not (any-never maxPositions (λ q. has (setOf takers) q && leb (w .positions) q)
       (λ q h. ap₂ (λ (a b : Bool). a && b) (has-setOf takers q h) (sym (not-below q (w .positions))) ∙ apart (ltb q (w .positions)) (rest q)))
 
-pub inside-next : (w : Automaton) (s : Stream) (x : ℕ) → liveInside w (byteState w s x) ≡ true
-unfolding liveInside byteState
-inside-next w s x = inside-step w false (s .last) (sideOf x) (s .live) (s .taken) x
+-- The state after a byte, by any tests of its runs. The pairs that it leaves held are found in a
+-- stream with as many bytes.
+module _ (w : Automaton) (late own : ℕ → Bool) (s u : Stream) (x : ℕ) where
+  abbrev pub nextBy : Stream
+  nextBy = stateBy w late own (nextPending w u x) s x
 
--- what is held is such a step, or nothing
-pub held-next : (w : Automaton) (s : Stream) (x : ℕ) → heldInside w (byteState w s x) ≡ true
-unfolding heldInside byteState nextHeld
-held-next w s x = go (eqb x 10)
-  where
-    go : (b : Bool) → not (any maxPositions (λ q. has (cond b (stepped w true (s .last) (sideOf x) (w .positions) (s .live) (s .taken) x) emptySet) q && leb (w .positions) q)) ≡ true
-    go true = inside-step w true (s .last) (sideOf x) (s .live) (s .taken) x
-    go false = ap not (any-never maxPositions (λ q. has emptySet q && leb (w .positions) q) (λ q h. ap (λ (b : Bool). b && leb (w .positions) q) (has-empty q h)))
+  pub inside-next : liveInside w nextBy ≡ true
+  unfolding liveInside
+  inside-next = inside-step w false (s .last) (sideOf x) (s .live) (s .taken) x
 
--- a pair is held for rules of the table alone, and where a byte stands before its end offset
-pub pending-next : (w : Automaton) (s : Stream) (x : ℕ) → pendingInside w (byteState w s x) ≡ true
-unfolding pendingInside byteState nextPending
-pending-next w s x = go (eqb x 10 && ltb 0 (s .taken))
-  where
-    pair : ℕ → Bool
-    pair = endsNewly w (beforeLast (s .last)) (s .live) (between (s .last) Newline) (s .live)
+  -- what is held is such a step, or nothing
+  held-next : heldInside w nextBy ≡ true
+  unfolding heldInside nextHeld
+  held-next = go (eqb x 10)
+    where
+      go : (b : Bool) → not (any maxPositions (λ q. has (cond b (stepped w true (s .last) (sideOf x) (w .positions) (s .live) (s .taken) x) emptySet) q && leb (w .positions) q)) ≡ true
+      go true = inside-step w true (s .last) (sideOf x) (s .live) (s .taken) x
+      go false = ap not (any-never maxPositions (λ q. has emptySet q && leb (w .positions) q) (λ q h. ap (λ (b : Bool). b && leb (w .positions) q) (has-empty q h)))
 
-    test : ℕ → Bool
-    test a = ltb a (w .rules) && pair a
+  -- a pair is held for rules of the table alone, and where a byte stands before its end offset
+  pending-next : pendingInside w nextBy ≡ true
+  unfolding pendingInside nextPending
+  pending-next = go (eqb x 10 && ltb 0 (u .taken))
+    where
+      pair : ℕ → Bool
+      pair = endsNewly w (beforeLast (u .last)) (u .live) (between (u .last) Newline) (u .live)
 
-    apart : (a b : Bool) → ((a && b) && not a) ≡ false
-    apart true true = refl
-    apart true false = refl
-    apart false b = refl
+      test : ℕ → Bool
+      test a = ltb a (w .rules) && pair a
 
-    go : (b : Bool) → not (any 64 (λ a. on (cond b (wordOf 64 test) 0) a && not (ltb a (w .rules)))) ≡ true
-    go true =
-        ap not (any-never 64 (λ a. on (wordOf 64 test) a && not (ltb a (w .rules)))
-        (λ a h. ap (λ (b : Bool). b && not (ltb a (w .rules))) (on-wordOf 64 test a h) ∙ apart (ltb a (w .rules)) (pair a)))
-    go false = ap not (any-never 64 (λ a. on 0 a && not (ltb a (w .rules))) (λ a h. ap (λ (b : Bool). b && not (ltb a (w .rules))) (on-zero a)))
+      apart : (a b : Bool) → ((a && b) && not a) ≡ false
+      apart true true = refl
+      apart true false = refl
+      apart false b = refl
 
-late-next : (w : Automaton) (s : Stream) (x : ℕ) → pendingLate (byteState w s x) ≡ true
-unfolding pendingLate byteState nextPending
-late-next w s x = go (ltb 0 (s .taken)) refl
-  where
-    pairs : ℕ
-    pairs = rulesWhere w (endsNewly w (beforeLast (s .last)) (s .live) (between (s .last) Newline) (s .live))
+      go : (b : Bool) → not (any 64 (λ a. on (cond b (wordOf 64 test) 0) a && not (ltb a (w .rules)))) ≡ true
+      go true =
+          ap not (any-never 64 (λ a. on (wordOf 64 test) a && not (ltb a (w .rules)))
+          (λ a h. ap (λ (b : Bool). b && not (ltb a (w .rules))) (on-wordOf 64 test a h) ∙ apart (ltb a (w .rules)) (pair a)))
+      go false = ap not (any-never 64 (λ a. on 0 a && not (ltb a (w .rules))) (λ a h. ap (λ (b : Bool). b && not (ltb a (w .rules))) (on-zero a)))
 
-    go : (b : Bool) → ltb 0 (s .taken) ≡ b → (eqb (cond (eqb x 10 && b) pairs 0) 0 || leb 2 (suc (s .taken))) ≡ true
-    go true e = ap (λ (b : Bool). eqb (cond (eqb x 10 && true) pairs 0) 0 || b) (le-leb 2 (suc (s .taken)) (omega (arith, ltb-true 0 (s .taken) e))) ∙ or-true (eqb (cond (eqb x 10 && true) pairs 0) 0)
-    go false e = ap (λ (b : Bool). eqb (cond b pairs 0) 0 || leb 2 (suc (s .taken))) (and-false (eqb x 10))
+  late-next : u .taken ≡ s .taken → pendingLate nextBy ≡ true
+  unfolding pendingLate nextPending
+  late-next same = go (ltb 0 (u .taken)) refl
+    where
+      pairs : ℕ
+      pairs = rulesWhere w (endsNewly w (beforeLast (u .last)) (u .live) (between (u .last) Newline) (u .live))
+
+      go : (b : Bool) → ltb 0 (u .taken) ≡ b → (eqb (cond (eqb x 10 && b) pairs 0) 0 || leb 2 (suc (s .taken))) ≡ true
+      go true e =
+          ap (λ (b : Bool). eqb (cond (eqb x 10 && true) pairs 0) 0 || b) (le-leb 2 (suc (s .taken)) (omega (arith, ltb-true 0 (u .taken) e, same)))
+          ∙ or-true (eqb (cond (eqb x 10 && true) pairs 0) 0)
+      go false e = ap (λ (b : Bool). eqb (cond b pairs 0) 0 || leb 2 (suc (s .taken))) (and-false (eqb x 10))
+
+  begun-next : begun nextBy ≡ true
+  unfolding begun
+  begun-next =
+      ap (λ (b : Bool). (isEmpty (nextBy .live) && isEmpty (nextBy .held)) || b) (lt-ltb 0 (suc (s .taken)) (omega arith))
+      ∙ or-true (isEmpty (nextBy .live) && isEmpty (nextBy .held))
 
 -- a mark is set for single-match rules alone, in each run
 only-single : Automaton → ℕ → Bool
@@ -158,58 +172,30 @@ single-run w test marks e =
     apart false true false c f = refl
     apart false false b c f = refl
 
-single-next : (w : Automaton) (s : Stream) (x : ℕ) → marksSingle w s ≡ true → marksSingle w (byteState w s x) ≡ true
-unfolding marksSingle only-single byteState twoMarks
-single-next w s x e = single-run w (ownTest w s x) (runMarks w (lateTest w s x) (s .reported)) (single-run w (lateTest w s x) (s .reported) e)
+-- a state that fits still fits after a byte
+pub fitting-next : (w : Automaton) (late own : ℕ → Bool) (s u : Stream) (x : ℕ) → u .taken ≡ s .taken → Fitting w s → suc (s .taken) ≤ streamLimit
+    → Fitting w (nextBy w late own s u x)
+unfolding marksSingle only-single twoMarks
+fitting-next w late own s u x same h l = record {
+  rules-same = h .rules-same;
+  positions-same = h .positions-same;
+  live = inside-next w late own s u x;
+  marks = single-run w own (runMarks w late (s .reported)) (single-run w late (s .reported) (h .marks));
+  limit = l;
+  held = held-next w late own s u x;
+  pending = pending-next w late own s u x;
+  late = late-next w late own s u x same;
+  after-first = begun-next w late own s u x;
+}
 
 module _ (w : Automaton) (s : Stream) (block : List ℕ) (h : Fitting w s) where
-  live-after : (k : ℕ) → liveInside w (stateAfter w s block k) ≡ true
-  unfolding after
-  live-after zero = h .live
-  live-after (suc k) = inside-next w (stateAfter w s block k) (getD block k 0)
-
-  held-after : (k : ℕ) → heldInside w (stateAfter w s block k) ≡ true
-  unfolding after
-  held-after zero = h .held
-  held-after (suc k) = held-next w (stateAfter w s block k) (getD block k 0)
-
-  pending-after : (k : ℕ) → pendingInside w (stateAfter w s block k) ≡ true
-  unfolding after
-  pending-after zero = h .pending
-  pending-after (suc k) = pending-next w (stateAfter w s block k) (getD block k 0)
-
-  late-after : (k : ℕ) → pendingLate (stateAfter w s block k) ≡ true
-  unfolding after
-  late-after zero = h .late
-  late-after (suc k) = late-next w (stateAfter w s block k) (getD block k 0)
-
-  marks-after : (k : ℕ) → marksSingle w (stateAfter w s block k) ≡ true
-  unfolding after
-  marks-after zero = h .marks
-  marks-after (suc k) = single-next w (stateAfter w s block k) (getD block k 0) (marks-after k)
-
-  begun-after : (k : ℕ) → begun (stateAfter w s block k) ≡ true
-  unfolding after begun byteState
-  begun-after zero = h .after-first
-  begun-after (suc k) =
-      let z : Stream = byteState w (stateAfter w s block k) (getD block k 0) in
-      ap (λ (b : Bool). (isEmpty (z .live) && isEmpty (z .held)) || b)
-      (lt-ltb 0 (suc (stateAfter w s block k .taken)) (omega arith))
-      ∙ or-true (isEmpty (z .live) && isEmpty (z .held))
-
   pub fitting-after : (k : ℕ) → s .taken + k ≤ streamLimit → Fitting w (stateAfter w s block k)
-  fitting-after k l =
-      record {
-        rules-same = rules-after w s block k ∙ h .rules-same;
-        positions-same = positions-after w s block k ∙ h .positions-same;
-        live = live-after k;
-        marks = marks-after k;
-        limit = omega (arith, taken-after w s block k);
-        held = held-after k;
-        pending = pending-after k;
-        late = late-after k;
-        after-first = begun-after k;
-      }
+  unfolding after byteState
+  fitting-after zero l = h
+  fitting-after (suc k) l =
+      let u : Stream = stateAfter w s block k in
+      let x : ℕ = getD block k 0 in
+      fitting-next w (lateTest w u x) (ownTest w u x) u u x refl (fitting-after k (omega arith)) (omega (arith, taken-after w s block k))
 
 -- ---- the answer of a scan
 

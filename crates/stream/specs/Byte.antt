@@ -117,22 +117,26 @@ module _ (w : Automaton) where
   abbrev pub ownTest : Stream → ℕ → ℕ → Bool
   ownTest s x = windowed w (ends w unsettled (nextLive s x)) (suc (s .taken))
 
-  -- one byte: the reports that it brings, and the state after it
-  unfoldable pub byteReports : Stream → ℕ → List Report
-  byteReports s x = twoReports (lateTest s x) (ownTest s x) (s .reported) (given (s .taken)) (given (suc (s .taken)))
-
-  unfoldable pub byteState : Stream → ℕ → Stream
-  byteState s x = record {
+  -- the state after a byte, by the tests of its two runs and the pairs that it leaves held
+  abbrev pub stateBy : (late own : ℕ → Bool) → (pending : ℕ) → Stream → ℕ → Stream
+  stateBy late own pending s x = record {
     live = nextLive s x;
     held = nextHeld s x;
-    reported = twoMarks (lateTest s x) (ownTest s x) (s .reported);
-    pending = nextPending s x;
+    reported = twoMarks late own (s .reported);
+    pending = pending;
     last = sideOf x;
     taken = suc (s .taken);
     rules = s .rules;
     positions = s .positions;
     closed = s .closed;
   }
+
+  -- one byte: the reports that it brings, and the state after it
+  unfoldable pub byteReports : Stream → ℕ → List Report
+  byteReports s x = twoReports (lateTest s x) (ownTest s x) (s .reported) (given (s .taken)) (given (suc (s .taken)))
+
+  unfoldable pub byteState : Stream → ℕ → Stream
+  byteState s x = stateBy (lateTest s x) (ownTest s x) (nextPending s x) s x
 
   -- a stream as a machine: "A byte costs one unit plus the busy figure before it"
   abbrev pub plain : Machine Stream Report

@@ -12,7 +12,7 @@ use lib.Seq.{getD-append-add, getD-drop, getD-set-same, getD-set-other}
 use borrow.Author.Tests.{lt-ltb, le-ltb}
 use Rattle.sets.specs.Set.{on}
 use Rattle.sets.proofs.Digits.{on-zero}
-use Rattle.table.specs.Layout.{tableWords, maxRules, maxPositions, bytes, format, rulesOf, windowedAt, windowedOf, lowestAt, highestAt, firstAt, lastAt, latesAt, keepersAt, takersAt, followAt, idAt, openerAt, ownerAt, rowHas}
+use Rattle.table.specs.Layout.{tableWords, maxRules, maxPositions, bytes, format, rulesOf, windowedAt, windowedOf, lowestAt, highestAt, lengthsAt, shortestAt, firstAt, lastAt, latesAt, keepersAt, takersAt, followAt, idAt, openerAt, ownerAt, rowHas}
 use Rattle.table.specs.Gaps.{firstGaps, followGaps, lastGaps}
 use Rattle.table.specs.Table.{isTable, emptyTable, emptyNumber, emptied}
 use Rattle.table.specs.Automaton.{Automaton, automaton}
@@ -37,6 +37,7 @@ noRules = record {
   owner = λ p. 0;
   late = λ p. false;
   keeps = λ q. false;
+  long = λ q s e. true;
 }
 
 -- ---- the empty table, word by word
@@ -135,6 +136,7 @@ module _ (t : List ℕ) (h : tableWords ≤ length t) where
     owner = λ p. number maxPositions ownerAt (λ p h. (omega arith, omega arith)) p i;
     late = λ p. no-member latesAt (omega arith) (omega arith) p i;
     keeps = λ q. no-member keepersAt (omega arith) (omega arith) q i;
+    long = λ q s e. ap (λ (x : ℕ). (eqb x 0 || not (rowHas (emptied t) keepersAt q)) || leb (s + getD (emptied t) (shortestAt q) 0) e) (emptied-zero lengthsAt (omega arith) (omega arith)) i;
   }
     where
       number : (n : ℕ) (place : ℕ → ℕ) → ((k : ℕ) → k < n → (0 < place k) × (place k < tableWords)) → (k : ℕ) → cond (ltb k n) (getD (emptied t) (place k) 0) 0 ≡ 0

@@ -2,7 +2,7 @@
 -- automaton, and pass the test alike. Each part of the automaton and each fact of the test reads
 -- words below 16,384, which are the same in both lists; lists too short for a table are equal.
 use mathlib.Core.Path.{_≡_, refl, sym, ap, _∙_}
-use mathlib.Core.Bool.{Bool, true, false, true≢false, cond, not, _&&_, _||_}
+use mathlib.Core.Bool.{Bool, true, false, true≢false, cond, not, _&&_, _||_, or-true}
 use mathlib.Core.List.{List}
 use Prim.Native.Nat.{ℕ, _+_, _≤_, _<_, min}
 use native.Mathlib.Decide.{decLt}
@@ -11,24 +11,24 @@ use lib.Dec.{eqb, leb, ltb}
 use lib.ListN.{length, getD, take, length-take}
 use lib.Seq.{getD-take, take-all}
 use Rattle.sets.specs.Set.{on}
-use Rattle.table.specs.Layout.{tableWords, maxRules, maxPositions, bytes, rulesOf, positionsOf, leftmostsAt, windowedAt, windowedOf, lowestAt, highestAt, firstAt, idAt, idWord, openerAt, ownerAt, lastAt, latesAt, keepersAt, takersAt, followAt, rowHas}
+use Rattle.table.specs.Layout.{tableWords, maxRules, maxPositions, bytes, rulesOf, positionsOf, leftmostsAt, windowedAt, windowedOf, lowestAt, highestAt, lengthsAt, lengthsOf, shortestAt, firstAt, idAt, idWord, openerAt, ownerAt, lastAt, latesAt, keepersAt, takersAt, followAt, rowHas}
 use Rattle.table.specs.Gaps.{firstGaps, followGaps, lastGaps}
 use Rattle.table.specs.Table.{isTable}
 use Rattle.table.specs.Automaton.{Automaton, automaton}
 use Rattle.table.proofs.Test.{Passes, passes, accepted, refused}
-use Rattle.table.proofs.Rows.{under, row-same}
+use Rattle.table.proofs.Rows.{under, row-past, row-same}
 
--- a word that no rule's window has
+-- a word that no rule's windows have
 abbrev pub NoWindow : ℕ → Type 0
-NoWindow w = (w ≡ windowedAt → ⊥) × (lowestAt 0 ≤ w → w < highestAt maxRules → ⊥)
+NoWindow w = (windowedAt ≤ w → w ≤ lengthsAt → ⊥) × (lowestAt 0 ≤ w → w < shortestAt maxPositions → ⊥)
 
--- a set of which no rule's window has a word
+-- a set of which no rule's windows have a word
 abbrev Row : ℕ → Type 0
 Row at = (at + 4 ≤ tableWords) × ((i : ℕ) → i < 4 → NoWindow (at + i))
 
 -- an automaton with other windows
-abbrev pub withInside : Automaton → (ℕ → ℕ → Bool) → Automaton
-withInside w inside = record {
+abbrev pub withWindows : Automaton → (inside : ℕ → ℕ → Bool) → (long : ℕ → ℕ → ℕ → Bool) → Automaton
+withWindows w inside long = record {
   rules = w .rules;
   positions = w .positions;
   id = w .id;
@@ -43,17 +43,18 @@ withInside w inside = record {
   owner = w .owner;
   late = w .late;
   keeps = w .keeps;
+  long = long;
 }
 
 -- lists that agree but for windows describe the same automaton but for windows
 module _ (t u : List ℕ) (same : (w : ℕ) → w < tableWords → NoWindow w → getD t w 0 ≡ getD u w 0) where
   low : (w : ℕ) → w < windowedAt → getD t w 0 ≡ getD u w 0
-  low w h = same w (omega arith) (λ e. omega arith, λ a b. omega arith)
+  low w h = same w (omega arith) (λ a b. omega arith, λ a b. omega arith)
 
   same-row : (at : ℕ) → at + 4 ≤ tableWords → ((i : ℕ) → i < 4 → NoWindow (at + i)) → (q : ℕ) → rowHas t at q ≡ rowHas u at q
   same-row at h apart = row-same t u at at (λ i l. same (at + i) (omega arith) (apart i l))
 
-  pub but-windows : automaton t ≡ withInside (automaton u) (automaton t .inside)
+  pub but-windows : automaton t ≡ withWindows (automaton u) (automaton t .inside) (automaton t .long)
   unfolding automaton
   but-windows = λ i. record {
     rules = low 1 (omega arith) i;
@@ -63,13 +64,14 @@ module _ (t u : List ℕ) (same : (w : ℕ) → w < tableWords → NoWindow w �
     leftmost = λ a. on (low leftmostsAt (omega arith) i) a;
     inside = automaton t .inside;
     opens = λ x. opener x i;
-    takes = λ x q. test bytes takersAt (λ x h. (omega arith, λ j l. (λ e. omega arith, λ a b. omega arith))) x q i;
-    first = λ g q. test firstGaps firstAt (λ g h. (omega arith, λ j l. (λ e. omega arith, λ a b. omega arith))) g q i;
-    follow = λ g p q. tests followGaps maxPositions followAt (λ g p h l. (omega arith, λ j m. (λ e. omega arith, λ a b. omega arith))) g p q i;
-    ending = λ g p. test lastGaps lastAt (λ g h. (omega arith, λ j l. (λ e. omega arith, λ a b. omega arith))) g p i;
+    takes = λ x q. test bytes takersAt (λ x h. (omega arith, λ j l. (λ a b. omega arith, λ a b. omega arith))) x q i;
+    first = λ g q. test firstGaps firstAt (λ g h. (omega arith, λ j l. (λ a b. omega arith, λ a b. omega arith))) g q i;
+    follow = λ g p q. tests followGaps maxPositions followAt (λ g p h l. (omega arith, λ j m. (λ a b. omega arith, λ a b. omega arith))) g p q i;
+    ending = λ g p. test lastGaps lastAt (λ g h. (omega arith, λ j l. (λ a b. omega arith, λ a b. omega arith))) g p i;
     owner = λ p. number maxPositions ownerAt (λ p h. omega arith) p i;
-    late = λ p. same-row latesAt (omega arith) (λ j l. (λ e. omega arith, λ a b. omega arith)) p i;
-    keeps = λ q. same-row keepersAt (omega arith) (λ j l. (λ e. omega arith, λ a b. omega arith)) q i;
+    late = λ p. same-row latesAt (omega arith) (λ j l. (λ a b. omega arith, λ a b. omega arith)) p i;
+    keeps = λ q. same-row keepersAt (omega arith) (λ j l. (λ a b. omega arith, λ a b. omega arith)) q i;
+    long = automaton t .long;
   }
     where
       number : (n : ℕ) (place : ℕ → ℕ) → ((k : ℕ) → k < n → place k < windowedAt) → (k : ℕ) → cond (ltb k n) (getD t (place k) 0) 0 ≡ cond (ltb k n) (getD u (place k) 0) 0
@@ -116,7 +118,7 @@ module _ (t u : List ℕ) (same : take tableWords t ≡ take tableWords u) where
 
   pub automaton-local : automaton t ≡ automaton u
   unfolding automaton
-  automaton-local = but-windows t u (λ w h a. same-word w h) ∙ (λ i. withInside (automaton u) (λ a e. window a e i))
+  automaton-local = but-windows t u (λ w h a. same-word w h) ∙ (λ i. withWindows (automaton u) (λ a e. window a e i) (λ q s e. length-test q s e i))
     where
       window : (a e : ℕ) → (not (ltb a maxRules && on (windowedOf t) a) || (leb (getD t (lowestAt a) 0) e && leb e (getD t (highestAt a) 0)))
           ≡ (not (ltb a maxRules && on (windowedOf u) a) || (leb (getD u (lowestAt a) 0) e && leb e (getD u (highestAt a) 0)))
@@ -125,6 +127,20 @@ module _ (t u : List ℕ) (same : take tableWords t ≡ take tableWords u) where
           (λ b. not (b && on (windowedOf u) a) || (leb (getD u (lowestAt a) 0) e && leb e (getD u (highestAt a) 0)))
           (λ h j. not (on (same-word windowedAt (omega arith) j) a) || (leb (same-word (lowestAt a) (omega arith) j) e && leb e (same-word (highestAt a) (omega arith) j)))
           refl
+
+      same-keepers : (q : ℕ) → rowHas t keepersAt q ≡ rowHas u keepersAt q
+      same-keepers = row-same t u keepersAt keepersAt (λ i l. same-word (keepersAt + i) (omega arith))
+
+      -- a length is read of a position that keeps a start, and of no other
+      length-test : (q s e : ℕ) → ((eqb (lengthsOf t) 0 || not (rowHas t keepersAt q)) || leb (s + getD t (shortestAt q) 0) e)
+          ≡ ((eqb (lengthsOf u) 0 || not (rowHas u keepersAt q)) || leb (s + getD u (shortestAt q) 0) e)
+      length-test q s e = go (decLt q maxPositions)
+        where
+          go : Dec (q < maxPositions) → ((eqb (lengthsOf t) 0 || not (rowHas t keepersAt q)) || leb (s + getD t (shortestAt q) 0) e)
+              ≡ ((eqb (lengthsOf u) 0 || not (rowHas u keepersAt q)) || leb (s + getD u (shortestAt q) 0) e)
+          go (yes h) = λ j. (eqb (same-word lengthsAt (omega arith) j) 0 || not (same-keepers q j)) || leb (s + same-word (shortestAt q) (omega arith) j) e
+          go (no h) =
+              rw (row-past t keepersAt q (omega arith), row-past u keepersAt q (omega arith), or-true (eqb (lengthsOf t) 0), or-true (eqb (lengthsOf u) 0))
 
   -- such lists are long enough for a table together, or equal
   lengths : min tableWords (length t) ≡ min tableWords (length u)

@@ -3,11 +3,11 @@
 -- Assumes nothing: these are definitions.
 use mathlib.Core.Bool.{Bool, cond, not, _&&_, _||_}
 use mathlib.Core.List.{List}
-use Prim.Native.Nat.{ℕ}
+use Prim.Native.Nat.{ℕ, _+_}
 use lib.Dec.{eqb, leb, ltb}
 use lib.ListN.{getD}
 use Rattle.sets.specs.Set.{on}
-use Rattle.table.specs.Layout.{maxRules, maxPositions, bytes, rulesOf, positionsOf, singlesOf, leftmostsOf, windowedOf, lowestAt, highestAt, firstAt, lastAt, latesAt, keepersAt, followAt, takersAt, idWord, openerAt, ownerAt, rowHas}
+use Rattle.table.specs.Layout.{maxRules, maxPositions, bytes, rulesOf, positionsOf, singlesOf, leftmostsOf, windowedOf, lowestAt, highestAt, lengthsOf, shortestAt, firstAt, lastAt, latesAt, keepersAt, followAt, takersAt, idWord, openerAt, ownerAt, rowHas}
 use Rattle.table.specs.Gaps.{firstGaps, followGaps, lastGaps, innerGaps}
 
 pub record Automaton : Type 0 where
@@ -34,8 +34,10 @@ pub record Automaton : Type 0 where
   pub owner : (p : ℕ) → ℕ
   -- a match may end with position p once the next byte is known, and not before
   pub late : (p : ℕ) → Bool
-  -- position q keeps the start of the longest match that has reached it
+  -- position q keeps the start of the longest match that has reached it; a match from this start
+  -- that has reached it is long enough to be reported at this end offset
   pub keeps : (q : ℕ) → Bool
+  pub long : (q start end : ℕ) → Bool
 
 unfoldable pub automaton : List ℕ → Automaton
 automaton t = record {
@@ -53,6 +55,7 @@ automaton t = record {
   owner = λ p. cond (ltb p maxPositions) (getD t (ownerAt p) 0) 0;
   late = λ p. rowHas t latesAt p;
   keeps = λ q. rowHas t keepersAt q;
+  long = λ q s e. (eqb (lengthsOf t) 0 || not (rowHas t keepersAt q)) || leb (s + getD t (shortestAt q) 0) e;
 }
 
 -- a match of the rule in place a can end at a gap with position p

@@ -22,9 +22,9 @@ maxPositions = 256
 abbrev pub bytes : ℕ
 bytes = 256
 
--- word 0 marks a rule table of this format: the bytes `watcher6` as a number
+-- word 0 marks a rule table of this format: the bytes `watcher7` as a number
 abbrev pub format : ℕ
-format = 0x77617463_68657236
+format = 0x77617463_68657237
 
 -- the number of rules, and of positions
 abbrev pub rulesOf : List ℕ → ℕ
@@ -88,6 +88,17 @@ lowestAt a = 768 + a
 
 abbrev pub highestAt : ℕ → ℕ
 highestAt a = 832 + a
+
+-- a word that is not 0 where a rule has a smallest length of its matches; for each position that of
+-- its rule, 0 where it has none
+abbrev pub lengthsAt : ℕ
+lengthsAt = 707
+
+abbrev pub lengthsOf : List ℕ → ℕ
+lengthsOf t = getD t lengthsAt 0
+
+abbrev pub shortestAt : ℕ → ℕ
+shortestAt q = 896 + q
 
 -- for each byte the set of positions that take it; for each gap between two bytes and each position
 -- the set of those that can follow it there

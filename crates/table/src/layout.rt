@@ -8,8 +8,8 @@ pub const MAX_RULES: u64 = 64;
 
 pub const MAX_POSITIONS: u64 = 256;
 
-// The format word, at FORMAT_AT: the bytes `watcher6` as a number.
-pub const FORMAT: u64 = 0x7761_7463_6865_7236;
+// The format word, at FORMAT_AT: the bytes `watcher7` as a number.
+pub const FORMAT: u64 = 0x7761_7463_6865_7237;
 
 // The header: the format, the two counts, and the single-match rules, a digit for each rule's
 // place.
@@ -51,6 +51,12 @@ pub const WINDOWED_AT: usize = 706;
 pub const LOWEST_AT: usize = 768;
 
 pub const HIGHEST_AT: usize = 832;
+
+// A word that is not 0 where a rule has a smallest length of its matches; for each position that of
+// its rule.
+pub const LENGTHS_AT: usize = 707;
+
+pub const SHORTEST_AT: usize = 896;
 
 // The largest end offset of a rule for which it is left out.
 pub const NO_END: u64 = 0xffff_ffff_ffff_ffff;

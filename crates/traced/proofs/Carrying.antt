@@ -24,8 +24,8 @@ use Rattle.stream.specs.declared.Stream.{Stream}
 use Rattle.stream.specs.Byte.{nextLive, nextPending}
 use Rattle.traced.specs.declared.Starts.{Starts}
 use Rattle.traced.specs.declared.Traced.{Traced}
-use Rattle.traced.specs.Byte.{keeping, nextStarts}
-use Rattle.traced.specs.Invariants.{at, zeros, RuleStarts, InOrder, pairsNext}
+use Rattle.traced.specs.Byte.{keeping, counted, pendingLong, pairsNext, nextStarts}
+use Rattle.traced.specs.Invariants.{at, zeros, RuleStarts, InOrder}
 
 -- lists of which each number is the same
 pub list-ext : (n : ℕ) (f g : ℕ → ℕ) → ((q : ℕ) → q < n → f q ≡ g q) → listFrom 0 n f ≡ listFrom 0 n g
@@ -91,23 +91,23 @@ unfolding nextPending
 pending-ruled w s x a lt =
     ruled w (endsNewly w (beforeLast (s .last)) (s .live) (between (s .last) Newline) (s .live)) a lt (eqb x 10 && ltb 0 (s .taken))
 
-module _ (w : Automaton) (s : Stream) (live : List ℕ) (x pending leftmost : ℕ) (is : pending ≡ nextPending w s x) (flags : leftmost ≡ rulesWhere w (w .leftmost)) where
+module _ (w : Automaton) (s : Stream) (live : List ℕ) (x pending leftmost : ℕ) (is : pending ≡ pendingLong w s live x) (flags : leftmost ≡ rulesWhere w (w .leftmost)) where
   -- the digits of the rules that are asked
-  asked : (a : ℕ) → a < maxRules → on (bitAnd pending leftmost) a ≡ (on (nextPending w s x) a && w .leftmost a)
+  asked : (a : ℕ) → a < maxRules → on (bitAnd pending leftmost) a ≡ (on (pendingLong w s live x) a && w .leftmost a)
   asked a lt =
       on-and pending leftmost a
       ∙ ap₂ (λ (p f : ℕ). on p a && on f a) is flags
-      ∙ ap (λ (b : Bool). on (nextPending w s x) a && b) (on-wordOf 64 (λ a. ltb a (w .rules) && w .leftmost a) a lt)
-      ∙ pending-ruled w s x a lt
+      ∙ ap (λ (b : Bool). on (pendingLong w s live x) a && b) (on-wordOf 64 (λ a. ltb a (w .rules) && w .leftmost a) a lt)
+      ∙ pending-ruled w (counted w s live) x a lt
 
   pub pairs-are : (froms : List ℕ) → RuleStarts (bitAnd pending leftmost) (startAt w (beforeLast (s .last)) (s .live) live (s .taken)) froms → froms ≡ pairsNext w s live x
   pairs-are froms h =
-      list-is maxRules froms (λ a. cond (on (nextPending w s x) a && w .leftmost a) (startAt w (beforeLast (s .last)) (s .live) live (s .taken) a) 0) (h .as-long)
+      list-is maxRules froms (λ a. cond (on (pendingLong w s live x) a && w .leftmost a) (startAt w (beforeLast (s .last)) (s .live) live (s .taken) a) 0) (h .as-long)
       (λ a lt. h .each a lt ∙ ap (λ (b : Bool). cond b (startAt w (beforeLast (s .last)) (s .live) live (s .taken) a) 0) (asked a lt))
 
   pub pairs-none : bitAnd pending leftmost ≡ 0 → pairsNext w s live x ≡ zeros maxRules
   pairs-none e =
-      list-ext maxRules (λ a. cond (on (nextPending w s x) a && w .leftmost a) (startAt w (beforeLast (s .last)) (s .live) live (s .taken) a) 0) (λ a. 0)
+      list-ext maxRules (λ a. cond (on (pendingLong w s live x) a && w .leftmost a) (startAt w (beforeLast (s .last)) (s .live) live (s .taken) a) 0) (λ a. 0)
       (λ a lt. ap (λ (b : Bool). cond b (startAt w (beforeLast (s .last)) (s .live) live (s .taken) a) 0)
       (sym (asked a lt) ∙ ap (λ (n : ℕ). on n a) e ∙ on-zero a))
 

@@ -19,7 +19,7 @@ use Rattle.steps.specs.Step.{listFrom, rulesWhere, startAt, startsAt}
 use Rattle.steps.proofs.Carrying.{list-length, list-at}
 use Rattle.stream.specs.declared.Stream.{Stream}
 use Rattle.stream.specs.Valid.{streamLimit}
-use Rattle.stream.specs.Byte.{after, reportsBy, costBy, twoReports, heldTest, endTest}
+use Rattle.stream.specs.Byte.{after, reportsBy, costBy, twoReports, heldTest}
 use Rattle.stream.specs.Calls.{shut}
 use Rattle.stream.proofs.Machines.{fits-is}
 use Rattle.stream.proofs.TwoRuns.{two-ext, two-few}
@@ -28,7 +28,7 @@ use Rattle.traced.specs.declared.Traced.{Traced}
 use Rattle.traced.specs.declared.Scanned.{Scanned}
 use Rattle.traced.specs.declared.Closed.{Closed}
 use Rattle.traced.specs.declared.scan.Turn.{Turn}
-use Rattle.traced.specs.Byte.{Report, given, endStart, closeReports, traced}
+use Rattle.traced.specs.Byte.{Report, given, endLong, endStart, closeReports, traced}
 use Rattle.starts.specs.Order.{startOk, startsOk}
 use Rattle.traced.specs.Calls.{Lists, Call, space, written, takenBy, callNumber, scanned, scannedLists, closeNumber, closed, closedLists}
 use Rattle.traced.specs.Invariants.{at, Small, RuleStarts, WroteTwo, Ended, Ran}
@@ -73,7 +73,7 @@ end-under w z a =
 
 -- ---- both runs
 
-module _ (w : Automaton) (few : w .rules ≤ 64) (z : Traced) (kept found leftmost : ℕ) (kept-is : kept ≡ rulesWhere w (heldTest w (z .stream))) (found-is : found ≡ rulesWhere w (endTest w (z .stream)))
+module _ (w : Automaton) (few : w .rules ≤ 64) (z : Traced) (kept found leftmost : ℕ) (kept-is : kept ≡ rulesWhere w (heldTest w (z .stream))) (found-is : found ≡ rulesWhere w (endLong w z))
     (flags : leftmost ≡ rulesWhere w (w .leftmost)) (d : ℕ) (before : d ≡ z .stream .taken - 1) (ends : List ℕ)
     (h : RuleStarts (bitAnd found leftmost) (endStart w z) ends) where
   abbrev s : Stream
@@ -85,8 +85,8 @@ module _ (w : Automaton) (few : w .rules ≤ 64) (z : Traced) (kept found leftmo
       ap (λ (n : ℕ). twoReports w (on kept) (on found) (s .reported) (given w n (at (z .starts .pairs))) (given w (s .taken) (at ends))) before
       ∙ two-give w (on kept) (on found) (s .reported) (given w (s .taken - 1) (at (z .starts .pairs))) (given w (s .taken - 1) (at (z .starts .pairs)))
       (given w (s .taken) (at ends)) (given w (s .taken) (endStart w z)) (λ a l e. refl) (give-same w few leftmost flags found (endStart w z) ends h (s .taken))
-      ∙ two-ext w (on kept) (heldTest w s) (on found) (endTest w s) (s .reported) (λ a l. ap (λ (x : ℕ). on x a) kept-is ∙ on-places (heldTest w s) (w .rules) a l few)
-      (λ a l. ap (λ (x : ℕ). on x a) found-is ∙ on-places (endTest w s) (w .rules) a l few)
+      ∙ two-ext w (on kept) (heldTest w s) (on found) (endLong w z) (s .reported) (λ a l. ap (λ (x : ℕ). on x a) kept-is ∙ on-places (heldTest w s) (w .rules) a l few)
+      (λ a l. ap (λ (x : ℕ). on x a) found-is ∙ on-places (endLong w z) (w .rules) a l few)
       (given w (s .taken - 1) (at (z .starts .pairs))) (given w (s .taken) (endStart w z))
 
   pub closing-room : (n : ℕ) → 2 * w .rules ≤ n

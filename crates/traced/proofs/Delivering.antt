@@ -18,12 +18,12 @@ use Rattle.table.proofs.Members.{on-places}
 use Rattle.steps.specs.Step.{rulesWhere, startAt}
 use Rattle.stream.specs.declared.Stream.{Stream}
 use Rattle.stream.specs.Byte.{given as stream-given}
-use Rattle.stream.specs.Byte.{due, runReports, runMarks, twoReports, twoMarks, byteState, lateTest, ownTest}
+use Rattle.stream.specs.Byte.{due, runReports, runMarks, twoReports, twoMarks}
 use Rattle.stream.proofs.TwoRuns.{two-ext, two-marks-ext, due-two}
 use Rattle.stream.proofs.Runs.{alone, run-none, marks-none}
 use Rattle.traced.specs.declared.Starts.{Starts}
 use Rattle.traced.specs.declared.Traced.{Traced}
-use Rattle.traced.specs.Byte.{Start, Report, from, none, given, lateStart, ownStart, nextStarts, byteReports}
+use Rattle.traced.specs.Byte.{Start, Report, from, none, given, lateLong, ownLong, streamNext, lateStart, ownStart, nextStarts, byteReports}
 use Rattle.traced.specs.Calls.{Lists, space, written}
 use Rattle.traced.specs.Invariants.{at, zeros, writtenAt, Small, RuleStarts, Wrote, Carried, Gone, Delivered}
 use Rattle.traced.proofs.Lists.{written-at-none}
@@ -80,32 +80,39 @@ module _ (w : Automaton) (few : w .rules ≤ 64) (leftmost : ℕ) (flags : leftm
 
 -- the words of the rules that end
 module _ (w : Automaton) (few : w .rules ≤ 64) (z : Traced) (x late own : ℕ)
-    (late-is : late ≡ rulesWhere w (lateTest w (z .stream) x)) (own-is : own ≡ rulesWhere w (ownTest w (z .stream) x)) where
+    (late-is : late ≡ rulesWhere w (lateLong w (z .stream) (z .starts .live) x)) (own-is : own ≡ rulesWhere w (ownLong w (z .stream) (z .starts .live) x)) where
   abbrev s : Stream
   s = z .stream
 
-  late-at : (a : ℕ) → a < w .rules → on late a ≡ lateTest w s x a
-  late-at a h = ap (λ (n : ℕ). on n a) late-is ∙ on-places (lateTest w s x) (w .rules) a h few
+  -- the tests of the two runs
+  abbrev one : ℕ → Bool
+  one = lateLong w s (z .starts .live) x
 
-  own-at : (a : ℕ) → a < w .rules → on own a ≡ ownTest w s x a
-  own-at a h = ap (λ (n : ℕ). on n a) own-is ∙ on-places (ownTest w s x) (w .rules) a h few
+  abbrev two : ℕ → Bool
+  two = ownLong w s (z .starts .live) x
+
+  late-at : (a : ℕ) → a < w .rules → on late a ≡ one a
+  late-at a h = ap (λ (n : ℕ). on n a) late-is ∙ on-places one (w .rules) a h few
+
+  own-at : (a : ℕ) → a < w .rules → on own a ≡ two a
+  own-at a h = ap (λ (n : ℕ). on n a) own-is ∙ on-places two (w .rules) a h few
 
   pub late-alone : late ≡ rulesWhere w (on late)
-  late-alone = alone w (lateTest w s x) late-is
+  late-alone = alone w one late-is
 
   pub own-alone : own ≡ rulesWhere w (on own)
-  own-alone = alone w (ownTest w s x) own-is
+  own-alone = alone w two own-is
 
   -- the reports by the words
   pub reports-by : twoReports w (on late) (on own) (s .reported) (given w (s .taken) (lateStart w z x)) (given w (suc (s .taken)) (ownStart w z x)) ≡ byteReports w z x
   unfolding byteReports
   reports-by =
-      two-ext w (on late) (lateTest w s x) (on own) (ownTest w s x) (s .reported) late-at own-at
+      two-ext w (on late) one (on own) two (s .reported) late-at own-at
       (given w (s .taken) (lateStart w z x)) (given w (suc (s .taken)) (ownStart w z x))
 
-  pub marks-by : twoMarks w (on late) (on own) (s .reported) ≡ byteState w s x .reported
-  unfolding byteState
-  marks-by = two-marks-ext w (on late) (lateTest w s x) (on own) (ownTest w s x) (s .reported) late-at own-at
+  pub marks-by : twoMarks w (on late) (on own) (s .reported) ≡ streamNext w s (z .starts .live) x .reported
+  unfolding streamNext
+  marks-by = two-marks-ext w (on late) one (on own) two (s .reported) late-at own-at
 
   -- as many are due as there are reports
   pub due-is : s .reported < 2 ^ 64 → (singles : ℕ) → singles ≡ rulesWhere w (single w) → {due₁ due₂ : ℕ}

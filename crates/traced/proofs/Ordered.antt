@@ -19,9 +19,9 @@ use Rattle.kinds.specs.declared.Side.{Side}
 use Rattle.kinds.specs.Side.{sideOf}
 use Rattle.steps.specs.Step.{listFrom, keepersOf, startAfter, steppedStarts, startAt}
 use Rattle.stream.specs.declared.Stream.{Stream}
-use Rattle.stream.specs.Byte.{after, nextLive, nextHeld, nextPending, byteState}
+use Rattle.stream.specs.Byte.{after, nextLive, nextHeld}
 use Rattle.traced.specs.declared.Traced.{Traced}
-use Rattle.traced.specs.Byte.{keeping, nextStarts, nextState, traced}
+use Rattle.traced.specs.Byte.{keeping, pendingLong, streamNext, nextStarts, nextState, traced}
 use Rattle.starts.specs.Order.{startOk, startsOk}
 use Rattle.traced.specs.Calls.{noStarts}
 use Rattle.traced.proofs.Accepting.{inOrder}
@@ -76,12 +76,12 @@ module _ (w : Automaton) where
         (has-intersection next (keepersOf w) q lq ∙ ap (λ (b : Bool). b && has (keepersOf w) q) e))
 
     next-order : inOrder (nextState w z x) ≡ true
-    unfolding nextState nextStarts byteState
+    unfolding nextState nextStarts streamNext
     next-order =
         ap₂ (λ (b c : Bool). b && c) (stepped-order false (nextLive w s x)) (ap₂ (λ (b c : Bool). b && c) (stepped-order true (nextHeld w s x))
-        (order-list maxRules (on (nextPending w s x)) (suc (s .taken))
-        (λ a. cond (on (nextPending w s x) a && w .leftmost a) (startAt w (beforeLast (s .last)) (s .live) (z .starts .live) (s .taken) a) 0)
-        (λ a la e. at-most (on (nextPending w s x) a && w .leftmost a) (startAt w (beforeLast (s .last)) (s .live) (z .starts .live) (s .taken) a) (s .taken)
+        (order-list maxRules (on (pendingLong w s (z .starts .live) x)) (suc (s .taken))
+        (λ a. cond (on (pendingLong w s (z .starts .live) x) a && w .leftmost a) (startAt w (beforeLast (s .last)) (s .live) (z .starts .live) (s .taken) a) 0)
+        (λ a la e. at-most (on (pendingLong w s (z .starts .live) x) a && w .leftmost a) (startAt w (beforeLast (s .last)) (s .live) (z .starts .live) (s .taken) a) (s .taken)
         (at-under (beforeLast (s .last)) (s .live) (z .starts .live) (s .taken) a))
         (λ a la e. ap (λ (b : Bool). cond (b && w .leftmost a) (startAt w (beforeLast (s .last)) (s .live) (z .starts .live) (s .taken) a) 0) e)))
 

@@ -22,8 +22,10 @@ use Rattle.table.specs.Gaps.{between, beforeLast, unsettled}
 use Rattle.table.specs.Automaton.{Automaton}
 use Rattle.steps.specs.Step.{keepersOf, ends, endsNewly, lateIn, startAt}
 use Rattle.steps.proofs.Steps.{next-quiet}
+use Rattle.lengths.specs.Long.{longIn}
+use Rattle.lengths.proofs.Long.{long-none}
 use Rattle.stream.specs.declared.Stream.{Stream}
-use Rattle.stream.specs.Byte.{after, reportsBy, costBy, nextLive, nextHeld, nextPending, lateTest, ownTest, byteState, busyOf}
+use Rattle.stream.specs.Byte.{after, reportsBy, costBy, nextLive, nextHeld, nextPending, busyOf}
 use Rattle.stream.proofs.Machines.{after-more, reports-more, cost-more}
 use Rattle.stream.proofs.Quiet.{ends-empty, late-empty, size-empty}
 use Rattle.stream.proofs.TwoRuns.{two-none, two-marks-none}
@@ -31,7 +33,7 @@ use Rattle.quiet.specs.Pass.{Quietly, PassEnd}
 use Rattle.traced.specs.declared.Starts.{Starts}
 use Rattle.traced.specs.declared.Traced.{Traced}
 use Rattle.traced.specs.declared.scan.Turn.{Turn}
-use Rattle.traced.specs.Byte.{Report, given, keeping, lateStart, ownStart, nextStarts, nextState, byteReports, traced}
+use Rattle.traced.specs.Byte.{Report, given, keeping, liveNext, lateLong, ownLong, pendingLong, streamNext, lateStart, ownStart, nextStarts, nextState, byteReports, traced}
 use Rattle.traced.specs.Calls.{Lists, noStarts}
 use Rattle.traced.specs.Invariants.{zeros, passTo, Passes, Passed, Running}
 use Rattle.traced.proofs.Carrying.{stepped-none, list-ext}
@@ -56,23 +58,29 @@ module _ (w : Automaton) where
         ap (λ (l : List ℕ). nextLive w (record { live = l; held = s .held; reported = s .reported; pending = s .pending; last = s .last; taken = s .taken; rules = s .rules; positions = s .positions; closed = s .closed }) x) live
         ∙ next-quiet w (s .last) (sideOf x) (w .positions) (s .taken) x begun unopened
 
-    none-late : (a : ℕ) → a < w .rules → lateTest w s x a ≡ false
+    -- none of no positions counts
+    none-long : (set starts : List ℕ) (end : ℕ) → set ≡ emptySet → longIn w set starts end ≡ emptySet
+    none-long set starts end e = ap (λ (l : List ℕ). longIn w l starts end) e ∙ long-none w starts end
+
+    none-late : (a : ℕ) → a < w .rules → lateLong w s (u .starts .live) x a ≡ false
     none-late a h =
         ap (λ (b : Bool). b && w .inside a (s .taken))
-        (ap (λ (l : List ℕ). endsNewly w (between (s .last) (sideOf x)) (lateIn w l) unsettled l a) live ∙ late-empty w (between (s .last) (sideOf x)) unsettled a)
+        (ap (λ (l : List ℕ). endsNewly w (between (s .last) (sideOf x)) (lateIn w l) unsettled l a) (none-long (s .live) (u .starts .live) (s .taken) live)
+        ∙ late-empty w (between (s .last) (sideOf x)) unsettled a)
 
-    none-own : (a : ℕ) → a < w .rules → ownTest w s x a ≡ false
+    none-own : (a : ℕ) → a < w .rules → ownLong w s (u .starts .live) x a ≡ false
     none-own a h =
-        ap (λ (b : Bool). b && w .inside a (suc (s .taken))) (ap (λ (l : List ℕ). ends w unsettled l a) live-still ∙ ends-empty w unsettled a)
+        ap (λ (b : Bool). b && w .inside a (suc (s .taken)))
+        (ap (λ (l : List ℕ). ends w unsettled l a) (none-long (nextLive w s x) (liveNext w s (u .starts .live) x) (suc (s .taken)) live-still) ∙ ends-empty w unsettled a)
 
     no-reports : byteReports w u x ≡ []
     unfolding byteReports
     no-reports =
-        two-none w (lateTest w s x) (ownTest w s x) (s .reported) none-late none-own (given w (s .taken) (lateStart w u x)) (given w (suc (s .taken)) (ownStart w u x))
+        two-none w (lateLong w s (u .starts .live) x) (ownLong w s (u .starts .live) x) (s .reported) none-late none-own (given w (s .taken) (lateStart w u x)) (given w (suc (s .taken)) (ownStart w u x))
 
-    same-marks : byteState w s x .reported ≡ s .reported
-    unfolding byteState
-    same-marks = two-marks-none w (lateTest w s x) (ownTest w s x) (s .reported) none-late none-own small
+    same-marks : streamNext w s (u .starts .live) x .reported ≡ s .reported
+    unfolding streamNext
+    same-marks = two-marks-none w (lateLong w s (u .starts .live) x) (ownLong w s (u .starts .live) x) (s .reported) none-late none-own small
 
     one-unit : suc (busyOf s) ≡ 1
     one-unit = ap (λ (n : ℕ). suc n) (ap (λ (l : List ℕ). busyOf (record { live = l; held = s .held; reported = s .reported; pending = s .pending; last = s .last; taken = s .taken; rules = s .rules; positions = s .positions; closed = s .closed })) live ∙ size-empty)
@@ -89,7 +97,7 @@ module _ (w : Automaton) where
       unfolding nextHeld
       none-held = rw (ne-eqb x 10 other)
 
-      none-pending : nextPending w s x ≡ 0
+      none-pending : pendingLong w s (u .starts .live) x ≡ 0
       unfolding nextPending
       none-pending = rw (ne-eqb x 10 other)
 
@@ -108,7 +116,7 @@ module _ (w : Automaton) where
             };
             starts = noStarts;
           }
-      unfolding nextState byteState nextStarts
+      unfolding nextState streamNext nextStarts
       state-after = λ i. record {
         stream = record {
           live = live-still i;
@@ -126,7 +134,7 @@ module _ (w : Automaton) where
           held = stepped-none w true (s .last) (sideOf x) (keeping w (s .live)) (u .starts .live) (keeping w (nextHeld w s x)) (s .taken)
               (ap (λ (l : List ℕ). isEmpty (keeping w l)) none-held ∙ none-kept) i;
           pairs =
-              list-ext maxRules (λ a. cond (on (nextPending w s x) a && w .leftmost a) (startAt w (beforeLast (s .last)) (s .live) (u .starts .live) (s .taken) a) 0) (λ a. 0)
+              list-ext maxRules (λ a. cond (on (pendingLong w s (u .starts .live) x) a && w .leftmost a) (startAt w (beforeLast (s .last)) (s .live) (u .starts .live) (s .taken) a) 0) (λ a. 0)
               (λ a lt. ap (λ (b : Bool). cond (b && w .leftmost a) (startAt w (beforeLast (s .last)) (s .live) (u .starts .live) (s .taken) a) 0)
               (ap (λ (n : ℕ). on n a) none-pending ∙ on-zero a)) i;
         };
@@ -165,7 +173,7 @@ module _ (w : Automaton) (z : Traced) (block : List ℕ) (at : ℕ) where
       fits = subst (λ (m : ℕ). m < 2 ^ 64) (sym (h .marks-are)) small
 
       still-next : Still from (after (traced w) z block (at + suc n)) (suc n)
-      unfolding nextState byteState
+      unfolding nextState streamNext
       still-next =
           let one : after (traced w) z block (at + suc n) ≡ nextState w here x =
           ap (after (traced w) z block) (add-suc at n ∙ sym (add-one (at + n))) ∙ after-more (traced w) z block (at + n) in

@@ -3,13 +3,15 @@
 use mathlib.Core.Path.{_≡_, refl, sym, subst, ap, _∙_}
 use mathlib.Core.Bool.{Bool, true, false, cond}
 use mathlib.Core.List.{List}
-use Prim.Native.Nat.{ℕ, _+_, _≤_, _<_}
+use Prim.Native.Nat.{ℕ, zero, suc, _+_, _*_, _≤_, _<_}
 use native.Mathlib.Omega.{arith}
 use native.Mathlib.Decide.{ℕ-discrete}
 use lib.Dec.{eqb}
-use lib.ListN.{length}
+use lib.ListN.{length, getD}
 use borrow.Author.Tests.{eq-eqb, ne-eqb}
-use Rattle.table.specs.Layout.{rulesOf, positionsOf}
+use Rattle.sets.specs.Set.{has, sizeOf}
+use Rattle.sets.proofs.Digits.{count-le}
+use Rattle.table.specs.Layout.{maxPositions, rulesOf, positionsOf}
 use Rattle.table.specs.Table.{isTable}
 use Rattle.table.specs.Automaton.{Automaton, automaton}
 use Rattle.stream.specs.declared.Stream.{Stream}
@@ -18,16 +20,16 @@ use Rattle.stream.specs.Valid.{streamLimit, sound, sameCounts, liveInside, mark
 use Rattle.stream.specs.Calls.{shut, fresh}
 use Rattle.stream.proofs.Accepting.{Fitting, fitted}
 use Rattle.stream.proofs.Machines.{fits-le}
-use Rattle.stream.proofs.Blocks.{one-fits}
-use Rattle.stream.proofs.Results.{opened-stream, opened-sound, fitting-after}
+use Rattle.stream.proofs.TwoRuns.{two-few}
+use Rattle.stream.proofs.Blocks.{first-fits, taken-after}
+use Rattle.stream.proofs.Results.{opened-stream, opened-sound, fitting-next}
 use Rattle.traced.specs.declared.Traced.{Traced}
 use Rattle.traced.specs.declared.Scanned.{Scanned}
 use Rattle.traced.specs.declared.Closed.{Closed}
-use Rattle.traced.specs.Byte.{Report, traced, closeReports}
+use Rattle.traced.specs.Byte.{Report, given, counted, lateLong, ownLong, lateStart, ownStart, streamNext, nextState, byteReports, traced, closeReports}
 use Rattle.traced.specs.Valid.{valid}
 use Rattle.traced.specs.Calls.{Lists, Call, opened, space, written, closeNumber, callNumber, takenBy, scanned, scannedLists, closed}
 use Rattle.traced.proofs.Accepting.{inOrder, both, Accepted, accepted, close-number}
-use Rattle.traced.proofs.Same as same
 use Rattle.traced.proofs.Same.{stream-after}
 use Rattle.traced.proofs.Ordered.{order-after, order-none}
 
@@ -94,10 +96,31 @@ module _ (t : List ℕ) (z : Traced) (l : Lists) where
 
 -- ---- valid states
 
+-- a byte has at most two reports of a rule
+byte-few : (w : Automaton) (z : Traced) (x : ℕ) → length (byteReports w z x) ≤ 2 * w .rules
+unfolding byteReports
+byte-few w z x =
+    let s : Stream = z .stream in
+    let live : List ℕ = z .starts .live in
+    two-few w (lateLong w s live x) (ownLong w s live x) (s .reported) (given w (s .taken) (lateStart w z x)) (given w (suc (s .taken)) (ownStart w z x))
+
+-- a state that fits still fits after some bytes
+fitting-traced : (w : Automaton) (z : Traced) (block : List ℕ) → Fitting w (z .stream) → (n : ℕ) → z .stream .taken + n ≤ streamLimit
+    → Fitting w (after (traced w) z block n .stream)
+unfolding after nextState streamNext
+fitting-traced w z block fits zero l = fits
+fitting-traced w z block fits (suc n) l =
+    let y : Traced = after (traced w) z block n in
+    let s : Stream = y .stream in
+    let live : List ℕ = y .starts .live in
+    let x : ℕ = getD block n 0 in
+    fitting-next w (lateLong w s live x) (ownLong w s live x) s (counted w s live) x refl (fitting-traced w z block fits n (omega arith))
+    (omega (arith, ap (λ (u : Stream). u .taken) (stream-after w z block n), taken-after w (z .stream) block n))
+
 -- the state after some bytes of a valid one
 module _ (w : Automaton) (z : Traced) (block : List ℕ) (fits : Fitting w (z .stream)) (ordered : inOrder z ≡ true) (n : ℕ) (short : z .stream .taken + n ≤ streamLimit) where
   fits-after : Fitting w (after (traced w) z block n .stream)
-  fits-after = subst (Fitting w) (sym (stream-after w z block n)) (fitting-after w (z .stream) block fits n short)
+  fits-after = fitting-traced w z block fits n short
 
   pub valid-after : valid w (after (traced w) z block n) ≡ true
   valid-after = both w (after (traced w) z block n) (fitted w (after (traced w) z block n .stream) fits-after) (order-after w z block ordered n)
@@ -147,13 +170,14 @@ module _ (t : List ℕ) where
       (fits-after w z (c .block) (h .state) (h .ordered) n (omega (arith, h .short, taken-within z c ok)) .limit)
 
   pub progress : (z : Traced) (c : Call) → scanned t z c .number ≡ 0 → 257 ≤ c .allowance → 0 < length (c .block) → 0 < scanned t z c .taken
-  unfolding takenBy automaton
+  unfolding takenBy automaton sizeOf
   progress z c ok paid some =
+      let x : ℕ = getD (c .block) 0 0 in
       omega (
         arith,
         taken-is t z c (sym (scan-number t z c) ∙ ok),
-        same.fits-after (automaton t) z (c .block) (c .allowance) (space (c .slots)) (length (c .block)),
-        one-fits (automaton t) (z .stream) (c .block) (c .allowance) (space (c .slots)) (length (c .block)) some (omega (arith, scan-holds z c ok .space)) paid,
+        first-fits (traced (automaton t)) z (c .block) (2 * rulesOf t) (byte-few (automaton t) z x) (omega (arith, count-le maxPositions (has (z .stream .live))))
+            (c .allowance) (space (c .slots)) (length (c .block)) some (omega (arith, scan-holds z c ok .space)) paid,
       )
 
   module _ (table : isTable t ≡ true) where

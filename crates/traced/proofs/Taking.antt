@@ -19,13 +19,13 @@ use Rattle.table.specs.Layout.{maxRules, maxPositions}
 use Rattle.table.specs.Automaton.{Automaton}
 use Rattle.steps.specs.Step.{OnlyIn}
 use Rattle.stream.specs.declared.Stream.{Stream}
-use Rattle.stream.specs.Byte.{after, reportsBy, costBy, nextLive, nextHeld, nextPending, byteState, busyOf}
+use Rattle.stream.specs.Byte.{after, reportsBy, costBy, nextLive, nextHeld, busyOf}
 use Rattle.stream.specs.Invariants.{Over}
 use Rattle.stream.proofs.Machines.{after-more, reports-more, cost-more}
 use Rattle.traced.specs.declared.Starts.{Starts}
 use Rattle.traced.specs.declared.Traced.{Traced}
 use Rattle.traced.specs.declared.scan.Turn.{Turn}
-use Rattle.traced.specs.Byte.{Report, nextStarts, nextState, byteReports, traced}
+use Rattle.traced.specs.Byte.{Report, pendingLong, streamNext, nextStarts, nextState, byteReports, traced}
 use Rattle.traced.specs.Calls.{Lists, space, written}
 use Rattle.traced.specs.Invariants.{InOrder, writtenAt, free, back, stopAt, Filled, Gone, Delivered, Stops, Takes, Offered, Running, Ran}
 use Rattle.traced.proofs.Carrying.{only-next, none-only, none-pairs}
@@ -85,7 +85,7 @@ module _ (w : Automaton) (z : Traced) (first : ℕ) (block : List ℕ) (y : Turn
             live = nextLive w (z .stream) x;
             held = nextHeld w (z .stream) x;
             reported = marks;
-            pending = nextPending w (z .stream) x;
+            pending = pendingLong w (z .stream) (z .starts .live) x;
             last = sideOf x;
             taken = z .stream .taken + 1;
             rules = z .stream .rules;
@@ -95,7 +95,7 @@ module _ (w : Automaton) (z : Traced) (first : ℕ) (block : List ℕ) (y : Turn
           → Offered w z first block y l
           (record { stream = stream; at = y .at + 1; count = y .count + reports; left = y .left - (1 + turns); some = some; waits = waits; stopped = false })
           k (back (y .count) l last)
-      unfolding byteState
+      unfolding streamNext
       offered-taken inside turns size paid stream is =
           let cost : 1 + turns ≡ suc (busyOf (z .stream)) = units turns (busyOf (z .stream)) size in
           record {
@@ -110,7 +110,7 @@ module _ (w : Automaton) (z : Traced) (first : ℕ) (block : List ℕ) (y : Turn
                     live = nextLive w (z .stream) x;
                     held = nextHeld w (z .stream) x;
                     reported = done .marks-are i;
-                    pending = nextPending w (z .stream) x;
+                    pending = pendingLong w (z .stream) (z .starts .live) x;
                     last = sideOf x;
                     taken = add-one (z .stream .taken) i;
                     rules = z .stream .rules;
@@ -173,7 +173,7 @@ module _ (w : Automaton) (z : Traced) (allowance : ℕ) (block : List ℕ) (l₀
 
     -- a byte that is taken
     pub running-take : (r : Turn) (k′ : Starts) (l′ : Lists) → Takes w here (z .stream .taken) block y l r k′ l′ → Running w z allowance block l₀ r k′ l′
-    unfolding nextState byteState
+    unfolding nextState streamNext
     running-take r k′ l′ t =
         let at : r .at ≡ y .at + 1 = t .at-is in
         record {
@@ -278,7 +278,7 @@ ran e h = record { running = h .running; rests = h .rests e }
 
 -- the bytes taken so far
 pub taken-after : (w : Automaton) (z : Traced) (block : List ℕ) (n : ℕ) → after (traced w) z block n .stream .taken ≡ z .stream .taken + n
-unfolding after nextState byteState
+unfolding after nextState streamNext
 taken-after w z block zero = sym (add-zero (z .stream .taken))
 taken-after w z block (suc n) = ap suc (taken-after w z block n) ∙ sym (add-suc (z .stream .taken) n)
 

@@ -10,10 +10,11 @@ use Rattle.kinds.specs.Side.{sideOf}
 use Rattle.table.specs.Layout.{maxRules}
 use Rattle.table.specs.Gaps.{between, beforeLast, unsettled, atEnd}
 use Rattle.table.specs.Automaton.{Automaton}
-use Rattle.steps.specs.Step.{listFrom, keepersOf, steppedStarts, startAt}
+use Rattle.steps.specs.Step.{listFrom, ends, keepersOf, windowed, steppedStarts, startAt}
+use Rattle.lengths.specs.Long.{longIn}
 use Rattle.stream.specs.declared.Stream.{Stream}
 use Rattle.stream.specs.Byte as stream
-use Rattle.stream.specs.Byte.{Machine, nextLive, nextHeld, nextPending, twoReports, byteState, lateTest, ownTest, heldTest, endTest, busyOf}
+use Rattle.stream.specs.Byte.{Machine, nextLive, nextHeld, nextPending, twoReports, stateBy, lateTest, heldTest, endTest, busyOf}
 use Rattle.traced.specs.declared.Starts.{Starts}
 use Rattle.traced.specs.declared.Traced.{Traced}
 
@@ -36,17 +37,56 @@ module _ (w : Automaton) where
   abbrev pub keeping : List ℕ → List ℕ
   keeping set = intersectionOf set (keepersOf w)
 
-  -- The starts after a byte: of the live positions, of those held in case it ends the last line,
-  -- and of the pairs held likewise, for rules that report one.
+  -- What byte x makes of the starts of the live positions, and of those held in case it ends the
+  -- last line.
+  abbrev pub liveNext : Stream → (live : List ℕ) → (x : ℕ) → List ℕ
+  liveNext s live x = steppedStarts w false (s .last) (sideOf x) (keeping (s .live)) live (keeping (nextLive w s x)) (s .taken)
+
+  abbrev pub heldNext : Stream → (live : List ℕ) → (x : ℕ) → List ℕ
+  heldNext s live x = steppedStarts w true (s .last) (sideOf x) (keeping (s .live)) live (keeping (nextHeld w s x)) (s .taken)
+
+  -- "smallest match length": a stream with these of its positions, in place of all
+  abbrev pub kept : Stream → (live held : List ℕ) → Stream
+  kept s live held = record {
+    live = live;
+    held = held;
+    reported = s .reported;
+    pending = s .pending;
+    last = s .last;
+    taken = s .taken;
+    rules = s .rules;
+    positions = s .positions;
+    closed = s .closed;
+  }
+
+  -- its live positions that count: whose longest match is long enough to be reported where it
+  -- stands
+  abbrev pub counted : Stream → (live : List ℕ) → Stream
+  counted s live = kept s (longIn w (s .live) live (s .taken)) (s .held)
+
+  -- What a byte brings is what it brings to a stream, by the positions that count: the tests of its
+  -- two runs, and the pairs that it leaves held.
+  abbrev pub lateLong : Stream → (live : List ℕ) → ℕ → ℕ → Bool
+  lateLong s live x = lateTest w (counted s live) x
+
+  abbrev pub ownLong : Stream → (live : List ℕ) → ℕ → ℕ → Bool
+  ownLong s live x =
+      let end : ℕ = suc (s .taken) in
+      windowed w (ends w unsettled (longIn w (nextLive w s x) (liveNext s live x) end)) end
+
+  abbrev pub pendingLong : Stream → (live : List ℕ) → ℕ → ℕ
+  pendingLong s live x = nextPending w (counted s live) x
+
+  -- the starts of held pairs, for rules that report one
+  abbrev pub pairsNext : Stream → (live : List ℕ) → (x : ℕ) → List ℕ
+  pairsNext s live x =
+      listFrom 0 maxRules (λ a. cond (on (pendingLong s live x) a && w .leftmost a) (startAt w (beforeLast (s .last)) (s .live) live (s .taken) a) 0)
+
   unfoldable pub nextStarts : Traced → ℕ → Starts
   nextStarts z x =
       let s : Stream = z .stream in
       let live : List ℕ = z .starts .live in
-      record {
-        live = steppedStarts w false (s .last) (sideOf x) (keeping (s .live)) live (keeping (nextLive w s x)) (s .taken);
-        held = steppedStarts w true (s .last) (sideOf x) (keeping (s .live)) live (keeping (nextHeld w s x)) (s .taken);
-        pairs = listFrom 0 maxRules (λ a. cond (on (nextPending w s x) a && w .leftmost a) (startAt w (beforeLast (s .last)) (s .live) live (s .taken) a) 0);
-      }
+      record { live = liveNext s live x; held = heldNext s live x; pairs = pairsNext s live x }
 
   -- the start of a pair that waited for byte x, and of one that ends with it
   abbrev pub lateStart : Traced → ℕ → ℕ → ℕ
@@ -59,11 +99,15 @@ module _ (w : Automaton) where
   unfoldable pub byteReports : Traced → ℕ → List Report
   byteReports z x =
       let s : Stream = z .stream in
-      twoReports w (lateTest w s x) (ownTest w s x) (s .reported)
+      let live : List ℕ = z .starts .live in
+      twoReports w (lateLong s live x) (ownLong s live x) (s .reported)
       (given (s .taken) (lateStart z x)) (given (suc (s .taken)) (ownStart z x))
 
+  unfoldable pub streamNext : Stream → (live : List ℕ) → ℕ → Stream
+  streamNext s live x = stateBy w (lateLong s live x) (ownLong s live x) (pendingLong s live x) s x
+
   unfoldable pub nextState : Traced → ℕ → Traced
-  nextState z x = record { stream = byteState w (z .stream) x; starts = nextStarts z x }
+  nextState z x = record { stream = streamNext (z .stream) (z .starts .live) x; starts = nextStarts z x }
 
   -- a stream with starts as a machine: a byte costs what it costs without
   abbrev pub traced : Machine Traced Report
@@ -75,8 +119,14 @@ module _ (w : Automaton) where
       let gap : ℕ = atEnd (z .stream .last) in
       startAt w gap (z .stream .held) (z .starts .held) (startAt w gap (z .stream .live) (z .starts .live) (z .stream .taken) a) a
 
+  -- at closing a held position counts by its own start
+  abbrev pub endLong : Traced → ℕ → Bool
+  endLong z =
+      let s : Stream = z .stream in
+      endTest w (kept s (longIn w (s .live) (z .starts .live) (s .taken)) (longIn w (s .held) (z .starts .held) (s .taken)))
+
   unfoldable pub closeReports : Traced → List Report
   closeReports z =
       let s : Stream = z .stream in
-      twoReports w (heldTest w s) (endTest w s) (s .reported)
+      twoReports w (heldTest w s) (endLong z) (s .reported)
       (given (s .taken - 1) (λ a. getD (z .starts .pairs) a 0)) (given (s .taken) (endStart z))

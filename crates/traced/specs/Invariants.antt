@@ -9,14 +9,12 @@ use lib.Dec.{ltb}
 use lib.ListN.{length, getD}
 use borrow.Rule.Slice.PartMut.{putMid}
 use Rattle.sets.specs.Set.{on, any, emptySet, fullSet, keptBelow}
-use Rattle.kinds.specs.Side.{sideOf}
 use Rattle.table.specs.Layout.{positionsOf, maxRules, maxPositions}
-use Rattle.table.specs.Gaps.{beforeLast}
 use Rattle.table.specs.Table.{isTable}
 use Rattle.table.specs.Automaton.{Automaton, automaton, single}
-use Rattle.steps.specs.Step.{listFrom, lastsOf, latesOf, keepersOf, rulesWhere, steppedStarts, startAt, OnlyIn}
+use Rattle.steps.specs.Step.{listFrom, lastsOf, latesOf, keepersOf, rulesWhere, OnlyIn}
 use Rattle.stream.specs.declared.Stream.{Stream}
-use Rattle.stream.specs.Byte.{after, reportsBy, costBy, runReports, runMarks, twoReports, twoMarks, nextLive, nextHeld, nextPending, byteState, busyOf}
+use Rattle.stream.specs.Byte.{after, reportsBy, costBy, runReports, runMarks, twoReports, twoMarks, nextLive, nextHeld, busyOf}
 use Rattle.stream.specs.Invariants.{columnAt, partAt, passedSide, Over}
 use Rattle.quiet.specs.Pass.{Quietly}
 use Rattle.traced.specs.declared.Starts.{Starts}
@@ -25,7 +23,7 @@ use Rattle.traced.specs.declared.reports.Marks.{Marks}
 use Rattle.traced.specs.declared.scan.Gates.{Gates}
 use Rattle.traced.specs.declared.scan.Turn.{Turn}
 use Rattle.traced.specs.declared.scan.Waiting.{Waiting}
-use Rattle.traced.specs.Byte.{Report, keeping, traced, nextStarts, byteReports, closeReports}
+use Rattle.traced.specs.Byte.{Report, pendingLong, streamNext, traced, nextStarts, byteReports, closeReports}
 use Rattle.traced.specs.Calls.{Lists, lists, space, inStream, fromOffset, written}
 
 -- the sets and rules of a table that a scan asks for once
@@ -128,23 +126,13 @@ pub record InOrder (s : Stream) (k : Starts) : Type 0 where
   pub as-many : length (k .pairs) ≡ maxRules
   pub pairs : (a : ℕ) → a < maxRules → on (s .pending) a ≡ false → getD (k .pairs) a 0 ≡ 0
 
--- what byte x makes of the starts of the live positions, of the held ones, and of held pairs
-abbrev pub liveNext : Automaton → Stream → (live : List ℕ) → (x : ℕ) → List ℕ
-liveNext w s live x = steppedStarts w false (s .last) (sideOf x) (keeping w (s .live)) live (keeping w (nextLive w s x)) (s .taken)
-
-abbrev pub heldNext : Automaton → Stream → (live : List ℕ) → (x : ℕ) → List ℕ
-heldNext w s live x = steppedStarts w true (s .last) (sideOf x) (keeping w (s .live)) live (keeping w (nextHeld w s x)) (s .taken)
-
-abbrev pub pairsNext : Automaton → Stream → (live : List ℕ) → (x : ℕ) → List ℕ
-pairsNext w s live x = listFrom 0 maxRules (λ a. cond (on (nextPending w s x) a && w .leftmost a) (startAt w (beforeLast (s .last)) (s .live) live (s .taken) a) 0)
-
 -- ---- the bytes of a block
 
 -- what one byte's runs come to: the lists are too short for its reports, and all is as it was; or
 -- they are written, and the starts carried along
 pub record Gone (w : Automaton) (z : Traced) (x first : ℕ) (l : Lists) (reports marks : ℕ) (some waits : Bool) (k : Starts) (l′ : Lists) : Type 0 where
   pub reports-are : reports ≡ length (byteReports w z x)
-  pub marks-are : marks ≡ byteState w (z .stream) x .reported
+  pub marks-are : marks ≡ streamNext w (z .stream) (z .starts .live) x .reported
   pub starts-are : k ≡ nextStarts w z x
   pub lists-are : l′ ≡ written first (byteReports w z x) l
   pub live-none : some ≡ false → k .live ≡ zeros maxPositions
@@ -210,7 +198,7 @@ pub record Takes (w : Automaton) (z : Traced) (first : ℕ) (block : List ℕ) (
   pub inside : y .at < length block
   pub room : y .count + length (byteReports w z (getD block (y .at) 0)) ≤ space l
   pub paid : suc (busyOf (z .stream)) ≤ y .left
-  pub stream-is : r .stream ≡ byteState w (z .stream) (getD block (y .at) 0)
+  pub stream-is : r .stream ≡ streamNext w (z .stream) (z .starts .live) (getD block (y .at) 0)
   pub at-is : r .at ≡ y .at + 1
   pub count-is : r .count ≡ y .count + length (byteReports w z (getD block (y .at) 0))
   pub left-is : r .left ≡ y .left - suc (busyOf (z .stream))
@@ -245,7 +233,7 @@ pub record Byte (t : List ℕ) (gates : Gates) (s : Stream) (next : List ℕ) (w
   pub gates-are : GatesOf t gates
   pub next-is : next ≡ nextLive (automaton t) s x
   pub held-is : waiting .held ≡ nextHeld (automaton t) s x
-  pub pending-is : waiting .pending ≡ nextPending (automaton t) s x
+  pub pending-is : waiting .pending ≡ pendingLong (automaton t) s (k .live) x
   pub only : OnlyIn (s .live) (k .live)
   pub live-none : some ≡ false → k .live ≡ zeros maxPositions
   pub wait-none : waits ≡ false → (k .held ≡ zeros maxPositions) × (k .pairs ≡ zeros maxRules)

@@ -2,6 +2,7 @@
 // place, each a digit of a word, with a start for each place. A byte has two of them, and so has
 // the closing.
 use carried::rule_starts;
+use lengths::long_in;
 use steps::closing;
 use steps::in_window;
 use steps::leftmosts;
@@ -268,7 +269,9 @@ pub(super) fn write_closing(
     let last = s.last;
     let earlier = before_last(s.taken);
     let held_pairs = in_window(s.pending, earlier, words);
-    let found = in_window(closing(last, alive, waiting, words), s.taken, words);
+    let counts = long_in(alive, live, s.taken, words);
+    let waits = long_in(waiting, held, s.taken, words);
+    let found = in_window(closing(last, counts, waits, words), s.taken, words);
     let leftmost = leftmosts(words);
     let ends = end_starts(found & leftmost, s, live, held, pairs, words);
     let marks = Marks {

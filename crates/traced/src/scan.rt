@@ -11,6 +11,7 @@ use carried::carry_starts;
 use carried::step_starts;
 use kinds::Side;
 use kinds::side_of;
+use lengths::long_in;
 use steps::ending;
 use steps::in_window;
 use steps::keepers;
@@ -25,10 +26,11 @@ use steps::singles;
 use steps::step;
 use stream::Stream;
 use table::gaps::UNSETTLED;
+use table::layout::LENGTHS_AT;
 use table::layout::POSITIONS_AT;
 ghost use mathlib.Core.Path.{_≡_};
 ghost use mathlib.Core.Bool.{true, false, not, _&&_};
-ghost use Prim.Native.Nat.{_+_, _-_, _^_, _<_, _≤_};
+ghost use Prim.Native.Nat.{suc, _+_, _-_, _^_, _<_, _≤_};
 ghost use lib.Bits.{bitAnd, bitOr};
 ghost use lib.Dec.{ltb};
 ghost use lib.ListN.{length};
@@ -38,12 +40,13 @@ ghost use Rattle.table.specs.Layout.{tableWords, maxPositions, maxRules};
 ghost use Rattle.table.specs.Gaps.{between, unsettled};
 ghost use Rattle.table.specs.Table.{isTable};
 ghost use Rattle.table.specs.Automaton.{automaton};
-ghost use Rattle.steps.specs.Step.{ends, rulesWhere, windowed, startAt, OnlyIn};
+ghost use Rattle.steps.specs.Step.{rulesWhere, startAt, OnlyIn};
+ghost use Rattle.lengths.specs.Long.{longIn};
 ghost use Rattle.stream.specs.Valid.{streamLimit};
-ghost use Rattle.stream.specs.Byte.{nextLive, nextHeld, nextPending, lateTest, runReports};
-ghost use Rattle.traced.specs.Byte.{given};
+ghost use Rattle.stream.specs.Byte.{nextLive, nextHeld, runReports};
+ghost use Rattle.traced.specs.Byte.{given, liveNext, heldNext, pairsNext, lateLong, ownLong, pendingLong};
 ghost use Rattle.traced.specs.Calls.{lists, space};
-ghost use Rattle.traced.specs.Invariants.{zeros, startsOf, stateOf, GatesOf, liveNext, heldNext, pairsNext, InOrder, Wrote, Byte, Carried, stopAt, Delivered, Offered, Ran};
+ghost use Rattle.traced.specs.Invariants.{zeros, startsOf, stateOf, GatesOf, InOrder, Wrote, Byte, Carried, stopAt, Delivered, Offered, Ran};
 
 // The byte that ends a line.
 const NEWLINE: u8 = 10;
@@ -87,40 +90,50 @@ struct Waiting {
 }
 
 // What waits after a byte: nothing, unless it may end the last line.
-fn left_waiting(s: Stream, words: &[u64], byte: u8) -> Waiting
+fn left_waiting(s: Stream, words: &[u64], byte: u8, live: &[u64; 256]) -> Waiting
     requires { ⌜ tableWords ≤ length (now words) ⌝ }
     ensures held { λ r. ⌜ r .held ≡ nextHeld (automaton (now (words .entry))) s byte ⌝ }
-    ensures pending { λ r. ⌜ r .pending ≡ nextPending (automaton (now (words .entry))) s byte ⌝ }
+    ensures pending { λ r. ⌜ r .pending ≡ pendingLong (automaton (now (words .entry))) s (now (live .entry)) byte ⌝ }
 {
     if byte != NEWLINE {
         let held = sets::empty();
         return Waiting { held, pending: 0 };
     }
     let positions = words[POSITIONS_AT] as usize;
-    let live = s.live;
+    let alive = s.live;
     let before = s.last;
-    let held = line_step(before, side_of(byte), live, s.taken, words, positions, byte);
+    let held = line_step(
+        before,
+        side_of(byte),
+        alive,
+        s.taken,
+        words,
+        positions,
+        byte,
+    );
     if s.taken == 0 {
         return Waiting { held, pending: 0 };
     }
+    let counts = long_in(alive, live, s.taken, words);
     Waiting {
         held,
-        pending: line_ending(before, live, words),
+        pending: line_ending(before, counts, words),
     }
 }
 
 // The rules of which a match ends before a byte, now that it is known, and that may report at its
 // offset. A rule is looked at only if a live position can end a match so.
-fn late_rules(gates: Gates, s: Stream, byte: u8, words: &[u64]) -> u64
+fn late_rules(gates: Gates, s: Stream, byte: u8, words: &[u64], live: &[u64; 256]) -> u64
     requires { ⌜ (isTable (now words) ≡ true) × GatesOf (now words) gates ⌝ }
-    ensures { λ r. ⌜ r ≡ rulesWhere (automaton (now (words .entry))) (lateTest (automaton (now (words .entry))) s byte) ⌝ }
+    ensures { λ r. ⌜ r ≡ rulesWhere (automaton (now (words .entry))) (lateLong (automaton (now (words .entry))) s (now (live .entry)) byte) ⌝ }
 {
-    let live = s.live;
+    let alive = s.live;
     let late = gates.late;
     let before = s.last;
-    if meets(live, late) {
+    if meets(alive, late) {
+        let counts = long_in(alive, live, s.taken, words);
         in_window(
-            late_ending(before, side_of(byte), live, words),
+            late_ending(before, side_of(byte), counts, words),
             s.taken,
             words,
         )
@@ -129,15 +142,57 @@ fn late_rules(gates: Gates, s: Stream, byte: u8, words: &[u64]) -> u64
     }
 }
 
+// The live positions after a byte that count: all, unless a rule has a smallest length. The starts
+// after the byte are worked out for it, since those before are still wanted.
+fn counted_after(
+    gates: Gates,
+    s: Stream,
+    next: [u64; 4],
+    byte: u8,
+    words: &[u64],
+    live: &[u64; 256],
+) -> [u64; 4]
+    requires { ⌜ (isTable (now words) ≡ true) × GatesOf (now words) gates × (next ≡ nextLive (automaton (now words)) s byte) × (s .taken + 1 < 2 ^ 63) ⌝ }
+    ensures { λ r. ⌜ r ≡ longIn (automaton (now (words .entry))) next (liveNext (automaton (now (words .entry))) s (now (live .entry)) byte) (suc (s .taken)) ⌝ }
+{
+    if words[LENGTHS_AT] == 0 {
+        return next;
+    }
+    let keepers = gates.keepers;
+    let alive = s.live;
+    let before = s.last;
+    let was = sets::intersection(alive, keepers);
+    let reached = sets::intersection(next, keepers);
+    let stepped = step_starts(
+        false,
+        before,
+        side_of(byte),
+        was,
+        live,
+        reached,
+        s.taken,
+        words,
+    );
+    long_in(next, &stepped, s.taken + 1, words)
+}
+
 // The rules of which a match ends with a byte, after which this set is live, and that may report at
 // its offset.
-fn own_rules(gates: Gates, next: [u64; 4], end: u64, words: &[u64]) -> u64
-    requires { ⌜ (isTable (now words) ≡ true) × GatesOf (now words) gates ⌝ }
-    ensures { λ r. ⌜ r ≡ rulesWhere (automaton (now (words .entry))) (windowed (automaton (now (words .entry))) (ends (automaton (now (words .entry))) unsettled next) end) ⌝ }
+fn own_rules(
+    gates: Gates,
+    s: Stream,
+    next: [u64; 4],
+    byte: u8,
+    words: &[u64],
+    live: &[u64; 256],
+) -> u64
+    requires { ⌜ (isTable (now words) ≡ true) × GatesOf (now words) gates × (next ≡ nextLive (automaton (now words)) s byte) × (s .taken + 1 < 2 ^ 63) ⌝ }
+    ensures { λ r. ⌜ r ≡ rulesWhere (automaton (now (words .entry))) (ownLong (automaton (now (words .entry))) s (now (live .entry)) byte) ⌝ }
 {
     let last = gates.last;
     if meets(next, last) {
-        in_window(ending(next, words), end, words)
+        let counts = counted_after(gates, s, next, byte, words, live);
+        in_window(ending(counts, words), s.taken + 1, words)
     } else {
         0
     }
@@ -198,7 +253,7 @@ fn carry_waiting(
     pairs: &mut [u64; 64],
 ) -> bool
     requires { ⌜ (isTable (now words) ≡ true) × GatesOf (now words) gates
-        × (waiting .held ≡ nextHeld (automaton (now words)) s byte) × (waiting .pending ≡ nextPending (automaton (now words)) s byte)
+        × (waiting .held ≡ nextHeld (automaton (now words)) s byte) × (waiting .pending ≡ pendingLong (automaton (now words)) s (now live) byte)
         × (some ≡ false → (now held ≡ zeros maxPositions) × (now pairs ≡ zeros maxRules)) ⌝ }
     ensures held { λ r. ⌜ now (held .exit) ≡ heldNext (automaton (now (words .entry))) s (now (live .entry)) byte ⌝ }
     ensures pairs { λ r. ⌜ now (pairs .exit) ≡ pairsNext (automaton (now (words .entry))) s (now (live .entry)) byte ⌝ }
@@ -434,8 +489,8 @@ fn report(
     ensures spare { λ r. ⌜ now (spare .exit) ≡ now (spare .entry) ⌝ }
     ensures reports { λ r. ⌜ Delivered (automaton (now (words .entry))) (stateOf s (now (live .entry)) (now (held .entry)) (now (pairs .entry))) byte first (lists (now (ids .entry)) (now (offsets .entry)) (now (starts .entry)) (now (relatives .entry))) (r .full) (r .reports) (r .reported) (r .some) (r .waits) (startsOf (now (live .exit)) (now (held .exit)) (now (pairs .exit))) (lists (now (ids .exit)) (now (offsets .exit)) (now (starts .exit)) (now (relatives .exit))) ⌝ }
 {
-    let late = late_rules(gates, s, byte, words);
-    let own = own_rules(gates, next, s.taken + 1, words);
+    let late = late_rules(gates, s, byte, words, live);
+    let own = own_rules(gates, s, next, byte, words, live);
     let space = shortest(ids.len(), offsets.len(), starts.len(), relatives.len());
     if too_many(late, own, s.reported, gates.single, space) {
         return Delivery {
@@ -545,7 +600,7 @@ fn take_byte(
         return stop(y);
     }
     let next = after.live;
-    let waiting = left_waiting(s, words, byte);
+    let waiting = left_waiting(s, words, byte, live);
     let count = y.count;
     let r = report(
         gates,

@@ -23,7 +23,7 @@ use Rattle.stream.specs.Calls as stream
 use Rattle.stream.proofs.Accepting as stream-accepting
 use Rattle.stream.proofs.Accepting.{fitting, fitted}
 use Rattle.stream.proofs.Machines.{after-later}
-use Rattle.stream.proofs.Blocks.{taken-after, closed-after}
+use Rattle.stream.proofs.Blocks.{blank, taken-after, closed-after}
 use Rattle.stream.proofs.Results as stream-results
 use Rattle.stream.proofs.Results.{fitting-after, opened-stream}
 use Rattle.traced.specs.declared.Traced.{Traced}
@@ -39,7 +39,7 @@ use Rattle.watcher.specs.Invariants.{Way, pairs, traces, Running, Roomy,
 
 -- the stream of a state goes its own way, and a state that fits goes on fitting
 pub record Lawful {S R : Type 0} (k : Way S R) : Type 0 where
-  pub follows : (w : Automaton) (s : S) (block : List ℕ) (n : ℕ) → k .stream (after (k .machine w) s block n) ≡ stateAfter w (k .stream s) block n
+  pub follows : (w : Automaton) (s : S) (block : List ℕ) (n : ℕ) → blank (k .stream (after (k .machine w) s block n)) ≡ blank (stateAfter w (k .stream s) block n)
   pub limited : (w : Automaton) (s : S) → k .valid w s ≡ true → k .stream s .taken ≤ streamLimit
   pub stays : (w : Automaton) (s : S) (block : List ℕ) (n : ℕ) → k .valid w s ≡ true → k .stream s .taken + n ≤ streamLimit
       → k .valid w (after (k .machine w) s block n) ≡ true

@@ -12,7 +12,7 @@ use Rattle.stream.specs.declared.Scanned.{Scanned}
 use Rattle.stream.specs.declared.Closed.{Closed}
 use Rattle.stream.specs.Valid.{needsStarts}
 use Rattle.stream.specs.Calls as stream
-use Rattle.plain.specs.declared.Bounds.{Bounds}
+use Rattle.pattern.specs.declared.bounds.Bounds.{Bounds}
 use Rattle.plain.specs.declared.Matched.{Matched}
 use Rattle.matched.specs.Matched.{matchedPart}
 use Rattle.states.specs.State.{streamForm}

@@ -2,7 +2,7 @@
 // there. The state is fifteen words that the caller owns; the functions on a stream with starts are
 // in the crate watcher_trace_c. Nothing is required of a caller but that its slices are what they
 // say. specs/Interface.antt has each answer and every lent word afterwards.
-use plain::Bounds;
+use pattern::Bounds;
 use states::SHORT_STATE;
 use states::STATE_WORDS;
 use states::load;
@@ -11,7 +11,8 @@ use stream::Stream;
 use stream::needs_starts;
 ghost use mathlib.Core.Path.{_≡_};
 ghost use Rattle.table.specs.Table.{emptyNumber, emptied};
-ghost use Rattle.rules.specs.Add.{addition, addAnswer, addWords};
+ghost use Rattle.pattern.specs.Windows.{windowsOf};
+ghost use Rattle.rules.specs.Add.{addition, additionIn, addAnswer, addWords};
 ghost use Rattle.card.specs.Calls.{writeAnswer, writtenBlock, readAnswer, readWords};
 ghost use Rattle.stream.specs.Calls.{opened, lists, call};
 ghost use Rattle.matched.specs.Matched.{matchedPart, matchedNumber};
@@ -70,6 +71,40 @@ pub extern "C" fn watcher_add(
     ensures place { λ r. ⌜ now (place .exit) ≡ addAnswer (now (table .entry)) (addition id flags (now (pattern .entry))) .place ⌝ }
 {
     let r = rules::add(table, id, flags, pattern);
+    *place = r.place;
+    r.number
+}
+
+// The windows of a rule, of the numbers that they are given as.
+fn bounds_of(lowest: u64, highest: u64, shortest: u64) -> Bounds
+    ensures { λ r. ⌜ r ≡ bounds lowest highest shortest ⌝ }
+{
+    Bounds {
+        lowest,
+        highest,
+        shortest,
+    }
+}
+
+// Adds a rule with windows: the smallest and the largest end offset, and the smallest length of a
+// match. Says where the fault of a refused pattern lies.
+#[no_mangle]
+pub extern "C" fn watcher_add_within(
+    table: &mut [u64],
+    id: u32,
+    flags: u32,
+    lowest: u64,
+    highest: u64,
+    shortest: u64,
+    pattern: &[u8],
+    place: &mut usize,
+) -> u32
+    ensures answer { λ r. ⌜ r ≡ addAnswer (now (table .entry)) (additionIn id flags (windowsOf (bounds lowest highest shortest)) (now (pattern .entry))) .number ⌝ }
+    ensures table { λ r. ⌜ now (table .exit) ≡ addWords (now (table .entry)) (additionIn id flags (windowsOf (bounds lowest highest shortest)) (now (pattern .entry))) ⌝ }
+    ensures place { λ r. ⌜ now (place .exit) ≡ addAnswer (now (table .entry)) (additionIn id flags (windowsOf (bounds lowest highest shortest)) (now (pattern .entry))) .place ⌝ }
+{
+    let bounds = bounds_of(lowest, highest, shortest);
+    let r = rules::add_within(table, id, flags, bounds, pattern);
     *place = r.place;
     r.number
 }
@@ -250,11 +285,7 @@ pub extern "C" fn watcher_plain(
 ) -> u32
     ensures { λ r. ⌜ Matches (question (now (pattern .entry)) flags (bounds lowest highest shortest) (now (log .entry))) (lent (now (offsets .entry)) (now (starts .entry))) (lent (now (offsets .exit)) (now (starts .exit))) (matched r (now (place .exit)) (now (reports .exit))) ⌝ }
 {
-    let bounds = Bounds {
-        lowest,
-        highest,
-        shortest,
-    };
+    let bounds = bounds_of(lowest, highest, shortest);
     let r = plain::matches(pattern, flags, bounds, log, offsets, starts);
     *place = r.place;
     *reports = r.count;

@@ -29,10 +29,11 @@ use Rattle.regex.specs.Automaton.{null, first, last, follow, items}
 use Rattle.regex.proofs.Logic.{true-T, and-T}
 use Rattle.pattern.specs.Walk.{chained, chosen, one, repeating, closing, opening, act, next, finish, walk}
 use Rattle.pattern.specs.Read.{judged, readOf, optionsOf}
+use Rattle.pattern.specs.Windows.{emptyWindow}
 use Rattle.steps.specs.Step.{stepped, ends, endsNewly, latesOf}
 use Rattle.stream.specs.Byte.{nextHeld, nextPending, runReports, runMarks, twoReports, twoMarks, byteReports, byteState, closeReports}
 use Rattle.rules.specs.declared.Added.{Added}
-use Rattle.rules.specs.Add.{Addition, answer, unknownFlag, singleStart, emptyWindow, placed, addWords}
+use Rattle.rules.specs.Add.{Addition, answer, unknownFlag, singleStart, placed, addWords}
 use Rattle.rules.specs.Additions.{Narrow, Accepted, used, taken, nextAnswer, withNew, afterNext, acceptedAfter}
 use Rattle.rules.specs.Encoded.{addAll}
 use Rattle.rules.proofs.Sorted.{laid, insert, into}

@@ -15,8 +15,9 @@ use Rattle.table.specs.Layout.{maxPositions}
 use Rattle.table.specs.Gaps.{innerGaps, lastGaps, unsettled}
 use Rattle.table.specs.Automaton.{Automaton, automaton, last as lastIn}
 use Rattle.regex.specs.Tree.{empty}
+use Rattle.regex.specs.Rule.{no-windows}
 use Rattle.regex.specs.Automaton.{first, last, follow}
-use Rattle.rules.specs.Words.{isSingle, isLeftmost}
+use Rattle.rules.specs.Words.{isSingle, isLeftmost, needsStart}
 use Rattle.rules.specs.Additions.{Accepted, size, used}
 use Rattle.rules.proofs.Sorted.{Placed, at, byId}
 use Rattle.rules.proofs.Encodes.{Encodes, Of, formOf, itemOf, worldAt, starts-first, last-out}
@@ -27,7 +28,7 @@ use Rattle.worked.proofs.Agreeing.{Agree}
 
 -- the first rule that has position q
 unfoldable pub owner : List Placed → ℕ → Placed
-owner [] q = record { rule = record { id = 0; flags = 0; lowest = 0; highest = 0; tree = empty }; from = 0 }
+owner [] q = record { rule = record { id = 0; flags = 0; windows = no-windows; tree = empty }; from = 0 }
 owner (p ∷ ps) q = cond (leb (p .from) q && ltb q (p .from + size (p .rule))) p (owner ps q)
 
 -- its place
@@ -43,7 +44,7 @@ computed ps n = record {
   id = λ a. at ps a .rule .id;
   once = λ a. isSingle (at ps a .rule .flags);
   leftmost = λ a. isLeftmost (at ps a .rule .flags);
-  inside = λ a e. insideOf (at ps a .rule .lowest) (at ps a .rule .highest) e;
+  inside = λ a e. insideOf (at ps a .rule .windows) e;
   opens = λ x. true;
   takes = λ x q. has (itemOf (owner ps q) q) x;
   first = λ g q. first (worldAt g) (formOf (owner ps q)) (owner ps q .from) q;
@@ -52,7 +53,8 @@ computed ps n = record {
   owner = λ p. ownerPlace ps p;
   late = λ p.
       any innerGaps (λ g. last (worldAt g) (formOf (owner ps p)) (owner ps p .from) p) && not (last (worldAt unsettled) (formOf (owner ps p)) (owner ps p .from) p);
-  keeps = λ q. isLeftmost (owner ps q .rule .flags);
+  keeps = λ q. needsStart (owner ps q .rule .flags) (owner ps q .rule .windows);
+  long = λ q s e. leb (s + owner ps q .rule .windows .smallest-length) e;
 }
 
 -- the owner is a rule that has the position, if there is one

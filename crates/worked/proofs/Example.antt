@@ -30,13 +30,14 @@ use Rattle.regex.specs.Automaton.{null, first, last, follow, items as byteSets}
 use Rattle.regex.specs.Ordered.{Ordered}
 use Rattle.pattern.specs.Walk.{chained, chosen, one, repeating, closing, opening, act, next, finish, walk}
 use Rattle.pattern.specs.Read.{judged, readOf, optionsOf}
+use Rattle.pattern.specs.Windows.{emptyWindow}
 use Rattle.steps.specs.Step.{stepped, ends, endsNewly, latesOf}
 use Rattle.stream.specs.declared.Stream.{Stream}
 use Rattle.stream.specs.Byte.{after, nextHeld, nextPending, runReports, runMarks, twoReports, twoMarks, byteReports, byteState, reportsBy, costBy, fitsBy, closeReports}
 use Rattle.stream.specs.Calls.{opened, scanNumber}
 use Rattle.stream.proofs.Results.{opened-valid}
 use Rattle.rules.specs.declared.Added.{Added}
-use Rattle.rules.specs.Add.{unknownFlag, singleStart, emptyWindow, placed}
+use Rattle.rules.specs.Add.{unknownFlag, singleStart, placed}
 use Rattle.rules.specs.Additions.{Accepted, used, taken, nextAnswer, withNew, afterNext, acceptedAfter}
 use Rattle.rules.proofs.Sorted.{laid, insert, into}
 use Rattle.rules.proofs.Additions.{Built}

@@ -24,12 +24,12 @@ use Rattle.stream.proofs.Blocks.{cost-few, closed-after}
 use Rattle.regex.specs.Rule.{Rule}
 use Rattle.regex.specs.Ordered.{Report}
 use Rattle.regex.proofs.Logic.{and-T, true-T, false-T}
-use Rattle.rules.specs.Words.{isLeftmost}
 use Rattle.rules.specs.Additions.{Accepted, ruleOf, used}
 use Rattle.rules.proofs.Additions.{Built}
 use Rattle.demands.specs.Kinds.{short}
 use Rattle.demands.specs.Chain.{Outcome, by-scan, by-close, outcomesOf, OthersRefused, Bytes}
 use Rattle.worked.specs.Cases.{bytes, Log, callsOn, expected, Gives}
+use Rattle.demands.specs.Demands.{needsStart}
 use Rattle.demands.proofs.Carried.{Carried, carried, none-needed, rules-at}
 use Rattle.demands.proofs.Bytewise.{startless, givenTo, givenAtEnd, givenOf}
 use Rattle.demands.proofs.Lawful.{given-append}
@@ -198,15 +198,17 @@ none-other t (b ∷ bs) lent s = none-other t bs (λ i. lent (suc i)) _
 
 -- ---- on a table that additions built
 
--- no rule reports a start, tested
+-- no rule needs a start, tested
 unfoldable pub withoutStarts : List Accepted → Bool
 withoutStarts [] = true
-withoutStarts (r ∷ rs) = not (isLeftmost (r .flags)) && withoutStarts rs
+withoutStarts (r ∷ rs) = not (needsStart (ruleOf r)) && withoutStarts rs
 
-without-all : (rs : List Accepted) → T (withoutStarts rs) → (r : Accepted) → List·Memᴰ r rs → ruleOf r .starts ≡ false
+without-all : (rs : List Accepted) → T (withoutStarts rs) → (r : Accepted) → List·Memᴰ r rs → needsStart (ruleOf r) ≡ false
 unfolding withoutStarts
-without-all (x ∷ rs) h r (List·Memᴰ·head e) = ap (λ (y : Accepted). isLeftmost (y .flags)) e ∙ false-T (isLeftmost (x .flags)) (T-not (isLeftmost (x .flags)) (and-T (not (isLeftmost (x .flags))) (withoutStarts rs) .0 h .0))
-without-all (x ∷ rs) h r (List·Memᴰ·tail m) = without-all rs (and-T (not (isLeftmost (x .flags))) (withoutStarts rs) .0 h .1) r m
+without-all (x ∷ rs) h r (List·Memᴰ·head e) =
+    ap (λ (y : Accepted). needsStart (ruleOf y)) e
+    ∙ false-T (needsStart (ruleOf x)) (T-not (needsStart (ruleOf x)) (and-T (not (needsStart (ruleOf x))) (withoutStarts rs) .0 h .0))
+without-all (x ∷ rs) h r (List·Memᴰ·tail m) = without-all rs (and-T (not (needsStart (ruleOf x))) (withoutStarts rs) .0 h .1) r m
 
 -- the stream that is opened, by the accepted rules
 abbrev pub startOf : List Accepted → Stream
@@ -229,15 +231,15 @@ module _ (t : List ℕ) (rs : List Accepted) (built : Built t rs) where
   few-rules : computedOf rs .rules ≤ maxRules
   few-rules = omega (arith, sym (built-agrees t rs built .rules), rules-at t, built .passed .rules)
 
-  -- no rule reports a start, so the table needs none
+  -- no rule needs a start, so the table needs none
   pub without : T (withoutStarts rs) → needsStarts (automaton t) ≡ false
   without h = none-needed (automaton t) (c .rule) (c .from) (c .tab) (c .carries) (λ a lt. none (c .rule a) (c .listed (c .rule a) .1 (a, lt, refl)))
     where
       c : Carried t (map ruleOf rs)
       c = carried t rs built
 
-      none : (r : Rule) → List·Memᴰ r (map ruleOf rs) → r .starts ≡ false
-      none r m = let x = Memᴰ·of-map ruleOf rs m in ap (λ (u : Rule). u .starts) (sym (x .2)) ∙ without-all rs h (x .0) (x .1)
+      none : (r : Rule) → List·Memᴰ r (map ruleOf rs) → needsStart r ≡ false
+      none r m = let x = Memᴰ·of-map ruleOf rs m in ap needsStart (sym (x .2)) ∙ without-all rs h (x .0) (x .1)
 
   pub log-gives : T (withoutStarts rs) → (log : Log) → T (follows (computedOf rs) (startOf rs) (log .blocks) (log .closing)) → Gives t log
   log-gives none log h = (opens, λ lent wide. calls-give lent wide)

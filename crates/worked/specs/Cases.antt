@@ -11,6 +11,7 @@ use lib.ListN.{length}
 use Rattle.table.specs.Layout.{tableWords, maxRules}
 use Rattle.table.specs.Table.{emptied}
 use Rattle.stream.specs.Calls.{Lists, Call, call, opened, space}
+use Rattle.regex.specs.Rule.{Windows, no-windows}
 use Rattle.regex.specs.Ordered.{Pair, Report}
 unfoldable pub use Rattle.classes.specs.Name.{bytes}
 use Rattle.rules.specs.declared.Added.{Added}
@@ -103,14 +104,18 @@ log id blocks closing = record { blocks = map (λ (b : String × List ℕ). (b .
 abbrev hits : (id flags : ℕ) → String → List Log → Case
 hits id flags pattern logs = record { rule = rule id flags pattern; verdict = accepted logs }
 
--- the same of a rule with a window
+-- the same of a rule with a window of end offsets
+abbrev endsIn : (lowest highest : ℕ) → Windows
+endsIn lowest highest =
+    record { smallest-end = lowest; largest-end = highest; smallest-length = no-windows .smallest-length }
+
 abbrev hitsIn : (id flags lowest highest : ℕ) → String → List Log → Case
 hitsIn id flags lowest highest pattern logs =
-    record { rule = additionIn id flags lowest highest (bytes pattern); verdict = accepted logs }
+    record { rule = additionIn id flags (endsIn lowest highest) (bytes pattern); verdict = accepted logs }
 
 abbrev refusesIn : (id flags lowest highest : ℕ) → String → (number place : ℕ) → Case
 refusesIn id flags lowest highest pattern number place =
-    record { rule = additionIn id flags lowest highest (bytes pattern); verdict = refused number place }
+    record { rule = additionIn id flags (endsIn lowest highest) (bytes pattern); verdict = refused number place }
 
 abbrev refuses : (id flags : ℕ) → String → (number place : ℕ) → Case
 refuses id flags pattern number place = record { rule = rule id flags pattern; verdict = refused number place }

@@ -1,6 +1,7 @@
 -- `rules::add_within` meets its contract: one law for each return, by the checks before it. The
--- window is put in first, and the rule into the words that come of it.
+-- windows are put in first, and the rule into the words that come of it.
 use mathlib.Core.Path.{_≡_, sym, ap, ap₂, subst, _∙_}
+use mathlib.Core.Bool.{Bool}
 use mathlib.Core.List.{List}
 use Prim.Native.Nat.{ℕ, _+_, _≤_, _<_}
 use native.Mathlib.Omega.{arith}
@@ -11,12 +12,13 @@ use Rattle.table.specs.Layout.{tableWords, maxRules, maxPositions, rulesOf, pos
 use Rattle.table.proofs.Test.{Passes}
 use Rattle.regex.specs.Form.{write, positions}
 use Rattle.nodes.specs.Nodes.{treeAt}
+use Rattle.pattern.specs.Windows.{windowsOf, sizeFault}
 use Rattle.automaton.specs.Parts.{partsOf}
 use Rattle.automaton.specs.declared.Parts.{Parts}
 use Rattle.rules.specs.Gaps.{partsAt}
-use Rattle.rules.specs.Words.{withWindow, added}
-use Rattle.rules.specs.Add.{Addition, additionIn, emptyWindow}
-use Rattle.rules.specs.Invariants.{firstFault, sizeFault}
+use Rattle.rules.specs.Words.{added}
+use Rattle.rules.specs.Add.{Addition, additionIn}
+use Rattle.rules.specs.Invariants.{firstFault}
 use Rattle.rules.proofs.Answer.{early, unfit, passed-table, passed-few, unread, too-many, long-room, few-room, fits-room, same-positions, accepted}
 use Rattle.rules.proofs.add_within.Statement.{statement}
 use Rattle.rules.proofs.add_within.Tie as tie
@@ -26,7 +28,7 @@ abbrev words : tie.Start → List ℕ
 words c = now (c .args .words)
 
 abbrev new : tie.Start → Addition
-new c = additionIn (c .args .id) (c .args .flags) (c .args .lowest) (c .args .highest) (now (c .args .pattern))
+new c = additionIn (c .args .id) (c .args .flags) (windowsOf (c .args .bounds)) (now (c .args .pattern))
 
 first-fault-requires : tie.Need-first-fault-requires
 first-fault-requires c κs = tt
@@ -57,7 +59,6 @@ module _ (c : tie.Else1) where
   table = passed-table (words start) (new start) checked
 
 returns-2 : tie.Need-returns-2
-unfolding sizeFault emptyWindow
 returns-2 c =
     let o = c .before .before in
     unfit (words (start o)) (new (start o)) (checked o) (c .before .size-fault .result) (c .before .size-fault .ensures) (c .if2 .taken)
@@ -72,8 +73,7 @@ same-length-3 c = omega arith
 abbrev passed : tie.Else2 → tie.Else1
 passed c = c .before .before
 
-sized : (c : tie.Else2) → 0 ≡ sizeFault (new (start (passed c)))
-unfolding sizeFault emptyWindow
+sized : (c : tie.Else2) → 0 ≡ sizeFault (length (new (start (passed c)) .pattern)) (new (start (passed c)) .windows)
 sized c = sym (c .if2 .left) ∙ c .before .size-fault .ensures
 
 returns-3 : tie.Need-returns-3
@@ -128,15 +128,20 @@ build-requires c κs = tt
 abbrev read : tie.Else4 → tie.Else3
 read c = c .before .before .before .before
 
+needs-start-requires : tie.Need-needs-start-requires
+needs-start-requires c κs = tt
+
 put-window-requires : tie.Need-put-window-requires
 put-window-requires c κs =
-    let p = passed (sizes (read (c .before .before .before .before .before))) in
-    (table p .long, passed-few (words (start p)) (new (start p)) (checked p))
+    let p = passed (sizes (read (c .before .before .before .before .before .before))) in
+    (table p .long, passed-few (words (start p)) (new (start p)) (checked p), table p .positions)
 
--- the words with the window
+-- the words with the windows
 module _ (c : tie.After-put-window) where
   abbrev roomy : tie.Else4
-  roomy = c .before .before .before .before .before .before
+  roomy =
+      let needs = c .before .before in
+      needs .before .before .before .before .before
 
   abbrev sure : tie.Else2
   sure = sizes (read roomy)
@@ -144,16 +149,13 @@ module _ (c : tie.After-put-window) where
   abbrev begun : tie.Start
   begun = start (passed sure)
 
-  abbrev with-window : List ℕ
-  with-window = withWindow (words begun) (begun .args .id) (begun .args .lowest) (begun .args .highest)
-
   abbrev given : tie.After-read
   given = read roomy .before .before
 
   abbrev Ready : List ℕ → Type 0
   Ready s = (tableWords ≤ length s) × (rulesOf s < maxRules)
       × (positionsOf s + positions (write (treeAt (given .read .result .nodes) (given .read .result .root))) ≤ maxPositions)
-      × (c .before .before .build .result ≡ partsAt (treeAt (given .read .result .nodes) (given .read .result .root)) (positionsOf s) 0)
+      × (c .before .before .before .build .result ≡ partsAt (treeAt (given .read .result .nodes) (given .read .result .root)) (positionsOf s) 0)
 
   ready : Ready (c .put-window .last .0)
   ready =
@@ -165,14 +167,14 @@ module _ (c : tie.After-put-window) where
         long-room t a (checked o) (sized sure) r (given .read .ensures) (read roomy .if3 .left) (roomy .if4 .left),
         few-room t a (checked o) (sized sure) r (given .read .ensures) (read roomy .if3 .left) (roomy .if4 .left),
         fits-room t a (checked o) (sized sure) r (given .read .ensures) (read roomy .if3 .left) (roomy .if4 .left),
-        c .before .before .build .ensures ∙ ap (partsOf (treeAt (r .nodes) (r .root)) (positionsOf t)) (c .before .before .before .holding .ensures)
+        c .before .before .before .build .ensures ∙ ap (partsOf (treeAt (r .nodes) (r .root)) (positionsOf t)) (c .before .before .before .before .holding .ensures)
             ∙ ap (λ (n : ℕ). partsAt (treeAt (r .nodes) (r .root)) n 0) (same-positions t a (checked o) (sized sure) r (given .read .ensures) (read roomy .if3 .left) (roomy .if4 .left)),
       )
 
 slice-aggregate-add-rule : tie.Need-slice-aggregate-add-rule
 slice-aggregate-add-rule c =
-    let i = c .before .before .before .before .before .before in
-    slice-aggregate-build (i .before .before .before)
+    let needs = c .before .before .before .before .before in
+    slice-aggregate-build (needs .before .before .before .before .before)
 
 add-rule-requires : tie.Need-add-rule-requires
 add-rule-requires c κs = ready (c .before .before .before .before)
@@ -189,7 +191,7 @@ returns-5 c =
     let r = given w .read .result in
     let rule = c .before .before .add-rule in
     accepted (words b) (new b) (checked o) (sized (sure w)) r (given w .read .ensures) (read (roomy w) .if3 .left) (roomy w .if4 .left) (rule .last .0)
-    (rule .ensures ∙ ap (λ (s : List ℕ). added s (b .args .id) (b .args .flags) (partsAt (treeAt (r .nodes) (r .root)) (positionsOf s))) (w .put-window .ensures))
+    (rule .ensures ∙ ap₂ (λ (s : List ℕ) (k : Bool). added s (b .args .id) (b .args .flags) k (partsAt (treeAt (r .nodes) (r .root)) (positionsOf s))) (w .put-window .ensures) (w .before .before .needs-start .ensures))
 
 pub add-within-spec : {M : Type 1} → statement M
 add-within-spec =
@@ -213,6 +215,7 @@ add-within-spec =
     slice-read-build
     holding-requires
     build-requires
+    needs-start-requires
     put-window-requires
     slice-aggregate-add-rule
     add-rule-requires

@@ -1,7 +1,7 @@
 -- `inside` meets its contract: the bounds of the end, then the length.
 use mathlib.Core.Path.{sym}
 use native.Mathlib.Omega.{arith}
-use Rattle.plain.specs.Answer.{windowsOf}
+use Rattle.pattern.specs.Windows.{windowsOf}
 use Rattle.plain.proofs.Windows.{outside, out-of-bounds, in-bounds}
 use Rattle.plain.proofs.run.inside.Statement.{statement}
 use Rattle.plain.proofs.run.inside.Tie as tie

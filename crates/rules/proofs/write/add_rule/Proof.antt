@@ -64,7 +64,7 @@ returns c =
     let start = place .before .before .before .before .before .before in
     let a = start .args in
     let p = start .pre in
-    added-is (now (a .words)) (a .id) (a .flags) (treeAt (now (a .nodes)) (a .root)) (p .0) (p .1) (p .2) (a .parts) (p .3)
+    added-is (now (a .words)) (a .id) (a .flags) (a .keeping) (treeAt (now (a .nodes)) (a .root)) (p .0) (p .1) (p .2) (a .parts) (p .3)
     (place .put-place .last .0) (gaps .put-gaps .last .0) (takers .put-takers .last .0) (openers .put-openers .last .0) (lates .put-lates .last .0)
     (c .before .before .put-counts .last .0)
     (place .put-place .ensures) (gaps .put-gaps .ensures) (takers .put-takers .ensures) (openers .put-openers .ensures) (lates .put-lates .ensures)

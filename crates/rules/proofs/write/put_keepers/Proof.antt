@@ -19,7 +19,7 @@ returns c =
     let put = c .before .before in
     let new = put .before .before in
     let a = new .before .before .args in
-    keepers-is (a .n) (a .more) (a .leftmost) (new .new-keepers .result) (now (a .words)) (put .merge-row .last .0) (new .new-keepers .ensures) (put .merge-row .ensures)
+    keepers-is (a .n) (a .more) (a .keeping) (new .new-keepers .result) (now (a .words)) (put .merge-row .last .0) (new .new-keepers .ensures) (put .merge-row .ensures)
 
 pub put-keepers-spec : {M : Type 1} → statement M
 put-keepers-spec = tie.close (tie.spec new-keepers-requires merge-row-requires same-length returns)

@@ -35,7 +35,7 @@ returns c =
     let ids = singles .before .before .before .before in
     let place = ids .before .before in
     let a = place .before .before .before .args in
-    place-is (a .rules) (a .n) (a .more) (a .id) (place .place-of .result) (a .single) (a .leftmost) (now (a .words)) (ids .put-number .last .0) (singles .put-digits .last .0)
+    place-is (a .rules) (a .n) (a .more) (a .id) (place .place-of .result) (a .single) (a .leftmost) (a .keeping) (now (a .words)) (ids .put-number .last .0) (singles .put-digits .last .0)
     (leftmosts .put-digits2 .last .0) (owners .put-owners .last .0) (keepers .put-keepers .last .0) (place .place-of .ensures .1) (ids .put-number .ensures) (singles .put-digits .ensures)
     (leftmosts .put-digits2 .ensures) (owners .put-owners .ensures) (keepers .put-keepers .ensures)
 

@@ -5,13 +5,15 @@ use denote.Ref.{now}
 use lib.Count.{trailingZeros}
 use mir.Syntax.{w64}
 use mir.Val.{Fits}
+use Rattle.steps.specs.Invariants.{windowHas}
 use Rattle.steps.proofs.Carrying.{digit, falls, at-least-one}
-use Rattle.steps.proofs.Sifting.{SiftLeft, sift-none, sift-turn, sift-done}
+use Rattle.table.specs.Layout.{windowedOf}
+use Rattle.steps.proofs.Sifting.{SiftLeft, sift-none, sift-turn, sift-done, low, is-asked, inside, windowed-pass, others-pass}
 use Rattle.steps.proofs.windows.sift_all.Statement.{statement}
 use Rattle.steps.proofs.windows.sift_all.Tie as tie
 
 abbrev Inv-loop : tie.InvT-loop
-Inv-loop rules left₀ end words found₀ left found = SiftLeft words end rules left found
+Inv-loop rules left₀ end words found₀ left found = SiftLeft (windowedOf words) (inside words end) rules left found
 
 abbrev μ-loop : tie.MeasureT-loop
 μ-loop rules left₀ end words found₀ left found = left
@@ -19,7 +21,8 @@ abbrev μ-loop : tie.MeasureT-loop
 loop-holds : tie.Need-loop-holds Inv-loop μ-loop
 loop-holds c =
     let s = c .before in
-    sift-none (now (s .args .words)) (s .args .end) (s .args .rules) (s .args .left) (s .fits .rules .fits) (s .fits .left .fits) (s .pre .1)
+    let t = now (s .args .words) in
+    sift-none (windowedOf t) (inside t (s .args .end)) (others-pass t (s .args .end)) (s .args .rules) (s .args .left) (s .fits .rules .fits) (s .fits .left .fits) (s .pre .1)
 
 digit-fits : (z : ℕ) → z < 64 → Fits w64 z
 digit-fits z h = record { fits = omega arith }
@@ -40,13 +43,16 @@ loop-again : tie.Need-loop-again Inv-loop μ-loop
 loop-again c =
     let l = c .before .before .loop in
     let a = c .before .before .before .before .args in
-    sift-turn (now (a .words)) (a .end) (a .rules) (l .left) (l .found) (c .sift .result) (l .inv) (c .before .loop-test .taken) (c .sift .ensures)
+    let t = now (a .words) in
+    let some = c .before .loop-test .taken in
+    sift-turn (windowedOf t) (inside t (a .end)) (l .inv) some (windowHas t (trailingZeros 64 (l .left)) (a .end))
+    (windowed-pass t (a .end) (trailingZeros 64 (l .left)) (low _ _ (l .inv) some) (is-asked _ _ (l .inv) some)) (c .sift .ensures)
 
 returns : tie.Need-returns Inv-loop μ-loop
 returns c =
     let l = c .before .loop in
     let a = c .before .before .before .args in
-    sift-done (now (a .words)) (a .end) (a .rules) (l .left) (l .found) (l .inv) (c .loop-test .left)
+    sift-done (windowedOf (now (a .words))) (inside (now (a .words)) (a .end)) (l .inv) (c .loop-test .left)
 
 pub sift-all-spec : {M : Type 1} → statement M
 sift-all-spec =

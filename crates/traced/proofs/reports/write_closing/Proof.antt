@@ -1,6 +1,6 @@
 -- `traced::reports::write_closing` meets its contract: the held pairs, then those that need the
 -- end.
-use mathlib.Core.Path.{_≡_, ap, _∙_}
+use mathlib.Core.Path.{_≡_, ap, ap₂, _∙_}
 use mathlib.Core.Bool.{Bool}
 use mathlib.Core.List.{List}
 use Prim.Native.Nat.{ℕ, _*_, _^_, _<_, _≤_}
@@ -13,14 +13,15 @@ use Rattle.table.specs.Gaps.{unsettled, atEnd}
 use Rattle.table.specs.Automaton.{automaton, single}
 use Rattle.table.proofs.Test.{passes}
 use Rattle.steps.specs.Step.{endsNewly, rulesWhere, windowed}
-use Rattle.steps.proofs.TableSets.{number-on}
+use Rattle.steps.proofs.TableSets.{set-on, number-on}
 use Rattle.steps.proofs.Sifting.{window-is}
-use Rattle.stream.specs.Byte.{heldTest, endTest}
+use Rattle.lengths.specs.Long.{longIn}
+use Rattle.stream.specs.Byte.{heldTest}
 use Rattle.stream.proofs.Bounds.{rules-few}
 use Rattle.stream.proofs.Accepting.{pending-rules}
 use Rattle.stream.proofs.Runs.{alone}
 use Rattle.traced.specs.declared.Traced.{Traced}
-use Rattle.traced.specs.Byte.{endStart}
+use Rattle.traced.specs.Byte.{endLong, endStart}
 use Rattle.traced.specs.Calls.{Lists, lists, space}
 use Rattle.traced.specs.Invariants.{stateOf}
 use Rattle.traced.proofs.Delivering.{starts-small}
@@ -39,7 +40,7 @@ module _ (c : tie.After-in-window2) where
   abbrev start : tie.Start
   start =
       let i = c .before .before .before .before .before .before in
-      i .before .before .before .before
+      i .before .before .before .before .before .before
 
   abbrev table : List ℕ
   table = now (start .args .words)
@@ -47,21 +48,36 @@ module _ (c : tie.After-in-window2) where
   long : tableWords ≤ length table
   long = passes table (start .pre .0) .long
 
-  abbrev ends-late : ℕ → Bool
-  ends-late = let s = start .args .s in endsNewly (automaton table) (atEnd (s .last)) (unionOf (s .live) (s .held)) unsettled (s .live)
+  -- the positions that count
+  abbrev counts : List ℕ
+  counts = let a = start .args in longIn (automaton table) (a .s .live) (now (a .live)) (a .s .taken)
 
-  found-is : c .in-window2 .result ≡ rulesWhere (automaton table) (endTest (automaton table) (start .args .s))
+  abbrev waits : List ℕ
+  waits = let a = start .args in longIn (automaton table) (a .s .held) (now (a .held)) (a .s .taken)
+
+  abbrev ends-late : (live held : List ℕ) → ℕ → Bool
+  ends-late live held = endsNewly (automaton table) (atEnd (start .args .s .last)) (unionOf live held) unsettled live
+
+  found-is : c .in-window2 .result ≡ rulesWhere (automaton table) (endLong (automaton table) (state start))
   found-is =
-      window-is table ends-late (start .args .s .taken) long
-      (c .before .closing .ensures ∙ number-on table (rulesWhere (automaton table) ends-late) long) (c .in-window2 .ensures)
+      let live = c .before .before .before .long-in in
+      let held = c .before .before .long-in2 in
+      window-is table (ends-late counts waits) (start .args .s .taken) long
+      (c .before .closing .ensures ∙ number-on table (rulesWhere (automaton table) (ends-late (live .result) (held .result))) long
+      ∙ ap₂ (λ (l h : List ℕ). rulesWhere (automaton table) (ends-late l h)) (live .ensures ∙ set-on table counts long) (held .ensures ∙ set-on table waits long)) (c .in-window2 .ensures)
 
-  kept-is : c .before .before .in-window .result ≡ rulesWhere (automaton table) (heldTest (automaton table) (start .args .s))
+  abbrev earlier-window : tie.After-in-window
+  earlier-window = c .before .before .before .before
+
+  abbrev earlier : tie.After-before-last
+  earlier = earlier-window .before
+
+  kept-is : earlier-window .in-window .result ≡ rulesWhere (automaton table) (heldTest (automaton table) (start .args .s))
   kept-is =
       let w = automaton table in
       let s = start .args .s in
-      let earlier = c .before .before .before .before-last in
-      window-is table (on (s .pending)) (earlier .result) long (pending-rules w s (start .pre .1) (small start)) (c .before .before .in-window .ensures)
-      ∙ ap (λ (e : ℕ). rulesWhere w (windowed w (on (s .pending)) e)) (earlier .ensures)
+      window-is table (on (s .pending)) (earlier .before-last .result) long (pending-rules w s (start .pre .1) (small start)) (earlier-window .in-window .ensures)
+      ∙ ap (λ (e : ℕ). rulesWhere w (windowed w (on (s .pending)) e)) (earlier .before-last .ensures)
 
   few : automaton table .rules ≤ 64
   few = rules-few table (passes table (start .pre .0) .rules)
@@ -81,6 +97,12 @@ before-last-requires c κs = tt
 
 in-window-requires : tie.Need-in-window-requires
 in-window-requires c κs = tt
+
+long-in-requires : tie.Need-long-in-requires
+long-in-requires c κs = tt
+
+long-in-requires-2 : tie.Need-long-in-requires-2
+long-in-requires-2 c κs = tt
 
 closing-requires : tie.Need-closing-requires
 closing-requires c κs = tt
@@ -105,15 +127,15 @@ write-two-requires c κs =
     let a = s .args in
     let t = table o in
     let w = automaton t in
-    let earlier = o .before .before .before .before-last in (
+    let before = earlier o .before-last in (
       s .pre .0,
       record { single-is = c .before .before .before .before .before .singles .ensures ∙ number-on t (rulesWhere w (single w)) (long o); leftmost-is = flags (k .before); first-small = s .pre .2 },
       s .pre .3,
       starts-small (a .s .taken) (k .end-starts .ensures) (end-under w (state s)) (s .pre .2),
       alone w (heldTest w (a .s)) (kept-is o),
-      alone w (endTest w (a .s)) (found-is o),
-      closing-room w (few o) (state s) (o .before .before .in-window .result) (o .in-window2 .result) (k .before .leftmosts .result) (kept-is o) (found-is o) (flags (k .before))
-          (earlier .result) (earlier .ensures) (k .end-starts .result) (k .end-starts .ensures) _ (twice s),
+      alone w (endLong w (state s)) (found-is o),
+      closing-room w (few o) (state s) (earlier-window o .in-window .result) (o .in-window2 .result) (k .before .leftmosts .result) (kept-is o) (found-is o) (flags (k .before))
+          (before .result) (before .ensures) (k .end-starts .result) (k .end-starts .ensures) _ (twice s),
     )
 
 same-length : tie.Need-same-length
@@ -142,9 +164,9 @@ returns c =
     let k = found (back .before .before) in
     let o = k .before .before in
     let s = start o in
-    let earlier = o .before .before .before .before-last in
-    ended (automaton (table o)) (few o) (state s) (o .before .before .in-window .result) (o .in-window2 .result) (k .before .leftmosts .result) (kept-is o) (found-is o) (flags (k .before))
-    (earlier .result) (earlier .ensures) (k .end-starts .result) (k .end-starts .ensures) (back .before .write-two .ensures)
+    let before = earlier o .before-last in
+    ended (automaton (table o)) (few o) (state s) (earlier-window o .in-window .result) (o .in-window2 .result) (k .before .leftmosts .result) (kept-is o) (found-is o) (flags (k .before))
+    (before .result) (before .ensures) (k .end-starts .result) (k .end-starts .ensures) (back .before .write-two .ensures)
 
 pub write-closing-spec : {M : Type 1} → statement M
 write-closing-spec =
@@ -152,6 +174,8 @@ write-closing-spec =
     (tie.spec
     before-last-requires
     in-window-requires
+    long-in-requires
+    long-in-requires-2
     closing-requires
     in-window-requires-2
     leftmosts-requires

@@ -14,8 +14,8 @@ use Rattle.table.proofs.Test.{passes}
 use Rattle.steps.specs.Step.{steppedStarts}
 use Rattle.steps.proofs.Carrying.{list-on}
 use Rattle.stream.specs.Byte.{nextLive}
-use Rattle.traced.specs.Byte.{keeping}
-use Rattle.traced.specs.Invariants.{zeros, liveNext}
+use Rattle.traced.specs.Byte.{keeping, liveNext}
+use Rattle.traced.specs.Invariants.{zeros}
 use Rattle.traced.proofs.Carrying.{stepped-none, neither, empty-if}
 use Rattle.traced.proofs.scan.carry_live.Statement.{statement}
 use Rattle.traced.proofs.scan.carry_live.Tie as tie

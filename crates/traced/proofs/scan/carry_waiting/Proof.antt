@@ -16,8 +16,8 @@ use Rattle.table.proofs.Test.{passes}
 use Rattle.steps.specs.Step.{steppedStarts, startAt}
 use Rattle.steps.proofs.Carrying.{list-on}
 use Rattle.stream.specs.Byte.{nextHeld}
-use Rattle.traced.specs.Byte.{keeping}
-use Rattle.traced.specs.Invariants.{zeros, heldNext, pairsNext, RuleStarts}
+use Rattle.traced.specs.Byte.{keeping, heldNext, pairsNext}
+use Rattle.traced.specs.Invariants.{zeros, RuleStarts}
 use Rattle.traced.proofs.Carrying.{stepped-none, pairs-are, pairs-none, neither, none-if}
 use Rattle.traced.proofs.scan.carry_waiting.Statement.{statement}
 use Rattle.traced.proofs.scan.carry_waiting.Tie as tie

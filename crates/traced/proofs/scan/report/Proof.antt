@@ -15,12 +15,12 @@ use Rattle.sets.specs.Set.{on, count}
 use Rattle.table.specs.Gaps.{unsettled}
 use Rattle.table.specs.Automaton.{Automaton, automaton}
 use Rattle.table.proofs.Test.{passes}
-use Rattle.steps.specs.Step.{ends, rulesWhere, windowed, startAt}
-use Rattle.stream.specs.Byte.{lateTest, ownTest, runReports}
+use Rattle.steps.specs.Step.{rulesWhere, startAt}
+use Rattle.stream.specs.Byte.{runReports}
 use Rattle.stream.proofs.Bounds.{rules-few}
 use Rattle.traced.specs.declared.Starts.{Starts}
 use Rattle.traced.specs.declared.Traced.{Traced}
-use Rattle.traced.specs.Byte.{Report, given, ownStart, nextStarts, byteReports}
+use Rattle.traced.specs.Byte.{Report, given, lateLong, ownLong, ownStart, nextStarts, byteReports}
 use Rattle.traced.specs.Calls.{Lists, lists, space}
 use Rattle.traced.specs.Invariants.{stateOf, Wrote}
 use Rattle.traced.proofs.Delivering.{late-alone, own-alone, due-is, late-room, own-room, gone, delivered-full, delivered-gone}
@@ -37,32 +37,25 @@ few : (c : tie.Start) → automaton (now (c .args .words)) .rules ≤ 64
 few c = rules-few (now (c .args .words)) (passes (now (c .args .words)) (c .pre .0 .table) .rules)
 
 abbrev begun : tie.After-own-rules → tie.Start
-begun c = let i = c .before .before .before .before .before .before in i .before
+begun c = let i = c .before .before .before .before .before .before in i .before .before
 
 -- the words of the rules that end
-late-is : (c : tie.After-own-rules) → c .before .before .late-rules .result ≡ rulesWhere (automaton (now (begun c .args .words))) (lateTest (automaton (now (begun c .args .words))) (begun c .args .s) (begun c .args .byte))
+late-is : (c : tie.After-own-rules) → c .before .before .late-rules .result ≡ rulesWhere (automaton (now (begun c .args .words))) (lateLong (automaton (now (begun c .args .words))) (begun c .args .s) (now (begun c .args .live)) (begun c .args .byte))
 late-is c = c .before .before .late-rules .ensures
 
-own-is : (c : tie.After-own-rules) → c .own-rules .result ≡ rulesWhere (automaton (now (begun c .args .words))) (ownTest (automaton (now (begun c .args .words))) (begun c .args .s) (begun c .args .byte))
-own-is c =
-    let w = automaton (now (begun c .args .words)) in
-    c .own-rules .ensures
-    ∙ ap₂ (λ (n : List ℕ) (e : ℕ). rulesWhere w (windowed w (ends w unsettled n) e)) (begun c .pre .0 .next-is) (add-one (begun c .args .s .taken))
+own-is : (c : tie.After-own-rules) → c .own-rules .result ≡ rulesWhere (automaton (now (begun c .args .words))) (ownLong (automaton (now (begun c .args .words))) (begun c .args .s) (now (begun c .args .live)) (begun c .args .byte))
+own-is c = c .own-rules .ensures
 
 late-rules-requires : tie.Need-late-rules-requires
 late-rules-requires c κs =
-    let c-start = c .before .before .before .before in
+    let c-start = c .before .before .before .before .before in
     (c-start .pre .0 .table, c-start .pre .0 .gates-are)
-
-add-own-rules : tie.Need-add-own-rules
-add-own-rules c =
-    let c-start = c .before .before .before .before .before .before in
-    omega (arith, c-start .pre .2)
 
 own-rules-requires : tie.Need-own-rules-requires
 own-rules-requires c κs =
-    let c-start = c .before .before .before .before .before .before in
-    (c-start .pre .0 .table, c-start .pre .0 .gates-are)
+    let back = c .before .before .before .before .before .before in
+    let p = back .before .pre in
+    (p .0 .table, p .0 .gates-are, p .0 .next-is, p .2)
 
 -- the marks of a state fit their word
 small : (c : tie.Start) → c .args .s .reported < 2 ^ 64
@@ -231,7 +224,6 @@ report-spec =
     tie.close
     (tie.spec
     late-rules-requires
-    add-own-rules
     own-rules-requires
     shortest-requires
     too-many-requires

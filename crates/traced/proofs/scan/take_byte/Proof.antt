@@ -109,13 +109,13 @@ left-waiting-requires : tie.Need-left-waiting-requires
 left-waiting-requires c κs =
     let back = c .before .before .before .before .before .before in
     let further = back .before .before .before .before .before .before in
-    let c-start = further .before .before .before .before in
+    let c-start = further .before .before .before .before .before in
     passes (now (c-start .args .words)) (c-start .pre .0) .long
 
 -- where the reports are about to be written
 module _ (c : tie.After-left-waiting) where
   abbrev stepped-at : tie.After-step
-  stepped-at = c .before .before .before .before .before
+  stepped-at = c .before .before .before .before .before .before
 
   abbrev start : tie.Start
   start = begun stepped-at
@@ -273,14 +273,14 @@ add-t32 c =
     let a = start o .args in
     next-fits (a .y .stream .taken) (length (now (a .block))) (a .y .at) (start o .pre .4) (inside o)
 
-add-t53 : tie.Need-add-t53
-add-t53 c =
+add-t54 : tie.Need-add-t54
+add-t54 c =
     let o = waited (given-at (c .before .before)) in
     let a = start o .args in
     at-fits (a .y .at) (length (now (a .block))) (inside o) (block-short (length (now (a .block))) (start o .good .1 .1 .1 .1 .0 .1))
 
-add-t51 : tie.Need-add-t51
-add-t51 c =
+add-t52 : tie.Need-add-t52
+add-t52 c =
     let e = c .before .before .before in
     let r = given-at e in
     let b = start (waited r) in
@@ -322,7 +322,7 @@ returns-4 c =
       r .report .ensures .0,
       offered-taken (automaton (now (a .words))) (state b) (a .first) (now (a .block)) (a .y) (lent b) (b .pre .2)
           (r .report .result .full) (r .report .result .reports) (r .report .result .reported) (r .report .result .some) (r .report .result .waits) _ _ (r .report .ensures .1) (e .if3 .left)
-          (inside o) (stepped-at o .step .result .turns) (turns-are (stepped-at o)) (o .before .before .if2 .left) _
+          (inside o) (stepped-at o .step .result .turns) (turns-are (stepped-at o)) (o .before .before .before .if2 .left) _
           (λ i. record {
             live = next-is o i;
             held = o .left-waiting .ensures .0 i;
@@ -374,8 +374,8 @@ take-byte-spec =
     same-length-4
     returns-3
     add-t32
-    add-t53
-    add-t51
+    add-t54
+    add-t52
     same-length-5
     same-length-6
     same-length-7

@@ -1,0 +1,2 @@
+-- The laws of lengths: Long (word by word, and the whole set).
+pub mod Long
