@@ -76,6 +76,9 @@ extern "C" {
 /* How many bytes a stream may have. */
 #define WATCHER_MAX_STREAM UINT64_C(1099511627775)
 
+/* The largest end offset of a rule whose matches may end anywhere. */
+#define WATCHER_NO_END UINT64_MAX
+
 /* Flags of a rule, with Hyperscan's values; combine them with |. */
 #define WATCHER_FLAG_CASELESS 1u
 #define WATCHER_FLAG_DOTALL 2u
@@ -144,15 +147,33 @@ watcher_error_t watcher_empty(uint64_t *table, size_t table_words);
 watcher_error_t watcher_test(const uint64_t *table, size_t table_words);
 
 /*
- * Adds a rule. *place is 0, or for a refusal from 6 on where the fault lies in
- * the pattern: the first byte of the faulty token, or the pattern's length for a
- * fault known only at its end. An accepted rule ends all open streams of the
- * table: a state is refused with WATCHER_BAD_STATE while the counts of rules and
- * positions differ, its own and the table's. An addition may need 2 MiB of stack.
+ * Adds a rule. *place is 0, or for a fault of the pattern where it lies: the first
+ * byte of the faulty token, or the pattern's length for a fault known only at its
+ * end. An accepted rule ends all open streams of the table: a state is refused with
+ * WATCHER_BAD_STATE while the counts of rules and positions differ, its own and the
+ * table's. An addition may need 2 MiB of stack.
  */
 watcher_error_t watcher_add(uint64_t *table, size_t table_words, uint32_t id,
                             uint32_t flags, const uint8_t *pattern,
                             size_t pattern_length, size_t *place);
+
+/*
+ * Adds a rule with windows, Hyperscan's min_offset, max_offset and min_length: only
+ * matches count that end from lowest to highest, both included, and are at least
+ * shortest bytes long. 0, WATCHER_NO_END and 0 leave them out; without any of them
+ * the call is watcher_add. A lowest above highest is refused with
+ * WATCHER_BAD_WINDOW, after WATCHER_LONG_PATTERN and before the pattern is read, with
+ * *place 0. An end offset is reported once some match up to it is known that counts;
+ * with WATCHER_FLAG_SINGLEMATCH the first of these alone.
+ *
+ * A length is measured from a start. So a shortest above 0, also 1, makes the table
+ * need streams with starts, as watcher_needs_starts tells. The starts that such a
+ * rule reports are 0 all the same without WATCHER_FLAG_SOM_LEFTMOST.
+ */
+watcher_error_t watcher_add_within(uint64_t *table, size_t table_words, uint32_t id,
+                                   uint32_t flags, uint64_t lowest, uint64_t highest,
+                                   uint64_t shortest, const uint8_t *pattern,
+                                   size_t pattern_length, size_t *place);
 
 /*
  * Opens a stream on the table. A refusal with WATCHER_NO_TABLE leaves a closed
@@ -205,8 +226,8 @@ watcher_error_t watcher_close(const uint64_t *table, size_t table_words,
 uint32_t watcher_busy(const uint64_t *state, size_t state_words);
 
 /*
- * 1 if a rule of the table reports starts, so that its streams are those with
- * starts; else 0, also for words that are no table.
+ * 1 if a rule of the table reports starts or has a smallest length, so that its
+ * streams are those with starts; else 0, also for words that are no table.
  */
 uint32_t watcher_needs_starts(const uint64_t *table, size_t table_words);
 
@@ -300,9 +321,8 @@ watcher_error_t watcher_matched_number(const uint8_t *tail, size_t tail_length,
  * bytes what a table with that rule alone, scanned and closed, reports, in the same
  * order. offsets has the end offsets; starts has, for a rule with
  * WATCHER_FLAG_SOM_LEFTMOST, the smallest start whose match is known then, else 0.
- * Windows: only matches that end from lowest to highest and are at least
- * shortest bytes long count; 0, UINT64_MAX and 0 leave them out. Refusals come in
- * the order 2, 24, 5, 26, 28, 20, then those of the pattern; each list needs
+ * lowest, highest and shortest are the windows of watcher_add_within. Refusals come
+ * in the order 2, 24, 5, 26, 28, 20, then those of the pattern; each list needs
  * WATCHER_PLAIN_SLOTS slots. It takes some milliseconds, and may need 2 MiB of
  * stack.
  */

@@ -2,7 +2,7 @@
  * Two rules, their table to a card and back, a stream in two blocks with a match across the border,
  * the second in slices of work, and what was reported. Then a rule that reports where its matches
  * start, on a stream with starts: of a match that began in an earlier block the start measured from
- * this one is below zero.
+ * this one is below zero. Then rules with windows, of which one has a smallest length.
  */
 #include <stdio.h>
 #include <string.h>
@@ -23,15 +23,29 @@ static int refused(const char *what, watcher_error_t number) {
   return 1;
 }
 
-static int add(uint32_t id, uint32_t flags, const char *pattern) {
-  size_t place;
-  watcher_error_t number = watcher_add(table, WATCHER_TABLE_WORDS, id, flags,
-                                       (const uint8_t *)pattern, strlen(pattern), &place);
+/* Shows why a rule was refused, if it was. */
+static int added(uint32_t id, watcher_error_t number, size_t place) {
   if (number != WATCHER_SUCCESS) {
     printf("rule %u refused %u at %zu\n", (unsigned)id, (unsigned)number, place);
     return 1;
   }
   return 0;
+}
+
+static int add(uint32_t id, uint32_t flags, const char *pattern) {
+  size_t place;
+  watcher_error_t number = watcher_add(table, WATCHER_TABLE_WORDS, id, flags,
+                                       (const uint8_t *)pattern, strlen(pattern), &place);
+  return added(id, number, place);
+}
+
+static int add_within(uint32_t id, uint64_t lowest, uint64_t highest, uint64_t shortest,
+                      const char *pattern) {
+  size_t place;
+  watcher_error_t number =
+      watcher_add_within(table, WATCHER_TABLE_WORDS, id, 0, lowest, highest, shortest,
+                         (const uint8_t *)pattern, strlen(pattern), &place);
+  return added(id, number, place);
 }
 
 static void show(size_t reports) {
@@ -140,23 +154,16 @@ static int scan_for_starts(const char *block) {
   return 0;
 }
 
-static int with_starts(void) {
-  static const char *blocks[] = {"xa", "b", "c"};
+/* Scans these blocks on a stream with starts, and closes it. */
+static int show_blocks(const char *const *blocks, size_t count) {
   size_t reports;
-  watcher_empty(table, WATCHER_TABLE_WORDS);
-  if (add(3, WATCHER_FLAG_SOM_LEFTMOST, "abc") || add(4, 0, "b")) {
-    return 1;
-  }
-  if (add(5, WATCHER_FLAG_SOM_LEFTMOST, "bc$")) {
-    return 1;
-  }
   printf("starts %u\n", (unsigned)watcher_needs_starts(table, WATCHER_TABLE_WORDS));
   watcher_error_t number =
       watcher_trace_open(table, WATCHER_TABLE_WORDS, trace, WATCHER_TRACE_WORDS);
   if (number != WATCHER_SUCCESS) {
     return refused("opening", number);
   }
-  for (size_t i = 0; i < sizeof blocks / sizeof *blocks; i++) {
+  for (size_t i = 0; i < count; i++) {
     if (scan_for_starts(blocks[i])) {
       return 1;
     }
@@ -172,6 +179,30 @@ static int with_starts(void) {
   return 0;
 }
 
+static int with_starts(void) {
+  static const char *const blocks[] = {"xa", "b", "c"};
+  watcher_empty(table, WATCHER_TABLE_WORDS);
+  if (add(3, WATCHER_FLAG_SOM_LEFTMOST, "abc") || add(4, 0, "b")) {
+    return 1;
+  }
+  if (add(5, WATCHER_FLAG_SOM_LEFTMOST, "bc$")) {
+    return 1;
+  }
+  return show_blocks(blocks, sizeof blocks / sizeof *blocks);
+}
+
+static int within(void) {
+  static const char *const blocks[] = {"foo01bbb23bar bar"};
+  watcher_empty(table, WATCHER_TABLE_WORDS);
+  if (add_within(6, 10, 15, 0, "foo.*bar") || add_within(2, 0, WATCHER_NO_END, 3, "b+")) {
+    return 1;
+  }
+  if (!add_within(1, 15, 10, 0, "bar")) {
+    return 1;
+  }
+  return show_blocks(blocks, 1);
+}
+
 int main(void) {
-  return ends() || with_starts();
+  return ends() || with_starts() || within();
 }

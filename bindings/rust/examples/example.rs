@@ -1,16 +1,17 @@
 //! Two rules, their table to a card and back, a stream in two blocks with a match across the
 //! border, the second in slices of work, and what was reported. Then a rule that reports where its
 //! matches start: of a match that began in an earlier block the start measured from this one is
-//! below zero.
+//! below zero. Then rules with windows, of which one has a smallest length.
 
 use watcher::{
-    Error, Flags, Lists, Report, Stream, Table, BLOCKS, BLOCK_BYTES, MAX_BYTE_UNITS, NO_LIMIT,
-    REPORT_SLOTS,
+    Error, Flags, Lists, Report, Stream, Table, Windows, BLOCKS, BLOCK_BYTES, MAX_BYTE_UNITS,
+    NO_LIMIT, REPORT_SLOTS,
 };
 
 fn main() -> Result<(), Error> {
     ends()?;
-    with_starts()
+    with_starts()?;
+    within()
 }
 
 fn ends() -> Result<(), Error> {
@@ -42,11 +43,27 @@ fn with_starts() -> Result<(), Error> {
     table.add(3, Flags::LEFTMOST_START, b"abc")?;
     table.add(4, Flags::NONE, b"b")?;
     table.add(5, Flags::LEFTMOST_START, b"bc$")?;
+    show_blocks(&table, &[Some(b"xa"), Some(b"b"), Some(b"c"), None])
+}
+
+fn within() -> Result<(), Error> {
+    let mut table = Table::new();
+    table.add_within(6, Flags::NONE, Windows::new().ends_from(10).ends_to(15), b"foo.*bar")?;
+    table.add_within(2, Flags::NONE, Windows::new().at_least(3), b"b+")?;
+    let none = Windows::new().ends_from(15).ends_to(10);
+    if let Err(error) = table.add_within(1, Flags::NONE, none, b"bar") {
+        println!("rule 1 refused {} at {}", error.number(), error.place());
+    }
+    show_blocks(&table, &[Some(b"foo01bbb23bar bar"), None])
+}
+
+/// Scans these blocks, closes where there is none, and shows each report with its start.
+fn show_blocks(table: &Table, blocks: &[Option<&[u8]>]) -> Result<(), Error> {
     println!("starts {}", u32::from(table.needs_starts()));
-    let mut stream = Stream::open(&table);
+    let mut stream = Stream::open(table);
     let (mut ids, mut offsets) = ([0; REPORT_SLOTS], [0; REPORT_SLOTS]);
     let (mut starts, mut relatives) = ([0; REPORT_SLOTS], [0; REPORT_SLOTS]);
-    for block in [Some(&b"xa"[..]), Some(b"b"), Some(b"c"), None] {
+    for &block in blocks {
         let lists = Lists {
             ids: &mut ids,
             offsets: &mut offsets,

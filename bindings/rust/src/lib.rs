@@ -13,8 +13,8 @@
 //!
 //! A table is 128 KiB and a stream 136 bytes. A stream borrows its table, so that no rule can be
 //! added while a stream is open on it. On a table with a rule that reports starts
-//! ([`Flags::LEFTMOST_START`]) a stream keeps [`TRACE_WORDS`] words on the heap; nothing else here
-//! uses the heap.
+//! ([`Flags::LEFTMOST_START`]) or has a smallest length ([`Windows::at_least`]) a stream keeps
+//! [`TRACE_WORDS`] words on the heap; nothing else here uses the heap.
 //!
 //! [`raw`] has the library's functions over slices, for words of any content; [`sys`] declares
 //! them. [`Refusal`] tells each number in words.
@@ -45,7 +45,7 @@ pub const VERSION: &str = env!("CARGO_PKG_VERSION");
 /// assert_eq!(watcher::Table::new().words().len(), watcher::TABLE_WORDS);
 /// ```
 pub const TABLE_WORDS: usize = 16_384;
-/// The words of a stream's state, where no rule of its table reports starts.
+/// The words of a stream's state, where no rule of its table needs starts.
 ///
 /// ```
 /// let table = watcher::Table::new();
@@ -268,14 +268,24 @@ pub fn matched_bytes<'b>(
 /// ```
 pub const PLAIN_LOG: usize = 1024;
 
-/// The windows of a rule: only matches that end from `lowest` to `highest` and are at least
-/// `shortest` bytes long count.
+/// The windows of a rule: only matches that end from `lowest` to `highest`, both included, and are
+/// at least `shortest` bytes long count. They are Hyperscan's `min_offset`, `max_offset` and
+/// `min_length`. [`Table::add_within`] and [`plain`] take them.
 ///
 /// ```
-/// use watcher::{plain, Error, Flags, Windows};
+/// use watcher::{Flags, Stream, Table, Windows, NO_LIMIT};
 ///
-/// let none = Windows { lowest: 15, highest: 10, shortest: 0 };
-/// assert_eq!(plain(b"a", Flags::NONE, none, b"a", |_| ()), Err(Error::BadWindow));
+/// let mut table = Table::new();
+/// table.add_within(7, Flags::NONE, Windows::new().ends_from(10).ends_to(15), b"foo.*bar")?;
+/// let ends = |log: &[u8]| -> Result<Vec<u64>, watcher::Error> {
+///     let mut ends = vec![];
+///     Stream::open(&table).scan(NO_LIMIT, log, |report| ends.push(report.end))?;
+///     Ok(ends)
+/// };
+/// assert_eq!(ends(b"foobar")?, []);
+/// assert_eq!(ends(b"foo0123bar")?, [10]);
+/// assert_eq!(ends(b"foo0123456789bar")?, []);
+/// # Ok::<(), watcher::Error>(())
 /// ```
 #[derive(Clone, Copy, Debug, PartialEq, Eq)]
 pub struct Windows {
@@ -287,6 +297,12 @@ pub struct Windows {
     pub shortest: u64,
 }
 
+impl Default for Windows {
+    fn default() -> Windows {
+        Windows::NONE
+    }
+}
+
 impl Windows {
     /// No window: every match counts.
     ///
@@ -294,6 +310,66 @@ impl Windows {
     /// assert_eq!(watcher::Windows::NONE.shortest, 0);
     /// ```
     pub const NONE: Windows = Windows { lowest: 0, highest: u64::MAX, shortest: 0 };
+
+    /// No window yet: [`Windows::NONE`], to be narrowed.
+    ///
+    /// ```
+    /// assert_eq!(watcher::Windows::new(), watcher::Windows::NONE);
+    /// ```
+    pub const fn new() -> Windows {
+        Windows::NONE
+    }
+
+    /// Matches end at this offset or later.
+    ///
+    /// ```
+    /// use watcher::{plain, Flags, Windows};
+    ///
+    /// let mut ends = vec![];
+    /// plain(b"a", Flags::NONE, Windows::new().ends_from(2), b"aaa", |hit| ends.push(hit.end))?;
+    /// assert_eq!(ends, [2, 3]);
+    /// # Ok::<(), watcher::Error>(())
+    /// ```
+    pub const fn ends_from(self, lowest: u64) -> Windows {
+        Windows { lowest, ..self }
+    }
+
+    /// Matches end at this offset or before. A largest end offset below the smallest is refused
+    /// with [`Error::BadWindow`] where the windows are used.
+    ///
+    /// ```
+    /// use watcher::{plain, Error, Flags, Windows};
+    ///
+    /// let mut ends = vec![];
+    /// plain(b"a", Flags::NONE, Windows::new().ends_to(2), b"aaa", |hit| ends.push(hit.end))?;
+    /// assert_eq!(ends, [1, 2]);
+    /// let none = Windows::new().ends_from(15).ends_to(10);
+    /// assert_eq!(plain(b"a", Flags::NONE, none, b"a", |_| ()), Err(Error::BadWindow));
+    /// # Ok::<(), watcher::Error>(())
+    /// ```
+    pub const fn ends_to(self, highest: u64) -> Windows {
+        Windows { highest, ..self }
+    }
+
+    /// Matches are at least so many bytes long. A length is measured from a start, so the streams
+    /// of a table in which a rule has a smallest length above 0 keep starts.
+    ///
+    /// ```
+    /// use watcher::{plain, Flags, Windows};
+    ///
+    /// let mut ends = vec![];
+    /// plain(b"a+", Flags::NONE, Windows::new().at_least(2), b"aaa", |hit| ends.push(hit.end))?;
+    /// assert_eq!(ends, [2, 3]);
+    /// # Ok::<(), watcher::Error>(())
+    /// ```
+    pub const fn at_least(self, shortest: u64) -> Windows {
+        Windows { shortest, ..self }
+    }
+
+    /// The three numbers as [`raw`] takes them.
+    const fn numbers(self) -> (u64, u64, u64) {
+        (self.lowest, self.highest, self.shortest)
+    }
 }
 
 /// A match that the plain matcher reports: its end offset and, for a rule with
@@ -334,8 +410,7 @@ pub fn plain(
     mut found: impl FnMut(Match),
 ) -> Result<(), Error> {
     let (mut offsets, mut starts) = ([0; PLAIN_LOG], [0; PLAIN_LOG]);
-    let windows = (windows.lowest, windows.highest, windows.shortest);
-    let answer = raw::plain(pattern, flags.0, windows, log, &mut offsets, &mut starts);
+    let answer = raw::plain(pattern, flags.0, windows.numbers(), log, &mut offsets, &mut starts);
     Error::check(answer.number, answer.place)?;
     for (&start, &end) in starts.iter().zip(&offsets).take(answer.reports) {
         found(Match { start, end });
@@ -452,16 +527,48 @@ impl Table {
         Error::check(number, place)
     }
 
-    /// Whether a rule of the table reports starts, so that its streams keep them.
+    /// Adds a rule with windows; without any of them this is [`add`](Table::add). A refused rule
+    /// leaves the table as it was.
     ///
     /// ```
-    /// use watcher::{Flags, Table};
+    /// use watcher::{Error, Flags, Stream, Table, Windows, NO_LIMIT};
+    ///
+    /// let mut table = Table::new();
+    /// let windows = Windows::new().ends_from(3).ends_to(6).at_least(3);
+    /// table.add_within(7, Flags::NONE, windows, b"b.*b")?;
+    /// let mut ends = vec![];
+    /// Stream::open(&table).scan(NO_LIMIT, b"bbxbbbb", |report| ends.push(report.end))?;
+    /// assert_eq!(ends, [4, 5, 6]);
+    /// let none = Windows::new().ends_from(15).ends_to(10);
+    /// assert_eq!(table.add_within(8, Flags::NONE, none, b"a"), Err(Error::BadWindow));
+    /// # Ok::<(), Error>(())
+    /// ```
+    pub fn add_within(
+        &mut self,
+        id: u32,
+        flags: Flags,
+        windows: Windows,
+        pattern: &[u8],
+    ) -> Result<(), Error> {
+        let (number, place) =
+            raw::add_within(&mut self.words, id, flags.0, windows.numbers(), pattern);
+        Error::check(number, place)
+    }
+
+    /// Whether a rule of the table needs starts, since it reports them or has a smallest length, so
+    /// that the table's streams keep them.
+    ///
+    /// ```
+    /// use watcher::{Flags, Table, Windows};
     ///
     /// let mut table = Table::new();
     /// table.add(1, Flags::NONE, b"slack")?;
     /// assert!(!table.needs_starts());
+    /// let mut other = table.clone();
     /// table.add(2, Flags::LEFTMOST_START, b"state=.*")?;
     /// assert!(table.needs_starts());
+    /// other.add_within(2, Flags::NONE, Windows::new().at_least(9), b"state=.*")?;
+    /// assert!(other.needs_starts());
     /// # Ok::<(), watcher::Error>(())
     /// ```
     pub fn needs_starts(&self) -> bool {

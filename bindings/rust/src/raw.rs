@@ -69,6 +69,39 @@ pub fn add(table: &mut [u64], id: u32, flags: u32, pattern: &[u8]) -> (u32, usiz
     (number, place)
 }
 
+/// Adds a rule with windows: the smallest and the largest end offset and the smallest length. The
+/// number and the place.
+///
+/// ```
+/// let mut table = *watcher::Table::new().words();
+/// assert_eq!(watcher::raw::add_within(&mut table, 7, 0, (10, 15, 0), b"foo.*bar"), (0, 0));
+/// assert_eq!(watcher::raw::add_within(&mut table, 8, 0, (15, 10, 0), b"a**"), (26, 0));
+/// ```
+pub fn add_within(
+    table: &mut [u64],
+    id: u32,
+    flags: u32,
+    (lowest, highest, shortest): (u64, u64, u64),
+    pattern: &[u8],
+) -> (u32, usize) {
+    let mut place = 0;
+    let number = unsafe {
+        sys::watcher_add_within(
+            table.as_mut_ptr(),
+            table.len(),
+            id,
+            flags,
+            lowest,
+            highest,
+            shortest,
+            pattern.as_ptr(),
+            pattern.len(),
+            &mut place,
+        )
+    };
+    (number, place)
+}
+
 /// Opens a stream. The number.
 ///
 /// ```
@@ -163,8 +196,8 @@ pub fn busy(state: &[u64]) -> u32 {
     unsafe { sys::watcher_busy(state.as_ptr(), state.len()) }
 }
 
-/// 1 if a rule of the table reports starts, so that its streams are those with starts; else 0, also
-/// for words that are no table.
+/// 1 if a rule of the table reports starts or has a smallest length, so that its streams are those
+/// with starts; else 0, also for words that are no table.
 ///
 /// ```
 /// use watcher::{raw, Flags, Table};

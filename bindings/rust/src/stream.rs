@@ -1,5 +1,5 @@
 //! A stream on a table. Its state is fifteen words, or 591 with starts where a rule of the table
-//! reports them: the table is asked once, when the stream is opened.
+//! needs them: the table is asked once, when the stream is opened.
 
 use std::iter::repeat;
 
@@ -107,7 +107,7 @@ enum State {
 }
 
 impl<'t> Stream<'t> {
-    /// Opens a stream, at offset 0. It keeps starts if a rule of the table reports them.
+    /// Opens a stream, at offset 0. It keeps starts if a rule of the table needs them.
     ///
     /// ```
     /// let table = watcher::Table::new();
@@ -127,7 +127,7 @@ impl<'t> Stream<'t> {
     /// The stream with this state, as [`state`](Stream::state) once gave it: [`STATE_WORDS`] words,
     /// or [`TRACE_WORDS`] with starts; any other number of words is [`Error::ShortState`]. The
     /// state is tested at each call. One with starts is good on every table; one without is
-    /// refused where a rule of the table reports starts.
+    /// refused where a rule of the table needs starts.
     ///
     /// ```
     /// use watcher::{Error, Flags, Stream, Table, NO_LIMIT};

@@ -40,6 +40,29 @@ extern "C" {
         place: *mut usize,
     ) -> u32;
 
+    /// Adds a rule with windows.
+    ///
+    /// ```
+    /// let (mut t, pattern, mut place) = (*watcher::Table::new().words(), b"ab+", 9);
+    /// let number = unsafe {
+    ///     let (t, n, p) = (t.as_mut_ptr(), t.len(), pattern.as_ptr());
+    ///     watcher::sys::watcher_add_within(t, n, 7, 0, 10, 15, 3, p, pattern.len(), &mut place)
+    /// };
+    /// assert_eq!((number, place), (0, 0));
+    /// ```
+    pub fn watcher_add_within(
+        table: *mut u64,
+        table_words: usize,
+        id: u32,
+        flags: u32,
+        lowest: u64,
+        highest: u64,
+        shortest: u64,
+        pattern: *const u8,
+        pattern_length: usize,
+        place: *mut usize,
+    ) -> u32;
+
     /// Opens a stream.
     ///
     /// ```
@@ -128,7 +151,7 @@ extern "C" {
     /// ```
     pub fn watcher_busy(state: *const u64, state_words: usize) -> u32;
 
-    /// Whether a rule of the table reports starts.
+    /// Whether a rule of the table reports starts or has a smallest length.
     ///
     /// ```
     /// let table = watcher::Table::new();

@@ -3,7 +3,9 @@
 
 use std::mem::size_of;
 
-use watcher::{raw, Error, Flags, Lists, Stream, Table, NO_LIMIT, STATE_WORDS, TRACE_WORDS};
+use watcher::{
+    plain, raw, Error, Flags, Lists, Stream, Table, Windows, NO_LIMIT, STATE_WORDS, TRACE_WORDS,
+};
 
 const BLOCKS: [&[u8]; 4] = [b"xa", b"b", b"cab\nab", b"\n"];
 
@@ -121,4 +123,94 @@ fn starts_do_not_depend_on_the_blocks() {
         wanted.iter().filter(|report| report.id == 3).map(|it| (it.start, it.end)).collect();
     assert_eq!(starts, [(1, 3), (1, 4), (4, 6), (7, 9)]);
     assert!(wanted.iter().all(|report| report.id == 3 || report.start == 0));
+}
+
+/// The rules with a smallest length of these flags, beside one without.
+fn with_lengths(flags: Flags) -> Table {
+    let mut table = Table::new();
+    table.add_within(3, flags, Windows::new().at_least(2), br"b|ab\b|b$").unwrap();
+    table.add_within(4, flags, Windows::new().at_least(2).ends_to(5), b"[ab]+").unwrap();
+    table.add(9, Flags::NONE, b"b").unwrap();
+    table
+}
+
+#[test]
+fn additions_without_windows_are_one() {
+    let (mut plain, mut within) = (Table::new(), Table::new());
+    for (id, pattern) in [(7, &b"foo.*bar"[..]), (2, b"a+"), (2, b"b"), (8, b"a**")] {
+        let one = plain.add(id, Flags::NONE, pattern);
+        assert_eq!(one, within.add_within(id, Flags::NONE, Windows::default(), pattern));
+        assert!(plain.words() == within.words());
+    }
+}
+
+#[test]
+fn a_smallest_length_needs_starts_and_end_offsets_need_none() {
+    let add = |windows| {
+        let mut table = Table::new();
+        table.add_within(1, Flags::NONE, windows, b"a+").unwrap();
+        Stream::open(&table).state().len()
+    };
+    assert_eq!(add(Windows::new().ends_from(1).ends_to(9)), STATE_WORDS);
+    assert_eq!(add(Windows::new().at_least(0)), STATE_WORDS);
+    assert_eq!(add(Windows::new().at_least(1)), TRACE_WORDS);
+}
+
+#[test]
+fn a_state_without_starts_is_refused_where_a_rule_has_a_smallest_length() {
+    let table = with_lengths(Flags::NONE);
+    let mut words = [0; STATE_WORDS];
+    assert_eq!(raw::open(table.words(), &mut words), 0);
+    let mut stream = Stream::resume(&table, &words).unwrap();
+    assert_eq!(stream.scan(NO_LIMIT, b"ab", |_| ()), Err(Error::BadState));
+    assert_eq!(stream.close(|_| ()), Err(Error::BadState));
+}
+
+#[test]
+fn lengths_do_not_depend_on_the_blocks() {
+    let log = b"ab-bbab\n";
+    for (flags, second) in [(Flags::NONE, 0), (Flags::LEFTMOST_START, 5)] {
+        let table = with_lengths(flags);
+        for size in 1..=log.len() {
+            let (mut stream, mut found) = (Stream::open(&table), vec![]);
+            for block in log.chunks(size) {
+                let mut rest = block;
+                while !rest.is_empty() {
+                    let taken = stream.scan(NO_LIMIT, rest, |report| found.push(report)).unwrap();
+                    rest = &rest[taken.taken..];
+                }
+            }
+            stream.close(|report| found.push(report)).unwrap();
+            let of = |id: u32| found.iter().filter(move |report| report.id == id);
+            let threes: Vec<(u64, u64)> = of(3).map(|report| (report.start, report.end)).collect();
+            assert_eq!(threes, [(0, 2), (second, 7)], "blocks of {size} bytes");
+            let fours: Vec<u64> = of(4).map(|report| report.end).collect();
+            assert_eq!(fours, [2, 5], "blocks of {size} bytes");
+            assert_eq!(of(9).count(), 4);
+        }
+    }
+}
+
+#[test]
+fn the_plain_matcher_takes_the_same_windows() {
+    let log = b"xbbbaab abab\nab";
+    for lowest in 0..4 {
+        for highest in [2, 5, 11, 15, u64::MAX] {
+            for shortest in 0..5 {
+                let windows = Windows::new().ends_from(lowest).ends_to(highest).at_least(shortest);
+                let (mut table, mut scanned, mut asked) = (Table::new(), vec![], vec![]);
+                let (flags, pattern) = (Flags::LEFTMOST_START, br"a*b+\b|b$|[ab]{2}");
+                let added = table.add_within(1, flags, windows, pattern);
+                let answer = plain(pattern, flags, windows, log, |hit| asked.push(hit));
+                assert_eq!(added, answer);
+                let mut stream = Stream::open(&table);
+                let mut note = |report: watcher::Report| {
+                    scanned.push(watcher::Match { start: report.start, end: report.end })
+                };
+                stream.scan(NO_LIMIT, log, &mut note).unwrap();
+                stream.close(&mut note).unwrap();
+                assert_eq!(scanned, asked, "{windows:?}");
+            }
+        }
+    }
 }
