@@ -2,7 +2,7 @@
 //! nothing, and calls on them, compared with the interpreter of table words: the answer, and every
 //! lent word afterwards. States start anywhere in a stream, also past 65,535 and 4,294,967,296
 //! bytes and at its limit, with live and held positions, marks and held pairs, after a byte of any
-//! kind.
+//! kind. Rules have windows near these offsets, and smallest lengths where states keep starts.
 //! Each scan is made a second time, with no smaller an allowance. Case i of a run depends on the
 //! seed and on i alone.
 //! States that keep starts have them at all their positions and pairs, now and then one too many or
@@ -12,6 +12,7 @@
 use std::collections::BTreeMap;
 
 use corpus::Starts;
+use reference::windows::Windows;
 use words::calls::{Answer, Calls, Traces, NO_LIMIT};
 use words::gaps::{FIRST_GAPS, FOLLOW_GAPS, LAST_GAPS};
 use words::interpreter::Interpreter;
@@ -339,14 +340,23 @@ fn opened<F: Form, I: Form>(calls: &F, interpreter: &I, lent: &mut Lent) -> Resu
 fn added<C: Calls>(calls: &C, rng: &mut Rng, lent: &mut Lent) -> Result<u32, String> {
     let flags = if rng.once_in(8) { LEFTMOST_START } else { *rng.pick(&[0, 1, 4, 8]) };
     let (id, pattern) = (rng.below(40) as u32, pattern(rng));
+    let lengths = rng.once_in(2);
+    let windows = rng.once_in(2).then(|| windows(rng, lengths));
     let mut wanted = lent.clone();
-    let answer = calls.add(&mut lent.table, id, flags, &pattern);
-    same("addition", answer, Interpreter.add(&mut wanted.table, id, flags, &pattern))?;
+    let answer = match windows {
+        Some(windows) => calls.add_within(&mut lent.table, id, flags, windows, &pattern),
+        None => calls.add(&mut lent.table, id, flags, &pattern),
+    };
+    let within = windows.unwrap_or(Windows::NONE);
+    let by_words = Interpreter.add_within(&mut wanted.table, id, flags, within, &pattern);
+    same("addition", answer, by_words)?;
     if *lent != wanted {
         let other: Vec<usize> =
             (0..lent.table.len()).filter(|&at| lent.table[at] != wanted.table[at]).collect();
         let pattern = pattern.escape_ascii();
-        return Err(format!("the addition of {pattern} left other words at {other:?}"));
+        return Err(format!(
+            "the addition of {pattern}, {within:?}, left other words at {other:?}"
+        ));
     }
     needed(calls, &lent.table)?;
     Ok(answer.0)
@@ -416,7 +426,8 @@ fn damaged(rng: &mut Rng, traced: bool) -> Damaged {
         let flags = if rng.once_in(often) { LEFTMOST_START | flags & !SINGLE_MATCH } else { flags };
         let id = rng.below(9) as u32;
         let pattern = if rng.once_in(2) { pattern(rng) } else { rng.pick(&SHORT).to_vec() };
-        Interpreter.add(&mut table, id, flags, &pattern);
+        let lengths = rng.once_in(often);
+        Interpreter.add_within(&mut table, id, flags, windows(rng, lengths), &pattern);
     }
     if rng.once_in(4) {
         made_up(rng, &mut table);
@@ -475,7 +486,39 @@ fn made_up(rng: &mut Rng, words: &mut [u64]) {
         words[at] = *rng.pick(&[0, 1, any]);
     }
     if rng.once_in(2) {
-        words_in(&[Region::Kept, Region::Unused]).into_iter().for_each(|at| words[at] = rng.word());
+        words_in(&[Region::Lengths]).into_iter().for_each(|at| words[at] = length(rng));
+    }
+    if rng.once_in(2) {
+        words_in(&[Region::Unused]).into_iter().for_each(|at| words[at] = rng.word());
+    }
+}
+
+/// Mostly no end offsets, else some about the offsets at which states stand, which may fall; and a
+/// smallest length if there may be one.
+fn windows(rng: &mut Rng, lengths: bool) -> Windows {
+    let mut windows = Windows::NONE;
+    let any = rng.word() % MAX_STREAM;
+    let near = *rng.pick(&[0, 0, 65_500, 4_294_967_260, MAX_STREAM - 50, any]);
+    if rng.once_in(8) {
+        windows.smallest_end = near + rng.word() % 60;
+    }
+    if rng.once_in(8) {
+        windows.largest_end = near + rng.word() % 60;
+    }
+    if lengths && rng.once_in(2) {
+        windows.smallest_length = length(rng);
+    }
+    windows
+}
+
+/// A smallest length: mostly one that some matches have and others have not.
+fn length(rng: &mut Rng) -> u64 {
+    match rng.below(10) {
+        0 => 0,
+        1..=6 => 1 + rng.word() % 3,
+        7 => 1 + rng.word() % 30,
+        8 => rng.word() % MAX_STREAM,
+        _ => u64::MAX - rng.word() % 30,
     }
 }
 
@@ -484,6 +527,7 @@ fn change(rng: &mut Rng, words: &mut [u64], of: Region) -> (usize, u64) {
     let at = if rng.once_in(4) { *rng.pick(&words_in(&[of])) } else { in_use(rng, words, of) };
     let was = words[at];
     words[at] = match rng.below(10) {
+        _ if of == Region::Lengths && rng.once_in(2) => length(rng),
         0 | 1 => 0,
         2 | 3 => was ^ 1 << (position(rng, words) % 64),
         4 => was.wrapping_add(1),
@@ -510,6 +554,7 @@ fn in_use(rng: &mut Rng, words: &[u64], of: Region) -> usize {
             let place = rng.below(6);
             *rng.pick(&[WINDOWED, lowest(place), highest(place)])
         }
+        Region::Lengths => *rng.pick(&[LENGTHS, shortest(p), shortest(p)]),
         Region::Keepers => KEEPERS + q,
         Region::Takers => takers(byte(rng, words)) + q,
         Region::Follows => follow(rng.below(FOLLOW_GAPS), p) + q,

@@ -9,10 +9,11 @@
 //! the busy figure asked after each byte and after the closing. Each cut is made a second time by work
 //! allowances: all the rest of the log is offered with just the units that the next part costs and,
 //! before each single byte, with one unit too few. Where streams keep starts, the plain rule reports
-//! them.
+//! them, and the pattern stands a third time, with a smallest length of two bytes.
 
 use corpus::Case;
-use reference::refusal::{LEFTMOST_START, LINE_MODE, SINGLE_MATCH};
+use reference::refusal::{least_space, LEFTMOST_START, LINE_MODE, SINGLE_MATCH};
+use reference::windows::Windows;
 
 use crate::definition::add_all;
 use crate::play::play;
@@ -197,10 +198,14 @@ fn one_pattern<W: Watcher, R: PatternReader>(
 ) -> Result<(), String> {
     let traced = watcher.traces();
     let leftmost = if traced { LEFTMOST_START } else { 0 };
-    let additions = vec![
+    let mut additions = vec![
         Addition::new(2, flags | leftmost, pattern),
         Addition::new(1, flags | SINGLE_MATCH, pattern),
     ];
+    if traced && watcher.has_windows() {
+        let windows = Windows { smallest_length: 2, ..Windows::NONE };
+        additions.push(Addition { windows, ..Addition::new(3, flags, pattern) });
+    }
     let (rules, answers) = add_all(&additions);
     let reading = reader.read(flags, pattern);
     let positions = rules.first().map_or(0, |rule| rule.positions);
@@ -215,7 +220,8 @@ fn one_pattern<W: Watcher, R: PatternReader>(
     }
     count.accepted += 1;
     let scenario = |log: &[u8]| {
-        let steps = all_streams(log.len()).join(&Step::Again);
+        let space = least_space(rules.len());
+        let steps = all_streams(log.len(), space).join(&Step::Again);
         Scenario { additions: additions.clone(), log: log.to_vec(), steps, traced }
     };
     let mut all = Case { name: String::new(), origin: String::new(), lines: Vec::new() };
@@ -237,11 +243,11 @@ fn one_pattern<W: Watcher, R: PatternReader>(
 }
 
 /// For each cut of so many bytes the steps of a caller who cuts by blocks, and of one who cuts by
-/// allowances.
-fn all_streams(length: usize) -> Vec<Vec<Step>> {
+/// allowances, both with this report space.
+fn all_streams(length: usize, space: usize) -> Vec<Vec<Step>> {
     let gaps = length.saturating_sub(1);
     let cuts = (0..1usize << gaps).map(|choice| parts(length, choice));
-    cuts.flat_map(|parts| [by_blocks(&parts), by_allowances(&parts)]).collect()
+    cuts.flat_map(|parts| [by_blocks(&parts, space), by_allowances(&parts, space)]).collect()
 }
 
 /// The lengths of the parts of so many bytes, cut behind those whose bit is set in `choice`.
@@ -263,23 +269,24 @@ fn are_single(parts: &[usize]) -> bool {
 }
 
 /// Blocks as long as the parts, and the closing.
-fn by_blocks(parts: &[usize]) -> Vec<Step> {
+fn by_blocks(parts: &[usize], space: usize) -> Vec<Step> {
     let figure = are_single(parts).then_some(Step::Figure);
     let mut steps = Vec::new();
     for &bytes in parts {
-        steps.push(Step::Offer { bytes, space: 4, allowance: Allowance::NoLimit });
+        steps.push(Step::Offer { bytes, space, allowance: Allowance::NoLimit });
         steps.extend(figure.clone());
     }
-    steps.push(Step::Close { ids: 4, offsets: 4 });
+    steps.push(Step::Close { ids: space, offsets: space });
     steps.extend(figure);
     steps
 }
 
 /// The whole rest with an allowance for each part in turn; what the report space did not let through,
 /// and the closing.
-fn by_allowances(parts: &[usize]) -> Vec<Step> {
+fn by_allowances(parts: &[usize], space: usize) -> Vec<Step> {
     let rest = usize::MAX;
-    let slice = |allowance| Step::Scan { bytes: rest, ids: 4, offsets: 4, allowance, drop: false };
+    let slice =
+        |allowance| Step::Scan { bytes: rest, ids: space, offsets: space, allowance, drop: false };
     let mut steps = Vec::new();
     for &part in parts {
         if are_single(parts) {
@@ -287,7 +294,7 @@ fn by_allowances(parts: &[usize]) -> Vec<Step> {
         }
         steps.push(slice(Allowance::Cost(part)));
     }
-    steps.push(Step::Offer { bytes: rest, space: 4, allowance: Allowance::NoLimit });
-    steps.push(Step::Close { ids: 4, offsets: 4 });
+    steps.push(Step::Offer { bytes: rest, space, allowance: Allowance::NoLimit });
+    steps.push(Step::Close { ids: space, offsets: space });
     steps
 }

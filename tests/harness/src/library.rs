@@ -1,6 +1,7 @@
 //! The library behind the calls over words, through the functions that its static library exports.
 
 use reference::calls::Columns;
+use reference::windows::Windows;
 use watcher::{raw, Lists};
 use words::calls::{Answer, Calls, Traces};
 use words::card::Card;
@@ -25,6 +26,18 @@ impl Calls for Library {
 
     fn add(&self, table: &mut [u64], id: u32, flags: u32, pattern: &[u8]) -> (u32, usize) {
         raw::add(table, id, flags, pattern)
+    }
+
+    fn add_within(
+        &self,
+        table: &mut [u64],
+        id: u32,
+        flags: u32,
+        windows: Windows,
+        pattern: &[u8],
+    ) -> (u32, usize) {
+        let Windows { smallest_end, largest_end, smallest_length } = windows;
+        raw::add_within(table, id, flags, (smallest_end, largest_end, smallest_length), pattern)
     }
 
     fn open(&self, table: &[u64], state: &mut [u64]) -> u32 {

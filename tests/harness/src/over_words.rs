@@ -2,6 +2,7 @@
 
 use corpus::Kept;
 use reference::calls::Columns;
+use reference::windows::Windows;
 use words::calls::{self, Calls, Traces};
 use words::layout::*;
 
@@ -32,6 +33,25 @@ impl<C: Calls> Watcher for OverWords<C> {
 
     fn add(&self, table: &mut Vec<u64>, id: u32, flags: u32, pattern: &[u8]) -> (u32, usize) {
         self.0.add(table, id, flags, pattern)
+    }
+
+    /// A rule without windows is added by the call that has none.
+    fn add_within(
+        &self,
+        table: &mut Vec<u64>,
+        id: u32,
+        flags: u32,
+        windows: Windows,
+        pattern: &[u8],
+    ) -> Option<(u32, usize)> {
+        if windows == Windows::NONE {
+            return Some(self.add(table, id, flags, pattern));
+        }
+        Some(self.0.add_within(table, id, flags, windows, pattern))
+    }
+
+    fn has_windows(&self) -> bool {
+        true
     }
 
     fn open(&self, table: &Vec<u64>) -> (u32, Self::Stream) {

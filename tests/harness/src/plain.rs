@@ -11,7 +11,7 @@ use reference::reader;
 use reference::refusal::{Refusal, MAX_PATTERN, SINGLE_MATCH};
 use reference::tree::Node;
 use watcher::raw;
-use watcher::{Flags, Stream, Table, NO_LIMIT};
+use watcher::{Error, Flags, Stream, Table, Windows, NO_LIMIT};
 
 use crate::definition::add_all;
 use crate::exhaustive::{all_logs, all_patterns, Alphabet};
@@ -162,7 +162,6 @@ fn lengthen(question: &mut Question) {
     }
     question.log = question.log.iter().copied().cycle().take(LOG).collect();
     question.flags &= KNOWN;
-    question.windows = NO_WINDOWS;
     question.slots = (SPACE, SPACE);
 }
 
@@ -179,20 +178,23 @@ fn ask_long(question: &Question, count: &mut Count) -> Result<(), String> {
         let reports = offsets.into_iter().zip(starts).take(answer.reports).collect();
         return scan_too(question, &reports, count);
     }
-    match Table::new().add(1, Flags(*flags), pattern) {
+    match added(question, &mut Table::new()) {
         Err(error) if (error.number(), error.place()) == (answer.number, answer.place) => Ok(()),
         other => Err(format!("{question:?}\n  plain: {answer:?}\n  table: {other:?}")),
     }
 }
 
-/// The same rule by table, scan and closing, which know no windows.
+/// The rule, in a table.
+fn added(question: &Question, table: &mut Table) -> Result<(), Error> {
+    let Question { pattern, flags, windows: (lowest, highest, shortest), .. } = question;
+    let windows = Windows::new().ends_from(*lowest).ends_to(*highest).at_least(*shortest);
+    table.add_within(1, Flags(*flags), windows, pattern)
+}
+
+/// The same rule by table, scan and closing.
 fn scan_too(question: &Question, reports: &Reports, count: &mut Count) -> Result<(), String> {
-    if question.windows != NO_WINDOWS {
-        return Ok(());
-    }
     let mut table = Table::new();
-    let flags = Flags(question.flags);
-    table.add(1, flags, &question.pattern).map_err(|error| format!("{question:?}: {error}"))?;
+    added(question, &mut table).map_err(|error| format!("{question:?}: {error}"))?;
     let mut scanned = Reports::new();
     let mut stream = Stream::open(&table);
     stream

@@ -146,8 +146,8 @@ pub fn scenario(rng: &mut Rng) -> Scenario {
 }
 
 /// A scenario for this watcher: where its streams keep starts, about half the rules report them, and
-/// where it has windows, some rules have them. On streams that keep none a rule that reports starts is
-/// rare, since all calls are then refused.
+/// where it has windows, some rules have them. On streams that keep none a rule that reports starts
+/// or has a smallest length is rare, since all calls are then refused.
 pub fn scenario_for<W: Watcher>(watcher: &W, rng: &mut Rng) -> Scenario {
     let mut scenario = scenario(rng);
     scenario.traced = watcher.traces();
@@ -164,13 +164,14 @@ pub fn scenario_for<W: Watcher>(watcher: &W, rng: &mut Rng) -> Scenario {
             }
         }
         if watcher.has_windows() && rng.once_in(4) {
-            addition.windows = windows(rng, watcher.traces());
+            let lengths = rng.once_in(often);
+            addition.windows = windows(rng, lengths);
         }
     }
     scenario
 }
 
-/// Windows of any kind about the length of a log; a smallest length only where streams keep starts.
+/// Windows of any kind about the length of a log, with a smallest length if there may be one.
 fn windows(rng: &mut Rng, lengths: bool) -> Windows {
     let mut windows = Windows::NONE;
     if rng.once_in(2) {
@@ -179,7 +180,7 @@ fn windows(rng: &mut Rng, lengths: bool) -> Windows {
     if rng.once_in(2) {
         windows.largest_end = windows.smallest_end.saturating_sub(1) + rng.word() % 12;
     }
-    if lengths && rng.once_in(2) {
+    if lengths {
         windows.smallest_length = rng.word() % 5;
     }
     windows

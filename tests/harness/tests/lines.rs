@@ -11,6 +11,7 @@ use harness::exhaustive::LINES;
 use harness::over_words::OverWords;
 use harness::random;
 use reference::tree::{Assertion, Node};
+use reference::windows::Windows;
 use slipping::{Slipping, With};
 use words::calls::{Answer, Calls};
 use words::compiler::add_changed;
@@ -277,16 +278,23 @@ fn write(reports: &[(u32, u64)], ids: &mut [u32], offsets: &mut [u64], count: us
 }
 
 impl Slipping for Slip {
-    fn add(&self, table: &mut [u64], id: u32, flags: u32, pattern: &[u8]) -> (u32, usize) {
+    fn add(
+        &self,
+        table: &mut [u64],
+        id: u32,
+        flags: u32,
+        windows: Windows,
+        pattern: &[u8],
+    ) -> (u32, usize) {
         let (of, other) = match self {
             StartsOnce => (Assertion::LineStart, Assertion::Start),
             EndsOnce => (Assertion::LineEnd, Assertion::LastLine),
-            _ => return Interpreter.add(table, id, flags, pattern),
+            _ => return Interpreter.add_within(table, id, flags, windows, pattern),
         };
         if Interpreter.test(table) != 0 {
             return (1, 0);
         }
-        add_changed(table, id, flags, pattern, |tree| instead(tree, of, other))
+        add_changed(table, id, flags, windows, pattern, |tree| instead(tree, of, other))
     }
 
     fn scan(

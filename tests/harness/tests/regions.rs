@@ -8,6 +8,7 @@ use std::borrow::Cow;
 use std::ops::Range;
 
 use harness::damaged::run;
+use reference::windows::Windows;
 use slipping::{Slipping, With};
 use words::calls::Calls;
 use words::compiler::write_gates;
@@ -61,7 +62,6 @@ enum Adding {
     OpenersStay,
     LatesStay,
     LatesOfTheNewRuleAdded,
-    KeptCleared,
     UnusedCleared,
 }
 
@@ -144,9 +144,7 @@ impl Slipping for Testing {
             Testing::OwnersAreRules => table[owner(0)..owner(positions)].iter().all(|&a| a < rules),
             Testing::SinglesAreRules => (rules..64).all(|a| table[SINGLES] >> a & 1 == 0),
             Testing::OpenersAreZeroOrOne => table[opener(0)..=opener(255)].iter().all(|&w| w < 2),
-            Testing::UnusedIsZero => {
-                words_in(&[Region::Kept, Region::Unused]).iter().all(|&at| table[at] == 0)
-            }
+            Testing::UnusedIsZero => words_in(&[Region::Unused]).iter().all(|&at| table[at] == 0),
             Testing::IdsPastTheRulesRise => {
                 let used = table[id(0)..id(MAX_RULES)].iter().filter(|&&id| id != 0);
                 used.clone().zip(used.skip(1)).all(|(one, next)| one < next)
@@ -157,9 +155,16 @@ impl Slipping for Testing {
 }
 
 impl Slipping for Adding {
-    fn add(&self, table: &mut [u64], rule: u32, flags: u32, pattern: &[u8]) -> (u32, usize) {
+    fn add(
+        &self,
+        table: &mut [u64],
+        rule: u32,
+        flags: u32,
+        windows: Windows,
+        pattern: &[u8],
+    ) -> (u32, usize) {
         let old = table.to_vec();
-        let answer = Interpreter.add(table, rule, flags, pattern);
+        let answer = Interpreter.add_within(table, rule, flags, windows, pattern);
         if answer.0 == 0 {
             self.slip(&old, table, rule);
         }
@@ -206,7 +211,6 @@ impl Adding {
                     table[at] = table[at] & !bit | old[at] & bit;
                 }
             }
-            Adding::KeptCleared => each(Region::Kept, |at| table[at] = 0),
             Adding::UnusedCleared => each(Region::Unused, |at| table[at] = 0),
         }
     }
@@ -260,7 +264,6 @@ fn other_additions_are_found() {
         Adding::OpenersStay,
         Adding::LatesStay,
         Adding::LatesOfTheNewRuleAdded,
-        Adding::KeptCleared,
         Adding::UnusedCleared,
     ]);
 }

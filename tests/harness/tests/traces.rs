@@ -210,7 +210,9 @@ impl Slipping for Slip {
         let kept = state.to_vec();
         let number = Interpreter.trace_open(table, state);
         match self {
-            OpeningLeavesStarts => state[STATE_WORDS..].copy_from_slice(&kept[STATE_WORDS..]),
+            OpeningLeavesStarts if number != SHORT_STATE => {
+                state[STATE_WORDS..].copy_from_slice(&kept[STATE_WORDS..])
+            }
             RefusedOpeningLeavesState if number == 1 => state.copy_from_slice(&kept),
             ShortStateIsNotValid if number == SHORT_STATE => return 18,
             _ => {}
@@ -270,7 +272,7 @@ fn the_interpreter_agrees_with_itself() {
         assert!(calls > 20, "number {number} is too rare: {calls}");
     }
     assert!(count.alike > 5_000, "{} calls were made without starts too", count.alike);
-    for region in [Region::Leftmosts, Region::Keepers] {
+    for region in [Region::Leftmosts, Region::Keepers, Region::Windows, Region::Lengths] {
         let decided = count.decided.get(&region).copied().unwrap_or_default();
         assert!(decided > 20, "changed words of {region:?} decide too little: {decided}");
     }

@@ -6,10 +6,8 @@ mod slipping;
 
 use std::borrow::Cow;
 
-use corpus::{Line, Windows};
 use harness::corpus_run::run_folder;
 use harness::damaged::run;
-use harness::definition::{windows as read, written};
 use harness::over_words::OverWords;
 use harness::random;
 use harness::traced::Traced;
@@ -256,8 +254,8 @@ fn the_interpreter_agrees_with_itself() {
     }
     for (region, _) in REGIONS {
         let decided = count.decided.get(&region).copied().unwrap_or_default();
-        if [Region::Kept, Region::Unused].contains(&region) {
-            assert_eq!(decided, 0, "{region:?} words have no meaning");
+        if [Region::Lengths, Region::Unused].contains(&region) {
+            assert_eq!(decided, 0, "{region:?} words have no meaning without starts");
         } else {
             assert!(decided > 8, "changed words of {region:?} decide too little: {decided}");
         }
@@ -275,7 +273,7 @@ fn every_slip_is_found() {
 fn the_corpus() {
     let tally = run_folder(&OverWords(Interpreter), corpus::files::folder()).unwrap();
     assert!(tally.failures.is_empty(), "{}", tally.failures.join("\n"));
-    assert_eq!(tally.skipped, with_windows(), "cases with windows, which words have not");
+    assert_eq!(tally.skipped, 0);
     assert!(tally.passed >= 1_000);
 }
 
@@ -283,18 +281,8 @@ fn the_corpus() {
 fn the_corpus_with_starts() {
     let tally = run_folder(&Traced(OverWords(Interpreter)), corpus::files::folder()).unwrap();
     assert!(tally.failures.is_empty(), "{}", tally.failures.join("\n"));
-    assert_eq!(tally.skipped, with_windows(), "cases with windows, which words have not");
+    assert_eq!(tally.skipped, 0);
     assert!(tally.passed >= 1_000);
-}
-
-/// How many cases have an addition with windows.
-fn with_windows() -> usize {
-    let cases = corpus::files::cases(corpus::files::folder()).unwrap();
-    let has_windows = |line: &Line| match line {
-        Line::Rule { windows, .. } => written(&read(windows)) != Windows::default(),
-        _ => false,
-    };
-    cases.iter().filter(|case| case.lines.iter().any(has_windows)).count()
 }
 
 #[test]

@@ -5,10 +5,19 @@
 //! Left out because the meanings differ: `{,m}` and blanks in braces (PCRE2 10.42 reads bytes, or for
 //! escapes a fault), a brace after `\N`, what an outside matcher refuses, as Hyperscan does an
 //! assertion of the end inside a pattern, and with Hyperscan a rule that asks for the start of a line
-//! on a log that ends with a newline, after which a matcher of streams may take a line to start. What
-//! one side accepts and the other refuses is counted and shown, not judged: for PCRE2 a `?` or `+`
-//! behind a comment is the mark of the quantifier before it, `[\d-\E]` has a range and `[\d\E-a]` has
-//! none.
+//! on a log that ends with a newline, after which a matcher of streams may take a line to start.
+//!
+//! Hyperscan's extended parameters mean what windows mean: end offsets with both limits, and a
+//! length that some match of the end offset has. Three things differ. Hyperscan does not compile a
+//! rule of which no match can meet its windows, as `a` with a smallest length of 2; here it is
+//! accepted and silent, and such a rule is left out. A single-match rule reports here what is
+//! delivered first, so rules with an assertion that waits are compared without that flag. A start
+//! is here the smallest that is known when the pair falls, so streams in which a smaller one is
+//! known later are left out.
+//!
+//! What one side accepts and the other refuses is counted and shown, not judged: for PCRE2 a `?` or
+//! `+` behind a comment is the mark of the quantifier before it, `[\d-\E]` has a range and
+//! `[\d\E-a]` has none.
 
 mod pcre2;
 
@@ -257,6 +266,11 @@ struct Traced {
     windows: u64,
     inside: u64,
     single: u64,
+    /// Those of rules with a smallest length.
+    lengths: u64,
+    /// Streams with windows and starts.
+    both: u64,
+    both_reports: u64,
 }
 
 /// Streams of random rules, cut anywhere, with Hyperscan's leftmost starts, and with its smallest and
@@ -272,8 +286,13 @@ fn random_starts(seed: u64, cases: u64) -> Result<(), String> {
         count.accepted, count.compiled, count.starts, count.reports
     );
     println!(
-        "equal streams with windows: {} with {} end offsets inside, {} of single-match rules",
-        count.windows, count.inside, count.single
+        "equal streams with windows: {} with {} end offsets inside, {} of single-match rules, \
+         {} with a smallest length",
+        count.windows, count.inside, count.single, count.lengths
+    );
+    println!(
+        "equal streams with windows and starts: {} with {} starts",
+        count.both, count.both_reports
     );
     Ok(())
 }
@@ -295,7 +314,10 @@ fn one_traced(rng: &mut Rng, count: &mut Traced) -> Result<(), String> {
         Database::extended(rule.flags, &pattern, Extended::default(), Mode::Starts)
     {
         count.compiled += 1;
-        with_starts(&rule, &database, &log, &cuts, count)?;
+        if let Some(reports) = with_starts(&rule, &database, &log, &cuts)? {
+            count.starts += 1;
+            count.reports += reports;
+        }
     }
     let single = rng.once_in(4) && !waits(&rule.tree);
     let flags = if single { flags | SINGLE_MATCH } else { flags };
@@ -308,6 +330,14 @@ fn one_traced(rng: &mut Rng, count: &mut Traced) -> Result<(), String> {
     let Ok(rule) = check_within(&[], 1, flags, windows, &pattern) else { return Ok(()) };
     if let Some(database) = Database::extended(flags, &pattern, extended, Mode::Stream) {
         with_windows(&rule, &database, &log, &cuts, count)?;
+    }
+    let flags = flags & !SINGLE_MATCH | LEFTMOST_START;
+    let Ok(rule) = check_within(&[], 1, flags, windows, &pattern) else { return Ok(()) };
+    if let Some(database) = Database::extended(flags, &pattern, extended, Mode::Starts) {
+        if let Some(reports) = with_starts(&rule, &database, &log, &cuts)? {
+            count.both += 1;
+            count.both_reports += reports;
+        }
     }
     Ok(())
 }
@@ -349,15 +379,15 @@ fn waits(node: &Node) -> bool {
     }
 }
 
-/// The starts of a rule. Hyperscan gives the smallest start of all matches; so does the definition,
-/// but for a pair that falls before a smaller start is settled: such a stream is left out.
+/// The starts of a rule, inside its windows. Hyperscan gives the smallest start of all matches; so
+/// does the definition, but for a pair that falls before a smaller start is settled: such a stream
+/// is left out. How many reports were equal, if it was compared.
 fn with_starts(
     rule: &Rule,
     database: &Database,
     log: &[u8],
     cuts: &[&[u8]],
-    count: &mut Traced,
-) -> Result<(), String> {
+) -> Result<Option<u64>, String> {
     let list = ordered(std::slice::from_ref(rule), log);
     let mut ours: Vec<(u64, u64)> = list.iter().map(|pair| (pair.offset, pair.start)).collect();
     ours.sort_unstable();
@@ -369,18 +399,18 @@ fn with_starts(
         (0..log.len()).find(ends_there).map(|start| start as u64)
     };
     if ours.iter().any(|&(end, start)| smallest(end) != Some(start)) {
-        return Ok(());
+        return Ok(None);
     }
     let matches = database.matches(cuts);
     let mut theirs: Vec<(u64, u64)> = matches.iter().map(|m| (m.end, m.start)).collect();
     theirs.sort_unstable();
     theirs.dedup_by_key(|&mut (end, _)| end);
     if ours != theirs {
-        return Err(told(rule, log, &format!("{ours:?}, Hyperscan {theirs:?} of {matches:?}")));
+        let windows = rule.windows;
+        let difference = format!("{windows:?}: {ours:?}, Hyperscan {theirs:?} of {matches:?}");
+        return Err(told(rule, log, &difference));
     }
-    count.starts += 1;
-    count.reports += ours.len() as u64;
-    Ok(())
+    Ok(Some(ours.len() as u64))
 }
 
 /// The end offsets of a rule with windows; of a single-match rule the first alone.
@@ -405,5 +435,6 @@ fn with_windows(
     count.windows += 1;
     count.inside += ours.len() as u64;
     count.single += u64::from(rule.single_match());
+    count.lengths += u64::from(rule.windows.smallest_length > 0);
     Ok(())
 }

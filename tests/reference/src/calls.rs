@@ -425,14 +425,14 @@ impl Stream {
         start.filter(|_| kept == Kept::Live || after_newline)
     }
 
-    /// Does the rule need a start of what is kept?
+    /// Does the rule need a start of what is kept? A pair is held once it is known to be long
+    /// enough, so its start is only to be reported.
     fn is_needed(&self, kept: Kept, index: usize) -> bool {
         let of = |rule: &&Rule| (rule.from..rule.from + rule.positions).contains(&index);
-        let rule = match kept {
-            Kept::Pair => self.rules.get(index),
-            Kept::Live | Kept::Held => self.rules.iter().find(of),
-        };
-        rule.is_some_and(Rule::needs_starts)
+        match kept {
+            Kept::Pair => self.rules.get(index).is_some_and(Rule::leftmost_start),
+            Kept::Live | Kept::Held => self.rules.iter().find(of).is_some_and(Rule::needs_starts),
+        }
     }
 }
 

@@ -2,6 +2,7 @@
 //! owns, or 591 where it keeps starts.
 
 use reference::calls::Columns;
+use reference::windows::Windows;
 
 /// The allowance of a caller who sets no limit to a scan's work.
 pub const NO_LIMIT: u64 = u64::MAX;
@@ -29,6 +30,16 @@ pub trait Calls {
 
     /// The number and the place.
     fn add(&self, table: &mut [u64], id: u32, flags: u32, pattern: &[u8]) -> (u32, usize);
+
+    /// The same for a rule with windows.
+    fn add_within(
+        &self,
+        table: &mut [u64],
+        id: u32,
+        flags: u32,
+        windows: Windows,
+        pattern: &[u8],
+    ) -> (u32, usize);
 
     fn open(&self, table: &[u64], state: &mut [u64]) -> u32;
 

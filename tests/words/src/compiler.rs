@@ -3,6 +3,7 @@
 
 use reference::refusal::{MAX_PATTERN, MAX_POSITIONS as MOST_POSITIONS};
 use reference::tree::Node;
+use reference::windows::Windows;
 use reference::written::Form;
 use reference::{reader, written};
 
@@ -10,8 +11,14 @@ use crate::gaps::{numbered, Gap, FIRST_GAPS, FOLLOW_GAPS, INNER_GAPS, LAST_GAPS,
 use crate::layout::{self, *};
 
 /// Adds a rule to words that are a table. The number and the place.
-pub fn add(words: &mut [u64], id: u32, flags: u32, pattern: &[u8]) -> (u32, usize) {
-    add_changed(words, id, flags, pattern, |tree| tree)
+pub fn add(
+    words: &mut [u64],
+    id: u32,
+    flags: u32,
+    windows: Windows,
+    pattern: &[u8],
+) -> (u32, usize) {
+    add_changed(words, id, flags, windows, pattern, |tree| tree)
 }
 
 /// Adds a rule whose tree is another than its pattern's: for slips in what a pattern means.
@@ -19,6 +26,7 @@ pub fn add_changed(
     words: &mut [u64],
     id: u32,
     flags: u32,
+    windows: Windows,
     pattern: &[u8],
     change: impl Fn(Node) -> Node,
 ) -> (u32, usize) {
@@ -38,6 +46,9 @@ pub fn add_changed(
     if pattern.len() > MAX_PATTERN {
         return (5, 0);
     }
+    if windows.fall() {
+        return (26, 0);
+    }
     let tree = match reader::read(pattern, flags) {
         Ok(tree) => change(tree),
         Err(refusal) => return (refusal.number, refusal.place),
@@ -48,7 +59,7 @@ pub fn add_changed(
         return (17, pattern.len());
     }
     let form = written::write_out(&tree);
-    Writer { words, gaps: numbered(), from, to }.write(id, flags, &form);
+    Writer { words, gaps: numbered(), from, to }.write(id, flags, windows, &form);
     (0, 0)
 }
 
@@ -98,7 +109,7 @@ struct Writer<'w> {
 }
 
 impl Writer<'_> {
-    fn write(&mut self, id: u32, flags: u32, form: &Form) {
+    fn write(&mut self, id: u32, flags: u32, windows: Windows, form: &Form) {
         keep_old(self.words);
         for gap in 0..FOLLOW_GAPS {
             self.words[follow(gap, self.from)..follow(gap, self.to)].fill(0);
@@ -106,10 +117,8 @@ impl Writer<'_> {
         let place = self.new_place(u64::from(id));
         self.put_digit(SINGLES, place, flags & SINGLE_MATCH != 0);
         self.put_digit(LEFTMOSTS, place, flags & LEFTMOST_START != 0);
-        self.put_digit(WINDOWED, place, false);
-        self.put_number(lowest(0), place, 0);
-        self.put_number(highest(0), place, u64::MAX);
-        if flags & LEFTMOST_START != 0 {
+        self.put_windows(place, windows);
+        if flags & LEFTMOST_START != 0 || windows.smallest_length > 0 {
             (self.from..self.to).for_each(|p| put(self.words, KEEPERS, p));
         }
         self.words[owner(self.from)..owner(self.to)].fill(place as u64);
@@ -123,6 +132,19 @@ impl Writer<'_> {
         write_gates(self.words);
         self.words[RULES] += 1;
         self.words[POSITIONS] = self.to as u64;
+    }
+
+    /// Writes the end offsets by the rule's place, and the smallest length, or 0, for each position
+    /// from the rule's first on: those past its last are written again by the rules that get them.
+    fn put_windows(&mut self, place: usize, windows: Windows) {
+        let Windows { smallest_end, largest_end, smallest_length } = windows;
+        self.put_digit(WINDOWED, place, smallest_end > 0 || largest_end < u64::MAX);
+        self.put_number(lowest(0), place, smallest_end);
+        self.put_number(highest(0), place, largest_end);
+        self.words[shortest(self.from)..shortest(MAX_POSITIONS)].fill(smallest_length);
+        if smallest_length > 0 {
+            self.words[LENGTHS] = 1;
+        }
     }
 
     /// Makes room for a rule of this id: the rules from its place on move up by one, in their ids and as

@@ -1,6 +1,8 @@
 //! What table words mean to the calls. Every question is asked of one position, one rule or one
 //! byte at a time; nothing is computed for a whole set, and nothing is skipped.
 
+use reference::windows::Windows;
+
 use crate::calls::{Answer, Calls, NO_LIMIT};
 use crate::compiler;
 use crate::gaps::*;
@@ -62,8 +64,8 @@ impl Table<'_> {
     }
 
     /// What is held after one more byte, which may be the last: positions, and pairs at the offset
-    /// before it.
-    pub(crate) fn held(&self, state: &[u64], byte: u8) -> ([u64; 4], u64) {
+    /// before it, of the live positions that count there.
+    pub(crate) fn held(&self, state: &[u64], byte: u8, counted: &[u64]) -> ([u64; 4], u64) {
         if byte != b'\n' {
             return ([0; 4], 0);
         }
@@ -72,21 +74,23 @@ impl Table<'_> {
         if state[TAKEN] == 0 {
             return (self.reached(live, byte, START_OF_LAST, inside), 0);
         }
-        let pairs = self.newly(inside, live, between(side, Side::Newline), live);
+        let pairs = self.newly(inside, counted, between(side, Side::Newline), counted);
         (self.reached(live, byte, inside, inside), pairs)
     }
 
-    /// The rules, as a word, with a pair before one more byte that needs it.
-    pub(crate) fn late(&self, state: &[u64], byte: u8) -> u64 {
+    /// The rules, as a word, with a pair before one more byte that needs it, of the live positions
+    /// that count there.
+    pub(crate) fn late(&self, state: &[u64], byte: u8, counted: &[u64]) -> u64 {
         let gap = between(Side::in_state(state[SIDE]), Side::of(byte));
-        let waiting = set_of(|p| has(state, 0, p) && has(self.0, LATES, p));
-        self.newly(gap, &waiting, UNSETTLED, &state[..4])
+        let waiting = set_of(|p| has(counted, 0, p) && has(self.0, LATES, p));
+        self.newly(gap, &waiting, UNSETTLED, counted)
     }
 
-    /// The rules, as a word, with a pair at the stream's end that needs it.
-    pub(crate) fn ends_at_end(&self, state: &[u64]) -> u64 {
-        let positions = set_of(|p| has(state, 0, p) || has(state, HELD, p));
-        self.newly(at_end(Side::in_state(state[SIDE])), &positions, UNSETTLED, &state[..4])
+    /// The rules, as a word, with a pair at the stream's end that needs it, of these live and these
+    /// held positions.
+    pub(crate) fn ends_at_end(&self, state: &[u64], live: &[u64], held: &[u64]) -> u64 {
+        let positions = set_of(|p| has(live, 0, p) || has(held, 0, p));
+        self.newly(at_end(Side::in_state(state[SIDE])), &positions, UNSETTLED, live)
     }
 
     /// Does a position of the table keep a start, or a rule report one?
@@ -156,7 +160,7 @@ pub fn ends(words: &[u64], positions: &[u64], place: usize, gap: usize) -> bool 
 }
 
 /// The positions that pass a test.
-fn set_of(test: impl Fn(usize) -> bool) -> [u64; 4] {
+pub(crate) fn set_of(test: impl Fn(usize) -> bool) -> [u64; 4] {
     let mut set = [0; 4];
     (0..MAX_POSITIONS).filter(|&p| test(p)).for_each(|p| put(&mut set, 0, p));
     set
@@ -259,10 +263,21 @@ impl Calls for Interpreter {
     }
 
     fn add(&self, words: &mut [u64], id: u32, flags: u32, pattern: &[u8]) -> (u32, usize) {
+        self.add_within(words, id, flags, Windows::NONE, pattern)
+    }
+
+    fn add_within(
+        &self,
+        words: &mut [u64],
+        id: u32,
+        flags: u32,
+        windows: Windows,
+        pattern: &[u8],
+    ) -> (u32, usize) {
         if table(words).is_none() {
             return (1, 0);
         }
-        compiler::add(words, id, flags, pattern)
+        compiler::add(words, id, flags, windows, pattern)
     }
 
     fn open(&self, words: &[u64], state: &mut [u64]) -> u32 {
@@ -306,12 +321,12 @@ impl Calls for Interpreter {
             let live = table.next_live(state, byte);
             let own = table.rules_where(|a| table.ends(&live, a, UNSETTLED));
             let (before, end) = (state[TAKEN], state[TAKEN] + 1);
-            let runs = [(table.late(state, byte), before), (own, end)];
+            let runs = [(table.late(state, byte, &state[..4]), before), (own, end)];
             let (reports, marks) = table.reports(runs, state[MARKS]);
             if !write(&reports, ids, offsets, &mut count) {
                 break;
             }
-            let (held, pairs) = table.held(state, byte);
+            let (held, pairs) = table.held(state, byte, &state[..4]);
             state[..4].copy_from_slice(&live);
             state[HELD..HELD + 4].copy_from_slice(&held);
             state[MARKS] = marks;
@@ -337,7 +352,7 @@ impl Calls for Interpreter {
         };
         let runs = [
             (state[PENDING], state[TAKEN].saturating_sub(1)),
-            (table.ends_at_end(state), state[TAKEN]),
+            (table.ends_at_end(state, &state[..4], &state[HELD..HELD + 4]), state[TAKEN]),
         ];
         // The marks of the first run count in the second, and are not kept.
         let (reports, _) = table.reports(runs, state[MARKS]);

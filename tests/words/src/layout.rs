@@ -6,7 +6,7 @@ use std::ops::Range;
 use crate::gaps::{FIRST_GAPS, FOLLOW_GAPS, LAST_GAPS};
 
 pub const TABLE_WORDS: usize = 16_384;
-pub const FORMAT: u64 = u64::from_be_bytes(*b"watcher6");
+pub const FORMAT: u64 = u64::from_be_bytes(*b"watcher7");
 pub const MAX_RULES: usize = 64;
 pub const MAX_POSITIONS: usize = 256;
 /// How many bytes a stream may have.
@@ -68,6 +68,14 @@ pub const fn highest(place: usize) -> usize {
     832 + place
 }
 
+/// Not 0 where a rule has a smallest length of its matches.
+pub const LENGTHS: usize = 707;
+
+/// The smallest length of the rule that owns the position, 0 if it has none.
+pub const fn shortest(position: usize) -> usize {
+    896 + position
+}
+
 /// The set of positions that take the byte.
 pub const fn takers(byte: u8) -> usize {
     4_096 + 4 * byte as usize
@@ -93,11 +101,11 @@ pub enum Region {
     Leftmosts,
     /// The rules with a window, and the windows.
     Windows,
+    /// Whether a rule has a smallest length, and that of each position.
+    Lengths,
     Keepers,
     Takers,
     Follows,
-    /// Kept for what rules may yet say.
-    Kept,
     Unused,
 }
 
@@ -114,13 +122,13 @@ pub const REGIONS: [(Region, Range<usize>); 21] = [
     (Region::Leftmosts, LEFTMOSTS..LEFTMOSTS + 1),
     (Region::Unused, 705..706),
     (Region::Windows, WINDOWED..WINDOWED + 1),
-    (Region::Kept, 707..708),
+    (Region::Lengths, LENGTHS..LENGTHS + 1),
     (Region::Unused, 708..KEEPERS),
     (Region::Keepers, KEEPERS..KEEPERS + 4),
     (Region::Unused, 716..768),
     (Region::Windows, lowest(0)..highest(MAX_RULES)),
-    (Region::Kept, 896..960),
-    (Region::Unused, 960..4_096),
+    (Region::Lengths, shortest(0)..shortest(MAX_POSITIONS)),
+    (Region::Unused, 1_152..4_096),
     (Region::Takers, takers(0)..takers(255) + 4),
     (Region::Follows, follow(0, 0)..follow(FOLLOW_GAPS, 0)),
     (Region::Unused, 15_360..TABLE_WORDS),

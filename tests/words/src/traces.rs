@@ -1,12 +1,14 @@
 //! What table words mean to the calls on a state that keeps starts. The stream in it takes bytes as
 //! one without starts does. Each position that keeps a start has the smallest one of the ways that
 //! lead to it: one from the present offset, or the start of a position before it. Every other has 0.
+//! A position counts at an end offset if the match from its start is long enough; runs and held
+//! pairs are of the positions that count, and live and held positions are all there are.
 
 use reference::calls::Columns;
 
 use crate::calls::{Answer, Calls, Traces};
 use crate::gaps::*;
-use crate::interpreter::{checked_with, refused, Interpreter, Table};
+use crate::interpreter::{checked_with, refused, set_of, Interpreter, Table};
 use crate::layout::*;
 
 /// A start for each live position, each held one, and the rule of each held pair.
@@ -18,6 +20,18 @@ type Place = (usize, usize, u64);
 impl Table<'_> {
     fn keeps(&self, p: usize) -> bool {
         has(self.0, KEEPERS, p)
+    }
+
+    /// Is a match from this start to this end, whose last byte the position takes, long enough?
+    /// Where no rule has a smallest length, or the position keeps no start, every match is.
+    fn long(&self, q: usize, start: u64, end: u64) -> bool {
+        let least = u128::from(start) + u128::from(self.0[shortest(q)]);
+        self.0[LENGTHS] == 0 || !self.keeps(q) || least <= u128::from(end)
+    }
+
+    /// The positions of a set that count at an end offset, by their starts.
+    fn counted(&self, set: &[u64], starts: &[u64], end: u64) -> [u64; 4] {
+        set_of(|q| has(set, 0, q) && self.long(q, starts[q], end))
     }
 
     /// The smallest start of a match of the rule in this place that ends before a gap with one of these
@@ -145,11 +159,13 @@ impl Traces for Interpreter {
         for &byte in block {
             let paid = used.checked_add(1 + u64::from(self.busy(state)));
             let Some(paid) = paid.filter(|&paid| paid <= allowance) else { break };
-            let (live, held) = (table.next_live(state, byte), table.held(state, byte));
-            let starts = table.next_starts(state, byte, &live, &held);
-            let own = table.rules_where(|a| table.ends(&live, a, UNSETTLED));
             let (before, end) = (state[TAKEN], state[TAKEN] + 1);
-            let runs = [(table.late(state, byte), before), (own, end)];
+            let counted = table.counted(&state[..4], &state[LIVE_STARTS..], before);
+            let (live, held) = (table.next_live(state, byte), table.held(state, byte, &counted));
+            let starts = table.next_starts(state, byte, &live, &held);
+            let now_counted = table.counted(&live, &starts, end);
+            let own = table.rules_where(|a| table.ends(&now_counted, a, UNSETTLED));
+            let runs = [(table.late(state, byte, &counted), before), (own, end)];
             let (places, marks) = table.places(runs, state[MARKS]);
             let gap = between(Side::in_state(state[SIDE]), Side::of(byte));
             let start = |run: usize, place: usize| match run {
@@ -182,10 +198,11 @@ impl Traces for Interpreter {
             Ok(table) => table,
             Err(number) => return refused(number),
         };
-        let runs = [
-            (state[PENDING], state[TAKEN].saturating_sub(1)),
-            (table.ends_at_end(state), state[TAKEN]),
-        ];
+        let end = state[TAKEN];
+        let live = table.counted(&state[..4], &state[LIVE_STARTS..], end);
+        let held = table.counted(&state[HELD..HELD + 4], &state[HELD_STARTS..], end);
+        let at_the_end = table.ends_at_end(state, &live, &held);
+        let runs = [(state[PENDING], end.saturating_sub(1)), (at_the_end, end)];
         let (places, _) = table.places(runs, state[MARKS]);
         let gap = at_end(Side::in_state(state[SIDE]));
         // A match may stand at a live or at a held position, each with its own start.

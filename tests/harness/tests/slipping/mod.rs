@@ -3,6 +3,7 @@
 use std::borrow::Cow;
 
 use reference::calls::Columns;
+use reference::windows::Windows;
 use words::calls::{Answer, Calls, Traces};
 use words::interpreter::Interpreter;
 
@@ -20,8 +21,16 @@ pub trait Slipping {
         Interpreter.needs_starts(table)
     }
 
-    fn add(&self, table: &mut [u64], id: u32, flags: u32, pattern: &[u8]) -> (u32, usize) {
-        Interpreter.add(table, id, flags, pattern)
+    /// An addition, also of a rule without windows.
+    fn add(
+        &self,
+        table: &mut [u64],
+        id: u32,
+        flags: u32,
+        windows: Windows,
+        pattern: &[u8],
+    ) -> (u32, usize) {
+        Interpreter.add_within(table, id, flags, windows, pattern)
     }
 
     fn open(&self, table: &[u64], state: &mut [u64]) -> u32 {
@@ -107,7 +116,18 @@ impl<S: Slipping> Calls for With<S> {
     }
 
     fn add(&self, table: &mut [u64], id: u32, flags: u32, pattern: &[u8]) -> (u32, usize) {
-        self.0.add(table, id, flags, pattern)
+        self.0.add(table, id, flags, Windows::NONE, pattern)
+    }
+
+    fn add_within(
+        &self,
+        table: &mut [u64],
+        id: u32,
+        flags: u32,
+        windows: Windows,
+        pattern: &[u8],
+    ) -> (u32, usize) {
+        self.0.add(table, id, flags, windows, pattern)
     }
 
     fn open(&self, table: &[u64], state: &mut [u64]) -> u32 {
