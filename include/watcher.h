@@ -6,7 +6,8 @@
  * rule and its end offset in the stream, whatever the blocks are like. The rules
  * of matching are Hyperscan's: all matches, by their ends. A rule with
  * WATCHER_FLAG_SOM_LEFTMOST reports where each match started too; the streams of
- * a table with such a rule are those of the watcher_trace_ calls.
+ * a table with such a rule, or with one that has a smallest length, are those of
+ * the watcher_trace_ calls.
  *
  * The library has no heap, no globals and no callbacks. The caller owns all
  * memory: WATCHER_TABLE_WORDS words for a table, WATCHER_STATE_WORDS words for a

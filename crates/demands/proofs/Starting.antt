@@ -1,4 +1,4 @@
--- The starts of a traced state say what the meaning says, for the rules that report them: beside
+-- The starts of a traced state say what the meaning says, for the rules that need them: beside
 -- each live position stands the smallest start of the ways that have just taken it, beside each
 -- held one that of the ways that have, were the stream to end here, and beside each held pair its
 -- start. By one byte more. So the starts that the two runs of a byte and of the closing give are
@@ -30,7 +30,7 @@ use Rattle.lengths.specs.Long.{longIn}
 use Rattle.lengths.proofs.Long.{has-long}
 use Rattle.stream.specs.Byte.{after, nextLive, nextHeld, heldTest}
 use Rattle.traced.specs.declared.Traced.{Traced}
-use Rattle.traced.specs.Byte.{keeping, kept, counted, lateLong, ownLong, pendingLong, endLong, streamNext, nextStarts, nextState, traced, lateStart, ownStart, endStart}
+use Rattle.traced.specs.Byte.{narrowed, keeping, counted, lateLong, ownLong, pendingLong, endLong, streamNext, nextStarts, nextState, traced, lateStart, ownStart, endStart}
 use Rattle.regex.specs.Tree.{Text}
 use Rattle.regex.specs.Form.{Form, Reach, positions}
 use Rattle.regex.specs.Live.{Reached}
@@ -264,7 +264,7 @@ module _ (w : Automaton) (rule : ℕ → Rule) (from : ℕ → ℕ) (tab : ℕ �
             ])),
           )
 
-      pub counts-at-end : CountsAtEnd w rule from tab enc bytes short k (kept w (z .stream) counting waiting)
+      pub counts-at-end : CountsAtEnd w rule from tab enc bytes short k (narrowed (z .stream) counting waiting)
       counts-at-end = record {
         inside = λ q lq h. elim (or-T (has counting q) (has waiting q) .0 (subst T (has-union counting waiting q lq) h)) [
           | inl y ↦ alive .inside q lq (in-it (z .stream .live) (z .starts .live) q lq .0 y .0)
@@ -581,7 +581,7 @@ module _ (w : Automaton) (rule : ℕ → Rule) (from : ℕ → ℕ) (tab : ℕ �
       let now = counts-now n z (track .alive) st in
       record {
         tested = closing-tested w rule from tab enc bytes short
-            (kept w (z .stream) (longIn w (z .stream .live) (z .starts .live) (z .stream .taken)) (longIn w (z .stream .held) (z .starts .held) (z .stream .taken)))
+            (narrowed (z .stream) (longIn w (z .stream .live) (z .starts .live) (z .stream .taken)) (longIn w (z .stream .held) (z .starts .held) (z .stream .taken)))
             (record { taken = now .taken; last = now .last; inside = now .inside; live = now .live })
             (counts-at-end n z (track .alive) st (omega arith) (track .waits)) (track .pending) (track .marks);
         first-is = λ a lt some f. held-start z track st a lt some f;

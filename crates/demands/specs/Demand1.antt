@@ -47,7 +47,7 @@ pub record Answers : Type 2 where
   -- adding a rule (crates/rules/src/lib.rt): number and place are `addAnswer`, the words are
   -- `addWords`
   pub adding : {M : Type 1} → add M
-  -- adding a rule with a window: the same two
+  -- adding a rule with windows: the same two
   pub adding-within : {M : Type 1} → add-within M
   -- opening a stream (crates/stream/src/lib.rt): number and state are `opened`
   pub opening : {M : Type 1} → stream-open M

@@ -6,10 +6,10 @@
 use mathlib.Core.Path.{_≡_}
 use mathlib.Core.Logic.{_⊎_, _↔_}
 use mathlib.Core.List.{List, [], map, List·Memᴰ}
-use mathlib.Core.Bool.{Bool, true, false, not, _||_}
+use mathlib.Core.Bool.{Bool, true, false}
 use Prim.Native.Nat.{ℕ, _+_, _*_, _^_, _<_, _≤_}
 use lib.Bits.{bitAnd}
-use lib.Dec.{T, eqb}
+use lib.Dec.{T}
 use lib.ListN.{length}
 use Rattle.table.specs.Layout.{tableWords, maxRules, maxPositions}
 use Rattle.table.specs.Table.{knownFlags, emptied}
@@ -18,7 +18,7 @@ use Rattle.stream.specs.declared.Stream.{Stream}
 use Rattle.stream.specs.Valid.{streamLimit}
 use Rattle.stream.specs.Byte.{busyOf}
 use Rattle.regex.specs.Form.{write, positions}
-use Rattle.regex.specs.Rule.{Rule}
+use Rattle.regex.specs.Rule.{Rule, needs-start}
 use Rattle.regex.specs.Ordered.{Reported, StartOf, Report, pair, Ordered, Once}
 use Rattle.regex.specs.Live.{Busy}
 use Rattle.nodes.specs.Nodes.{Syntax}
@@ -56,7 +56,7 @@ rulesIn c = map ruleOf (acceptedIn c)
 
 -- a rule needs starts: it reports them, or has a smallest length of its matches
 abbrev pub needsStart : Rule → Bool
-needsStart r = r .starts || not (eqb (r .windows .smallest-length) 0)
+needsStart r = needs-start (r .starts) (r .windows)
 
 -- no rule needs them
 abbrev pub Startless : Setting → Type 0

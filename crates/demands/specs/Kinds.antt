@@ -30,7 +30,7 @@ pub record Given (S L : Type 0) : Type 0 where
 -- states S, lent lists L, and C for what a scan is handed
 pub record Kind (S L C : Type 0) : Type 0 where
   pub begun : List ℕ → S
-  -- whether it serves tables in which a rule reports its start
+  -- whether it serves tables in which a rule needs a start: it reports it, or has a smallest length
   pub starts : Bool
   -- a state's stream: the bytes taken, what is live, what is held; and whether a state fits a table
   pub stream : S → Stream

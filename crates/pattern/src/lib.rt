@@ -1,7 +1,7 @@
 // The reader: pattern bytes and options in, a refusal with its place or the syntax tree out. The
 // tree comes back by value as numbered nodes in an array of words, each node's children with
-// smaller numbers, so nothing is lent and a refusal has nothing to leave alone. What is given beside
-// a pattern, its windows, stands in `bounds`.
+// smaller numbers, so nothing is lent and a refusal has nothing to leave alone. The windows that
+// are given beside a pattern stand in `bounds`.
 mod bounds;
 mod groups;
 mod items;

@@ -54,6 +54,7 @@ module _ (bytes : List ℕ) (r : Rule) where
     pub not-before : (j : ℕ) → e ≤ j → j < m → ¬ Settled j e
 
   -- "Of a single-match rule only the first stays": its pair (j, d) hides a later pair (m, e).
+  -- "Single match counts only pairs inside the window": no other pair falls.
   abbrev pub Hides : (j d m e : ℕ) → Type 0
   Hides j d m e = T (r .single) × Earlier j d m e
 

@@ -3,7 +3,7 @@
 use mathlib.Core.Bool.{Bool, true, false, cond, not, _&&_, _||_}
 use mathlib.Core.List.{List}
 use Prim.Native.Nat.{ℕ, _+_, _-_, _^_, _≤_, _<_}
-use lib.Dec.{T}
+use lib.Dec.{T, eqb}
 use Rattle.sets.specs.Set.{has}
 use Rattle.kinds.specs.declared.Side.the-variants.{Other, Word, Newline}
 use Rattle.regex.specs.Tree.{Tree, Text, Means}
@@ -97,6 +97,10 @@ no-windows = record { smallest-end = 0; largest-end = 2 ^ 64 - 1; smallest-lengt
 abbrev pub InWindows : Windows → (s e : ℕ) → Type 0
 InWindows w s e = (w .smallest-end ≤ e) × (e ≤ w .largest-end) × (s + w .smallest-length ≤ e)
 
+-- starts are needed where they are reported, or where a smallest length is asked of matches
+abbrev pub needs-start : (starts : Bool) → Windows → Bool
+needs-start starts w = starts || not (eqb (w .smallest-length) 0)
+
 -- An accepted rule: its id, whether it has the flags "single match" and "leftmost start", its
 -- windows, and the tree of its pattern.
 pub record Rule : Type 0 where
@@ -111,7 +115,8 @@ abbrev pub stream : List ℕ → Bool → Text ByteSet Assertion
 stream bytes ended = text has holds bytes ended
 
 -- "exactly when some earlier start matches the rule up to there", "with assertions judged on the
--- whole stream"; "when some start matches and all three hold"
+-- whole stream"; "when some start matches and all three hold", "Demand 2's meaning reads the
+-- windows."
 abbrev pub MatchEnds : Rule → List ℕ → ℕ → Type 0
 MatchEnds r bytes e =
     (s : ℕ)

@@ -14,7 +14,7 @@ use Rattle.automaton.specs.declared.Parts.{Parts}
 use Rattle.rules.specs.Words.{digitsWith, ownerWith}
 use Rattle.rules.specs.Add.{unknownFlag, singleStart, hasId}
 
--- ---- the checks before the pattern is read
+-- ---- the checks of table, flags and id
 
 -- the number of the first of 1, 2, 24, 3 and 4 that is due, or 0
 unfoldable pub firstFault : List ℕ → (id flags : ℕ) → ℕ

@@ -11,7 +11,7 @@ use Rattle.sets.specs.Set.{on, has, setOf, wordOf, any, asOne, count}
 use Rattle.table.specs.Layout.{tableWords, maxRules, maxPositions, bytes, rulesOf, positionsOf, singlesOf, leftmostsAt, leftmostsOf, windowedAt, windowedOf, lowestAt, highestAt, lengthsAt, lengthsOf, shortestAt, keepersAt, firstAt, idAt, idWord, openerAt, ownerAt, lastAt, latesAt, followAt, takersAt, rowHas, from-to}
 use Rattle.table.specs.Gaps.{firstGaps, followGaps, lastGaps, innerGaps, unsettled}
 use Rattle.table.specs.Invariants.{over}
-use Rattle.regex.specs.Rule.{Windows, no-windows}
+use Rattle.regex.specs.Rule.{Windows, no-windows, needs-start}
 use Rattle.automaton.specs.declared.Parts.{Parts}
 
 -- the words f 0, f 1, .. up to n of them
@@ -63,7 +63,7 @@ hasWindow v = not (eqb (v .smallest-end) 0) || not (eqb (v .largest-end) (no-win
 
 -- a rule's positions keep a start where the rule reports one, or has a smallest length
 abbrev pub needsStart : (flags : ℕ) → Windows → Bool
-needsStart flags v = isLeftmost flags || not (eqb (v .smallest-length) 0)
+needsStart flags v = needs-start (isLeftmost flags) v
 
 -- the numbers of the rules that stand from `at` on, with that of the rule in place k
 unfoldable pub numbersPut : (at rules k new : ℕ) → List ℕ → List ℕ

@@ -1,7 +1,6 @@
-// Adding a rule: pattern bytes, id, flags and windows in; a refusal with its place that leaves every
-// word as it was, or the table with the rule. Every refusal is settled before the first word is
-// written.
-// specs/Add.antt says what the answer is, specs/Words.antt what the words are then.
+// Adding a rule: pattern bytes, id, flags and windows in; a refusal with its place that leaves
+// every word as it was, or the table with the rule. Every refusal is settled before the first word
+// is written. specs/Add.antt says what the answer is, specs/Words.antt what the words are then.
 mod write;
 
 use pattern::Bounds;
@@ -43,7 +42,7 @@ fn has_id(words: &[u64], rules: usize, id: u64) -> bool
     false
 }
 
-// The checks before the pattern is read, in order: the number of the first that fails, or 0.
+// The checks of table, flags and id, in order: the number of the first that fails, or 0.
 fn first_fault(words: &[u64], id: u32, flags: u32) -> u32
     ensures { λ r. ⌜ r ≡ firstFault (now (words .entry)) id flags ⌝ }
 {
@@ -77,7 +76,7 @@ pub fn add(words: &mut [u64], id: u32, flags: u32, pattern: &[u8]) -> Added
     add_within(words, id, flags, bounds, pattern)
 }
 
-// Adds a rule that reports where its three windows hold.
+// The same of a rule with windows: it reports only where all three hold.
 pub fn add_within(words: &mut [u64], id: u32, flags: u32, bounds: Bounds, pattern: &[u8]) -> Added
     ensures { λ r. ⌜ (r ≡ addAnswer (now (words .entry)) (additionIn id flags (windowsOf bounds) (now (pattern .entry)))) × (now (words .exit) ≡ addWords (now (words .entry)) (additionIn id flags (windowsOf bounds) (now (pattern .entry)))) ⌝ }
 {

@@ -110,7 +110,7 @@ module _ (w : Automaton) where
   -- "A pair that so depends on the next byte is delivered when that byte is taken, or at closing,
   -- before the pairs of the newer offset, each run by rising id." Byte x has the late run, of the
   -- rules that end before it now that it is known, with a position that waits for that, and its
-  -- own. A rule's window of end offsets is asked here and nowhere else.
+  -- own. A rule's window of end offsets is asked in the tests of runs alone.
   abbrev pub lateTest : Stream → ℕ → ℕ → Bool
   lateTest s x = windowed w (endsNewly w (between (s .last) (sideOf x)) (lateIn w (s .live)) unsettled (s .live)) (s .taken)
 

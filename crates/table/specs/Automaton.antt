@@ -55,7 +55,8 @@ automaton t = record {
   owner = λ p. cond (ltb p maxPositions) (getD t (ownerAt p) 0) 0;
   late = λ p. rowHas t latesAt p;
   keeps = λ q. rowHas t keepersAt q;
-  long = λ q s e. (eqb (lengthsOf t) 0 || not (rowHas t keepersAt q)) || leb (s + getD t (shortestAt q) 0) e;
+  long = λ q s e.
+      (eqb (lengthsOf t) 0 || not (rowHas t keepersAt q)) || leb (s + getD t (shortestAt q) 0) e;
 }
 
 -- a match of the rule in place a can end at a gap with position p

@@ -1,6 +1,7 @@
--- What one byte does to a stream with starts, and what closing reports. The stream takes bytes as
--- it does without: "the same pairs at the same moments, each with the smallest start whose match is
--- settled then". Assumes nothing: these are definitions.
+-- What one byte does to a stream with starts, and what closing reports. Live and held positions,
+-- and the cost, are those of a stream without; a rule ends where a position ends it whose match is
+-- long enough. "each with the smallest start whose match is settled then". Assumes nothing: these
+-- are definitions.
 use mathlib.Core.Bool.{Bool, true, false, cond, _&&_}
 use mathlib.Core.List.{List}
 use Prim.Native.Nat.{ℕ, suc, _-_}
@@ -28,10 +29,25 @@ pub record Report : Type 0 where
   pub pair : stream.Report
   pub start : Start
 
+-- a stream with these positions in place of its own
+abbrev pub narrowed : Stream → (live held : List ℕ) → Stream
+narrowed s live held = record {
+  live = live;
+  held = held;
+  reported = s .reported;
+  pending = s .pending;
+  last = s .last;
+  taken = s .taken;
+  rules = s .rules;
+  positions = s .positions;
+  closed = s .closed;
+}
+
 module _ (w : Automaton) where
   -- the report of the rule in place a at this end offset, with this start
   abbrev pub given : (end : ℕ) → (start : ℕ → ℕ) → (a : ℕ) → Report
-  given end start a = record { pair = stream.given w end a; start = cond (w .leftmost a) (from (start a)) none }
+  given end start a =
+      record { pair = stream.given w end a; start = cond (w .leftmost a) (from (start a)) none }
 
   -- the positions of a set that keep a start; every other position has 0
   abbrev pub keeping : List ℕ → List ℕ
@@ -40,29 +56,19 @@ module _ (w : Automaton) where
   -- What byte x makes of the starts of the live positions, and of those held in case it ends the
   -- last line.
   abbrev pub liveNext : Stream → (live : List ℕ) → (x : ℕ) → List ℕ
-  liveNext s live x = steppedStarts w false (s .last) (sideOf x) (keeping (s .live)) live (keeping (nextLive w s x)) (s .taken)
+  liveNext s live x =
+      let next : List ℕ = keeping (nextLive w s x) in
+      steppedStarts w false (s .last) (sideOf x) (keeping (s .live)) live next (s .taken)
 
   abbrev pub heldNext : Stream → (live : List ℕ) → (x : ℕ) → List ℕ
-  heldNext s live x = steppedStarts w true (s .last) (sideOf x) (keeping (s .live)) live (keeping (nextHeld w s x)) (s .taken)
+  heldNext s live x =
+      let next : List ℕ = keeping (nextHeld w s x) in
+      steppedStarts w true (s .last) (sideOf x) (keeping (s .live)) live next (s .taken)
 
-  -- "smallest match length": a stream with these of its positions, in place of all
-  abbrev pub kept : Stream → (live held : List ℕ) → Stream
-  kept s live held = record {
-    live = live;
-    held = held;
-    reported = s .reported;
-    pending = s .pending;
-    last = s .last;
-    taken = s .taken;
-    rules = s .rules;
-    positions = s .positions;
-    closed = s .closed;
-  }
-
-  -- its live positions that count: whose longest match is long enough to be reported where it
-  -- stands
+  -- "smallest match length": a stream with the live positions that count, those whose longest match
+  -- is long enough to be reported at the offset that is reached
   abbrev pub counted : Stream → (live : List ℕ) → Stream
-  counted s live = kept s (longIn w (s .live) live (s .taken)) (s .held)
+  counted s live = narrowed s (longIn w (s .live) live (s .taken)) (s .held)
 
   -- What a byte brings is what it brings to a stream, by the positions that count: the tests of its
   -- two runs, and the pairs that it leaves held.
@@ -80,7 +86,8 @@ module _ (w : Automaton) where
   -- the starts of held pairs, for rules that report one
   abbrev pub pairsNext : Stream → (live : List ℕ) → (x : ℕ) → List ℕ
   pairsNext s live x =
-      listFrom 0 maxRules (λ a. cond (on (pendingLong s live x) a && w .leftmost a) (startAt w (beforeLast (s .last)) (s .live) live (s .taken) a) 0)
+      listFrom 0 maxRules (λ a. cond (on (pendingLong s live x) a && w .leftmost a)
+      (startAt w (beforeLast (s .last)) (s .live) live (s .taken) a) 0)
 
   unfoldable pub nextStarts : Traced → ℕ → Starts
   nextStarts z x =
@@ -90,10 +97,14 @@ module _ (w : Automaton) where
 
   -- the start of a pair that waited for byte x, and of one that ends with it
   abbrev pub lateStart : Traced → ℕ → ℕ → ℕ
-  lateStart z x = startAt w (between (z .stream .last) (sideOf x)) (z .stream .live) (z .starts .live) (z .stream .taken)
+  lateStart z x =
+      let s : Stream = z .stream in
+      startAt w (between (s .last) (sideOf x)) (s .live) (z .starts .live) (s .taken)
 
   abbrev pub ownStart : Traced → ℕ → ℕ → ℕ
-  ownStart z x = startAt w unsettled (nextLive w (z .stream) x) (nextStarts z x .live) (suc (z .stream .taken))
+  ownStart z x =
+      let s : Stream = z .stream in
+      startAt w unsettled (nextLive w s x) (nextStarts z x .live) (suc (s .taken))
 
   -- one byte: the reports that it brings, and the state after it
   unfoldable pub byteReports : Traced → ℕ → List Report
@@ -107,7 +118,8 @@ module _ (w : Automaton) where
   streamNext s live x = stateBy w (lateLong s live x) (ownLong s live x) (pendingLong s live x) s x
 
   unfoldable pub nextState : Traced → ℕ → Traced
-  nextState z x = record { stream = streamNext (z .stream) (z .starts .live) x; starts = nextStarts z x }
+  nextState z x =
+      record { stream = streamNext (z .stream) (z .starts .live) x; starts = nextStarts z x }
 
   -- a stream with starts as a machine: a byte costs what it costs without
   abbrev pub traced : Machine Traced Report
@@ -116,14 +128,18 @@ module _ (w : Automaton) where
   -- the start of a pair at closing: the smaller of the live and of the held positions'
   abbrev pub endStart : Traced → ℕ → ℕ
   endStart z a =
-      let gap : ℕ = atEnd (z .stream .last) in
-      startAt w gap (z .stream .held) (z .starts .held) (startAt w gap (z .stream .live) (z .starts .live) (z .stream .taken) a) a
+      let s : Stream = z .stream in
+      let gap : ℕ = atEnd (s .last) in
+      let live : ℕ = startAt w gap (s .live) (z .starts .live) (s .taken) a in
+      startAt w gap (s .held) (z .starts .held) live a
 
   -- at closing a held position counts by its own start
   abbrev pub endLong : Traced → ℕ → Bool
   endLong z =
       let s : Stream = z .stream in
-      endTest w (kept s (longIn w (s .live) (z .starts .live) (s .taken)) (longIn w (s .held) (z .starts .held) (s .taken)))
+      let live : List ℕ = longIn w (s .live) (z .starts .live) (s .taken) in
+      let held : List ℕ = longIn w (s .held) (z .starts .held) (s .taken) in
+      endTest w (narrowed s live held)
 
   unfoldable pub closeReports : Traced → List Report
   closeReports z =

@@ -106,8 +106,11 @@ hits id flags pattern logs = record { rule = rule id flags pattern; verdict = ac
 
 -- the same of a rule with a window of end offsets
 abbrev endsIn : (lowest highest : ℕ) → Windows
-endsIn lowest highest =
-    record { smallest-end = lowest; largest-end = highest; smallest-length = no-windows .smallest-length }
+endsIn lowest highest = record {
+  smallest-end = lowest;
+  largest-end = highest;
+  smallest-length = no-windows .smallest-length;
+}
 
 abbrev hitsIn : (id flags lowest highest : ℕ) → String → List Log → Case
 hitsIn id flags lowest highest pattern logs =
@@ -153,7 +156,7 @@ cases =
     ∷ hitsIn 30 0 10 15 "foo.*bar" (log 30 (("foobar", []) ∷ []) [] ∷ log 30 (("foo0123bar", 10 ∷ []) ∷ []) []
     ∷ log 30 (("foo0123456bar", 13 ∷ []) ∷ []) [] ∷ log 30 (("foo0123456789bar", []) ∷ []) [] ∷ [])
     -- "Single match counts only pairs inside the window."
-    ∷ hitsIn 31 8 2 (2 ^ 64 - 1) "a" (log 31 (("aa", 2 ∷ []) ∷ []) [] ∷ [])
+    ∷ hitsIn 31 8 2 (no-windows .largest-end) "a" (log 31 (("aa", 2 ∷ []) ∷ []) [] ∷ [])
     -- "A smallest offset above the largest is refused with 26, right after 5, place 0."
     ∷ refusesIn 28 0 3 2 "(" 26 0
     -- "`[z-a]` 9 at 1; `a*+` 14 at 1; `a)` 12 at 1; `(a` 12 at 2; `\x{100}` 7 at 0; `X{,4}` 15 at
@@ -173,7 +176,7 @@ cut blocks closing = record {
   closing = map withoutStart closing;
 }
 
--- the same logs with all the rules in one table: by rising id within a byte, whatever the order of
+-- logs of these cases with all the rules in one table: by rising id within a byte, whatever the order of
 -- their addition
 unfoldable pub logs : List Log
 logs =
