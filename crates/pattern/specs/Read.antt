@@ -14,8 +14,11 @@ use Rattle.pattern.specs.declared.Reading.{Reading}
 abbrev pub longest : ℕ
 longest = 1024
 
+abbrev pub overLong : (length : ℕ) → Bool
+overLong length = ltb longest length
+
 abbrev pub tooLong : List ℕ → Bool
-tooLong s = ltb longest (length s)
+tooLong s = overLong (length s)
 
 -- faults known only at the end, at the pattern's length: 15, "the rule could match no bytes, were
 -- all its assertions true"; 16, "over 256 positions in this rule"

@@ -4,7 +4,7 @@ use mathlib.Core.Bool.{Bool, cond}
 use Prim.Native.Nat.{ℕ}
 use lib.Dec.{ltb}
 use Rattle.regex.specs.Rule.{Windows}
-use Rattle.pattern.specs.Read.{longest}
+use Rattle.pattern.specs.Read.{overLong}
 use Rattle.pattern.specs.declared.bounds.Bounds.{Bounds}
 
 -- "smallest and largest end offset, and smallest match length"
@@ -18,4 +18,4 @@ emptyWindow v = ltb (v .largest-end) (v .smallest-end)
 
 -- the number of the first of 5 and 26 that is due, or 0
 unfoldable pub sizeFault : (length : ℕ) → Windows → ℕ
-sizeFault length v = cond (ltb longest length) 5 (cond (emptyWindow v) 26 0)
+sizeFault length v = cond (overLong length) 5 (cond (emptyWindow v) 26 0)

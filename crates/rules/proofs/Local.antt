@@ -22,7 +22,7 @@ use Rattle.regex.specs.Rule.{Windows}
 use Rattle.pattern.specs.Walk.{Read, tree, refused}
 use Rattle.automaton.specs.declared.Parts.{Parts}
 use Rattle.rules.specs.Gaps.{partsAt}
-use Rattle.rules.specs.Words.{wordsOf, oldRow, joinedRow, placeOf, digitsWith, numbersWith, hasWindow, needsStart, lengthsWith, withWindow, ownerWith, isSingle, isLeftmost, idWords, singlesWord, leftmostsWord, newKeeper, keeperWords, ownerWords, lastWords, lateWords, opener, firstWords, followWords, newTaker, takersWords, addedWord, added}
+use Rattle.rules.specs.Words.{wordsOf, oldRow, joinedRow, placeOf, digitsWith, numbersWith, hasOffsets, needsStart, lengthsWith, withWindow, ownerWith, isSingle, isLeftmost, idWords, singlesWord, leftmostsWord, newKeeper, keeperWords, ownerWords, lastWords, lateWords, opener, firstWords, followWords, newTaker, takersWords, addedWord, added}
 use Rattle.rules.specs.Add.{Addition, readingOf, hasId, addAnswer, withRule, addWords}
 use Rattle.rules.specs.declared.Added.{Added}
 use Rattle.rules.proofs.GapSets.{side, split}
@@ -224,7 +224,7 @@ window-local t u same long few id v =
     digits : (w : ℕ) → w ≡ windowedAt → getD s w 0 ≡ getD r w 0
     digits w e =
         ap (λ (i : ℕ). getD s i 0) e ∙ window-digits t id v long few
-        ∙ (λ j. digitsWith (here j) (hasWindow v) (same-word t u same windowedAt (omega arith) j))
+        ∙ (λ j. digitsWith (here j) (hasOffsets v) (same-word t u same windowedAt (omega arith) j))
         ∙ sym (ap (λ (i : ℕ). getD r i 0) e ∙ window-digits u id v long-u few-u)
 
     lengths : (w : ℕ) → w ≡ lengthsAt → getD s w 0 ≡ getD r w 0

@@ -19,7 +19,7 @@ use Rattle.table.proofs.Over.{length-over, over-in, drop-over, over-ext}
 use Rattle.table.proofs.Local.{NoWindow, withWindows, but-windows, kept}
 use Rattle.table.proofs.Test.{Passes}
 use Rattle.regex.specs.Rule.{Windows, no-windows}
-use Rattle.rules.specs.Words.{placeOf, digitsWith, numbersWith, numbersPut, hasWindow, withOffsets, lengthsWith, lengthsPut, shortestPut, withWindow}
+use Rattle.rules.specs.Words.{placeOf, digitsWith, numbersWith, numbersPut, hasOffsets, withOffsets, lengthsWith, lengthsPut, shortestPut, withWindow}
 use Rattle.rules.specs.Add.{hasId}
 use Rattle.rules.specs.Invariants.{digitsPut, numberPut, smaller}
 use Rattle.rules.proofs.Place.{place-le}
@@ -34,7 +34,7 @@ putIn k x f a = cond (ltb a k) (f a) (cond (eqb a k) x (f (a - 1)))
 
 -- a rule with these windows may report at this end offset
 abbrev pub insideOf : Windows → (end : ℕ) → Bool
-insideOf v end = not (hasWindow v) || (leb (v .smallest-end) end && leb end (v .largest-end))
+insideOf v end = not (hasOffsets v) || (leb (v .smallest-end) end && leb end (v .largest-end))
 
 -- where both are left out, each offset of 64 bits is within
 pub inside-within : (v : Windows) (end : ℕ) → end < 2 ^ 64 → insideOf v end ≡ (leb (v .smallest-end) end && leb end (v .largest-end))
@@ -82,7 +82,7 @@ module _ (t : List ℕ) (id : ℕ) (v : Windows) (long : tableWords ≤ length t
   t2 = numbersPut (highestAt 0) (rulesOf t) k highest t1
 
   abbrev digits : ℕ → ℕ
-  digits w = digitsWith k (hasWindow v) (windowedOf t)
+  digits w = digitsWith k (hasOffsets v) (windowedOf t)
 
   abbrev t3 : List ℕ
   t3 = withOffsets t id v
@@ -145,7 +145,7 @@ module _ (t : List ℕ) (id : ℕ) (v : Windows) (long : tableWords ≤ length t
       out-5 w (λ a b. o .1 (omega arith) b) ∙ out-4 w (λ a b. o .0 (omega arith) (omega arith))
       ∙ offsets-out w (λ a b. o .0 a (omega arith)) (λ a b. o .1 a (omega arith))
 
-  pub window-digits : windowedOf u ≡ digitsWith k (hasWindow v) (windowedOf t)
+  pub window-digits : windowedOf u ≡ digitsWith k (hasOffsets v) (windowedOf t)
   unfolding withOffsets
   window-digits =
       offsets-stay windowedAt (λ a b. omega arith) (omega arith)
@@ -235,12 +235,12 @@ module _ (t : List ℕ) (id : ℕ) (v : Windows) (long : tableWords ≤ length t
       ∙ go (decLt a k) (decLt k a))
     where
       digit : Bool
-      digit = cond (ltb a k) (on (windowedOf t) a) (cond (eqb a k) (hasWindow v) (on (windowedOf t) (a - 1)))
+      digit = cond (ltb a k) (on (windowedOf t) a) (cond (eqb a k) (hasOffsets v) (on (windowedOf t) (a - 1)))
 
       on-is : on (windowedOf s) a ≡ digit
       on-is =
           ap (λ (x : ℕ). on x a) (dig ∙ window-digits)
-          ∙ on-wordOf 64 (λ a. cond (ltb a k) (on (windowedOf t) a) (cond (eqb a k) (hasWindow v) (on (windowedOf t) (a - 1)))) a (omega arith)
+          ∙ on-wordOf 64 (λ a. cond (ltb a k) (on (windowedOf t) a) (cond (eqb a k) (hasOffsets v) (on (windowedOf t) (a - 1)))) a (omega arith)
 
       go : Dec (a < k) → Dec (k < a)
           → (not digit || (leb (numbersWith (rulesOf t) k lowest (λ b. getD t (lowestAt b) 0) a) e && leb e (numbersWith (rulesOf t) k highest (λ b. getD t (highestAt b) 0) a)))
@@ -251,7 +251,7 @@ module _ (t : List ℕ) (id : ℕ) (v : Windows) (long : tableWords ≤ length t
 
   -- ---- how it is written
 
-  pub offsets-made : (s1 s2 s3 : List ℕ) (new : Bool) (c : ℕ) → c ≡ count (rulesOf t) (smaller t id) → new ≡ hasWindow v
+  pub offsets-made : (s1 s2 s3 : List ℕ) (new : Bool) (c : ℕ) → c ≡ count (rulesOf t) (smaller t id) → new ≡ hasOffsets v
       → s1 ≡ numberPut (lowestAt 0) (rulesOf t) c lowest t → s2 ≡ numberPut (highestAt 0) (rulesOf t) c highest s1 → s3 ≡ digitsPut windowedAt c new s2 → s3 ≡ t3
   unfolding withOffsets digitsPut placeOf
   offsets-made s1 s2 s3 new c place is e f g =

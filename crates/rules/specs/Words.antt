@@ -58,8 +58,8 @@ abbrev pub isLeftmost : ℕ → Bool
 isLeftmost flags = eqb (flags / 256 % 2) 1
 
 -- a rule has a window of end offsets unless both are left out
-abbrev pub hasWindow : Windows → Bool
-hasWindow v = not (eqb (v .smallest-end) 0) || not (eqb (v .largest-end) (no-windows .largest-end))
+abbrev pub hasOffsets : Windows → Bool
+hasOffsets v = not (eqb (v .smallest-end) 0) || not (eqb (v .largest-end) (no-windows .largest-end))
 
 -- a rule's positions keep a start where the rule reports one, or has a smallest length
 abbrev pub needsStart : (flags : ℕ) → Windows → Bool
@@ -74,7 +74,7 @@ numbersPut at rules k new t =
 unfoldable pub withOffsets : List ℕ → (id : ℕ) → Windows → List ℕ
 withOffsets t id v =
     let k : ℕ = placeOf t id in
-    over windowedAt (windowedAt + 1) (λ w. digitsWith k (hasWindow v) (windowedOf t))
+    over windowedAt (windowedAt + 1) (λ w. digitsWith k (hasOffsets v) (windowedOf t))
     (numbersPut (highestAt 0) (rulesOf t) k (v .largest-end)
     (numbersPut (lowestAt 0) (rulesOf t) k (v .smallest-end) t))
 

@@ -20,6 +20,7 @@ use table::layout::LEFTMOST;
 use table::layout::LEFTMOSTS_AT;
 use table::layout::LENGTHS_AT;
 use table::layout::LOWEST_AT;
+use table::layout::MAX_POSITIONS;
 use table::layout::MAX_RULES;
 use table::layout::NO_END;
 use table::layout::OPENERS_AT;
@@ -45,8 +46,11 @@ ghost use Rattle.regex.specs.Form.{write, positions};
 ghost use Rattle.nodes.specs.Nodes.{treeAt};
 ghost use Rattle.pattern.specs.Windows.{windowsOf};
 ghost use Rattle.rules.specs.Gaps.{holdingAt, partsAt};
-ghost use Rattle.rules.specs.Words.{digitsWith, ownerWith, hasWindow, needsStart, lengthsWith, lengthsPut, shortestPut, withOffsets, withWindow, added};
+ghost use Rattle.rules.specs.Words.{digitsWith, ownerWith, hasOffsets, needsStart, lengthsWith, lengthsPut, shortestPut, withOffsets, withWindow, added};
 ghost use Rattle.rules.specs.Invariants.{merged, maskedRows, smaller, numberPut, digitsPut, ownersPut, newKeepers, keepersPut, placePut, newTakers, takersPut, followPut, gapPut, gapsPut, innerRows, latesPut, openerOf, openersPut, countsPut};
+
+// The words that are kept by position.
+const POSITIONS: usize = MAX_POSITIONS as usize;
 
 // The assertions that are known to hold at each gap, as specs/Gaps.antt has them.
 const HOLDING: [u64; 17] = [
@@ -205,7 +209,7 @@ fn put_digits(words: &mut [u64], at: usize, k: usize, new: bool)
 
 // Whether a rule has a window of end offsets: both are left out where it has none.
 fn has_window(bounds: Bounds) -> bool
-    ensures { λ r. ⌜ r ≡ hasWindow (windowsOf bounds) ⌝ }
+    ensures { λ r. ⌜ r ≡ hasOffsets (windowsOf bounds) ⌝ }
 {
     (bounds.lowest != 0) | (bounds.highest != NO_END)
 }
@@ -251,7 +255,7 @@ fn put_shortest(words: &mut [u64], n: usize, shortest: u64)
     ensures { λ r. ⌜ now (words .exit) ≡ shortestPut n shortest (now (words .entry)) ⌝ }
 {
     let mut q = n;
-    while q < 256 {
+    while q < POSITIONS {
         words[SHORTEST_AT + q] = shortest;
         q += 1;
     }
@@ -295,7 +299,7 @@ fn put_owners(words: &mut [u64], n: usize, more: usize, k: usize)
     ensures { λ r. ⌜ now (words .exit) ≡ ownersPut n more k (now (words .entry)) ⌝ }
 {
     let mut q: usize = 0;
-    while q < 256 {
+    while q < POSITIONS {
         let o = words[OWNERS_AT + q];
         words[OWNERS_AT + q] = owner_with(n, more, k, q, o);
         q += 1;
