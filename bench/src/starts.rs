@@ -107,9 +107,6 @@ fn race(without: &mut Library, with: &mut Traces, task: &impl Task) -> (Vec<f64>
 }
 
 pub fn rows(page: &Page, set: &Set, logs: &[&Log]) {
-    if page.alone {
-        return;
-    }
     let mut without = Library::new(&flagged(set, 0));
     let mut with = Traces::new(&flagged(set, LEFTMOST_START));
     page.say("\n### Starts\n");
@@ -119,15 +116,20 @@ pub fn rows(page: &Page, set: &Set, logs: &[&Log]) {
         for block in BLOCKS {
             let task = WholeLog { log: &log.bytes, block };
             let (times, reports) = race(&mut without, &mut with, &task);
-            row(page, &[log.name, &whole(block), &whole(reports)], &times);
+            row(page, &[log.name, &whole(block)], &whole(reports), &times);
         }
     }
     let (times, _) = race(&mut without, &mut with, &Scans(b""));
-    row(page, &["a scan, ns a call", "0", "0"], &times);
+    row(page, &["a scan, ns a call", "0"], "0", &times);
 }
 
-fn row(page: &Page, cells: &[&str], times: &[f64]) {
+/// A row of both times; where the library is measured alone, the time with starts.
+fn row(page: &Page, named: &[&str], reports: &str, times: &[f64]) {
+    if page.alone {
+        println!("starts {}\t{}", named.join(" "), times[1]);
+        return;
+    }
     let figures = [figure(times[0]), figure(times[1]), figure(times[1] / times[0])];
     let figures: Vec<&str> = figures.iter().map(String::as_str).collect();
-    page.say(&page::row(&[cells, &figures].concat()));
+    page.say(&page::row(&[named, &[reports], &figures].concat()));
 }
