@@ -2,6 +2,8 @@
 // marks of quotes; and the faults that tokens share, the lower of two and that of a raw control
 // byte. A place past the pattern's end reads as its end, so nothing is required of a caller. specs/
 // says what each function gives, for the bytes from the place on.
+#![tactic(auto)]
+
 mod escape;
 mod fault;
 mod number;
@@ -19,7 +21,7 @@ pub use quote::{gap_at, is_mark};
 pub use raw::with_raw;
 
 // A number: its value, at most 65,536; whether it has a digit at all; how many bytes it takes.
-#[derive(Drop)]
+#[derive(Clone, Copy)]
 pub struct Numeral {
     pub value: u32,
     pub some: bool,
@@ -27,7 +29,7 @@ pub struct Numeral {
 }
 
 // What a byte, an escape or `.` stands for.
-#[derive(Drop)]
+#[derive(Clone, Copy)]
 pub enum Atom {
     Byte(u8),
     // `\d \w \s \h \v`, and classes by name
@@ -56,7 +58,7 @@ pub enum Atom {
 
 // An escape or a class member: its lowest fault or 0, the bytes it takes, what it stands for. A
 // part with fault 6 has no end, and its size is 0; a faulty part stands for byte 0.
-#[derive(Drop)]
+#[derive(Clone, Copy)]
 pub struct Part {
     pub fault: u32,
     pub size: usize,
@@ -64,7 +66,7 @@ pub struct Part {
 }
 
 // The marks `\Q` and `\E` at a place: the bytes they take, and whether a quote is open after them.
-#[derive(Drop)]
+#[derive(Clone, Copy)]
 pub struct Gap {
     pub size: usize,
     pub quoted: bool,

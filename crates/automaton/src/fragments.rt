@@ -5,7 +5,7 @@ ghost use Rattle.automaton.specs.Invariants.{bare_of, one_of, also, in_turn, cho
 
 // `null` says whether it matches nothing; `first` and `last` are the positions that can come first
 // and last.
-#[derive(Drop)]
+#[derive(Clone, Copy)]
 pub(super) struct Fragment {
     pub size: usize,
     pub null: bool,

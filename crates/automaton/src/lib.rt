@@ -2,6 +2,8 @@
 // first, last and follow sets, and the byte set of each position, by recursion over the nodes, the
 // node number falling. Each node is walked once: the copies of a repeat are made from its first
 // one.
+#![tactic(auto)]
+
 mod copies;
 mod forms;
 mod fragments;
@@ -18,7 +20,7 @@ ghost use Rattle.automaton.specs.Parts.{form_parts, no_parts, parts_of};
 // The parts of a rule's automaton in one world, its positions numbered from a base on. `fits` says
 // that all of them are below 256; else the rest is zero. Row i of `follow` and of `takes`, four
 // words each, is that of the rule's position number i.
-#[derive(Drop)]
+#[derive(Clone, Copy)]
 pub struct Parts {
     pub fits: bool,
     pub positions: usize,

@@ -1,6 +1,8 @@
 // The rule table on the card: blocks of 512 bytes, written and read one by one. Nothing is required
 // of a caller. docs/CARD.md lists the bytes of a block; specs/Block.antt is the image of a table,
 // specs/Calls.antt what each call answers and leaves.
+#![tactic(auto)]
+
 mod bytes;
 mod crc;
 mod entries;
@@ -15,7 +17,7 @@ use layout::{BLOCK_BYTES, BLOCKS, NO_BLOCK};
 use table::layout::{ACCEPTED, NO_TABLE, TABLE_WORDS};
 
 // The answer of a call: number 0 and place 0, or the refusal's number and place.
-#[derive(Drop)]
+#[derive(Clone, Copy)]
 pub struct Stored {
     pub number: u32,
     pub place: u64,

@@ -4,6 +4,8 @@
 // is required of a caller: each promise holds for any words, and of words too few for a table every
 // start is 0. specs/Step.antt of the crate `steps` says what each function gives, beside what a
 // byte makes of the live set.
+#![tactic(auto)]
+
 ghost use Rattle.std.specs.Prelude.{◌≡◌, true, cond, ◌+◌, ◌≤◌, ◌<◌, length};
 ghost use Rattle.sets.specs.Set.{has, set_of, intersection_of};
 ghost use Rattle.table.specs.Layout.{table_words, max_rules, max_positions, row_has};

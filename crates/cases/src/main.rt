@@ -2,6 +2,8 @@
 // repeats of repeats, matched bytes. Each addition is a line with its number and place, each stream
 // a line with the reports of its scan and of its closing. The file `stdout` has the answers that
 // the rules give.
+#![tactic(auto)]
+
 mod show;
 
 use show::{add, empty, log, shown};

@@ -4,6 +4,8 @@
 // table. What a byte is beside a gap is asked for each byte of a stream, so `side_of` has it by two
 // words of digits. Nothing is required of a caller. specs/Kind.antt, specs/Case.antt and
 // specs/Side.antt say what each function gives.
+#![tactic(auto)]
+
 mod table;
 
 ghost use Rattle.std.specs.Prelude.{◌≡◌};
@@ -50,7 +52,7 @@ pub const XDIGIT: u32 = 32768;
 const CASE_STEP: u8 = 32;
 
 // The types `\d`, `\w`, `\s`, `\h` and `\v`, and the classes by name that are none of these.
-#[derive(Drop)]
+#[derive(Clone, Copy)]
 pub enum Kind {
     Digit,
     Word,
@@ -198,7 +200,7 @@ pub fn close_case(s: [u64; 4]) -> [u64; 4]
 }
 
 // What a byte is to an assertion that looks at it from a gap beside it.
-#[derive(Drop)]
+#[derive(Clone, Copy)]
 pub enum Side {
     Other,
     Word,

@@ -2,6 +2,8 @@
 // reported at an end offset. Only positions that keep a start are looked at, and none where no rule
 // of the table has a smallest length. Nothing is required of a caller: the promise holds for any
 // words. specs/Long.antt says what is asked.
+#![tactic(auto)]
+
 ghost use Rattle.std.specs.Prelude.{◌≡◌, ◌+◌, ◌≤◌, ◌<◌, leb, length};
 ghost use Rattle.table.specs.Layout.{table_words};
 ghost use Rattle.table.specs.Automaton.{automaton};

@@ -2,6 +2,8 @@
 // many bytes may still be asked for, and the lines of output. All are plain functions over bytes,
 // so that the program itself stays thin. Nothing is required of a caller: specs/Lines.antt,
 // specs/Numbers.antt and specs/Output.antt say what each function gives.
+#![tactic(auto)]
+
 mod output;
 
 ghost use Rattle.std.specs.Prelude.{◌≡◌, cond, ◌&&◌, ◌+◌, ◌^◌, ◌<◌, min, length, get_or, drop, leb};
@@ -31,7 +33,7 @@ const LARGEST: u64 = 4_294_967_295;
 const CAP: u64 = 4_294_967_296;
 
 // A rule line: its id, its flags, and where its pattern begins; or malformed, and zeros.
-#[derive(Drop)]
+#[derive(Clone, Copy)]
 pub struct RuleLine {
     pub good: bool,
     pub id: u32,
@@ -40,14 +42,14 @@ pub struct RuleLine {
 }
 
 // A number in decimal: the first `size` bytes are its digits, the rest zeros.
-#[derive(Drop)]
+#[derive(Clone, Copy)]
 pub struct Decimal {
     pub digits: [u8; 20],
     pub size: usize,
 }
 
 // The digits at a place: the number that they make, at most CAP, and where they end.
-#[derive(Drop)]
+#[derive(Clone, Copy)]
 struct Digits {
     value: u64,
     end: usize,
@@ -55,7 +57,7 @@ struct Digits {
 
 // A number of a rule line with the space after it: its value, and where the rest of the line
 // begins; or malformed, and zeros.
-#[derive(Drop)]
+#[derive(Clone, Copy)]
 struct Field {
     good: bool,
     value: u32,

@@ -9,7 +9,7 @@ ghost use Rattle.lines.specs.Invariants.{text_of, joined};
 use crate::decimal_of;
 
 // A text: the first `size` bytes, the rest zeros. No line has more than 80.
-#[derive(Drop)]
+#[derive(Clone, Copy)]
 struct Text {
     bytes: [u8; 80],
     size: usize,

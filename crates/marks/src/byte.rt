@@ -11,7 +11,7 @@ use nodes::layout::word;
 
 // What a byte brings: the least start of the matches that end before it, now that it is known, and
 // of those that end with it, while nothing is known of the next.
-#[derive(Drop)]
+#[derive(Clone, Copy)]
 pub struct Ends {
     pub late: u64,
     pub own: u64,

@@ -13,7 +13,7 @@ use nodes::layout;
 use nodes::layout::word;
 
 // What a form is to those around it.
-#[derive(Drop)]
+#[derive(Clone, Copy)]
 struct Piece {
     pub size: usize,
     pub null: u64,

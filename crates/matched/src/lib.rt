@@ -2,6 +2,8 @@
 // after it, which begins at `offset` of the stream. A match from `start` up to `end` is shown from
 // the block or from the tail, whichever holds it whole, the block first if both could. Nothing is
 // required of a caller.
+#![tactic(auto)]
+
 ghost use Rattle.std.specs.Prelude.{◌≡◌};
 ghost use Rattle.matched.specs.Matched.{in_block, in_tail, matched_bytes, matched_part, matched_number};
 
@@ -50,7 +52,7 @@ pub fn matched_bytes<'a>(
 }
 
 // Where bytes stand: in the tail or in the block, from which place on, and how many.
-#[derive(Drop)]
+#[derive(Clone, Copy)]
 pub struct Part {
     pub tail: bool,
     pub place: usize,

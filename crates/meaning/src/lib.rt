@@ -1,2 +1,3 @@
 // What a rule means: no code lives here. specs/ holds the definitions, proofs/ the theorems about
 // them.
+#![tactic(auto)]

@@ -7,7 +7,7 @@ use crate::LONGEST;
 
 // Smallest and largest end offset, and smallest length of a match. One that is left out is 0, the
 // largest number, 0.
-#[derive(Drop)]
+#[derive(Clone, Copy)]
 pub struct Bounds {
     pub lowest: u64,
     pub highest: u64,

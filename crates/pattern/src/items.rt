@@ -18,7 +18,7 @@ use tokens::{Lexeme, Options, Token, item_set, token_at};
 // What a reader hands back. Fault 0: it has read up to place `at`, the words below n are written,
 // root is the tree's node, and `options` hold from there on. Else the refusal's number, and its
 // place in `at`.
-#[derive(Drop)]
+#[derive(Clone, Copy)]
 pub struct Got {
     pub fault: u32,
     pub at: usize,

@@ -2,6 +2,8 @@
 // tree comes back by value as numbered nodes in an array of words, each node's children with
 // smaller numbers, so nothing is lent and a refusal has nothing to leave alone. The windows that
 // are given beside a pattern stand in `bounds`.
+#![tactic(auto)]
+
 mod bounds;
 mod groups;
 mod items;
@@ -23,7 +25,7 @@ pub const NODE_WORDS: usize = 8192;
 
 // What reading a pattern gives: number 0 with place 0, the tree's root, how many words its nodes
 // take, and its positions; or the refusal's number and place, and zeros.
-#[derive(Drop)]
+#[derive(Clone, Copy)]
 pub struct Reading {
     pub number: u32,
     pub place: usize,

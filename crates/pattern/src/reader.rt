@@ -8,7 +8,7 @@ use crate::{Reading, read_at};
 use tokens::{Lexeme, Options, token_at};
 
 // The bytes of a pattern, and a place in them. A place past the end reads as the end.
-#[derive(Drop)]
+#[derive(Clone, Copy)]
 pub struct Reader<'a> {
     pub bytes: &'a [u8],
     pub at: usize,

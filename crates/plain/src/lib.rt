@@ -1,6 +1,8 @@
 // The plain second matcher: pattern bytes, flags, bounds and a whole log in; a refusal, or the end
 // offsets and starts of the rule's reports in their order. It uses no table and no automaton: marks
 // are moved along the rows of the rule as it is written out, byte by byte.
+#![tactic(auto)]
+
 mod run;
 
 ghost use Rattle.std.specs.Prelude.{◌≡◌, min};
@@ -14,7 +16,7 @@ use run::Wanted;
 
 // The answer: number 0, place 0 and how many reports, or the refusal's number and place and no
 // reports.
-#[derive(Drop)]
+#[derive(Clone, Copy)]
 pub struct Matched {
     pub number: u32,
     pub place: usize,

@@ -14,7 +14,7 @@ use pattern::Bounds;
 
 // What is reported of a rule's matches: the first alone, or all; with their starts, or with zeros;
 // and only those inside the bounds.
-#[derive(Drop)]
+#[derive(Clone, Copy)]
 pub(super) struct Wanted {
     pub single: bool,
     pub leftmost: bool,
@@ -86,7 +86,7 @@ fn both(
 
 // How far a run came: the reports, and the least starts of the matches that end before the last
 // byte taken and with it.
-#[derive(Drop)]
+#[derive(Clone, Copy)]
 pub(super) struct Taken {
     pub count: usize,
     pub late: u64,

@@ -4,6 +4,8 @@
 // none; newlines before it need no look. Nothing is required of a caller. The crate `stream` passes
 // over such bytes too, by functions of its own: its loop would be slower if they had a second
 // caller. specs/Pass.antt says where a pass ends.
+#![tactic(auto)]
+
 ghost use Rattle.std.specs.Prelude.{◌≡◌, true, ◌+◌, ◌≤◌, min, length};
 ghost use Rattle.table.specs.Automaton.{automaton};
 ghost use Rattle.stream.specs.Invariants.{NoOpener};

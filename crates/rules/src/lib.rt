@@ -1,6 +1,8 @@
 // Adding a rule: pattern bytes, id, flags and windows in; a refusal with its place that leaves
 // every word as it was, or the table with the rule. Every refusal is settled before the first word
 // is written. specs/Add.antt says what the answer is, specs/Words.antt what the words are then.
+#![tactic(auto)]
+
 mod write;
 
 ghost use Rattle.std.specs.Prelude.{◌≡◌, ◌≤◌, length};
@@ -15,7 +17,7 @@ use table::layout::{
 };
 
 // The answer of an addition: number 0 and place 0, or the refusal's number and place.
-#[derive(Drop)]
+#[derive(Clone, Copy)]
 pub struct Added {
     pub number: u32,
     pub place: usize,

@@ -3,6 +3,8 @@
 // This crate has its layout, its yes-or-no test beside the rule table, and the build. Nothing is
 // required of a caller. specs/Layout.antt names the words, specs/Entries.antt says which entries
 // there are and what each word is, specs/Second.antt is the test.
+#![tactic(auto)]
+
 mod builder;
 pub mod layout;
 mod test;
@@ -13,7 +15,7 @@ pub use test::is_second;
 
 // What entries are told apart by: the live set, what is held in case the last line ends before the
 // last byte, and what that byte is to the assertions after it.
-#[derive(Drop)]
+#[derive(Clone, Copy)]
 pub struct Key {
     pub live: [u64; 4],
     pub held: [u64; 4],

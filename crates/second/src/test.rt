@@ -20,7 +20,7 @@ pub(super) fn words_at(second: &[u64], at: usize) -> [u64; 4]
 
 // What some entries name, joined: the positions and the rules; and whether the busy figure of each
 // is the ones in its live set. So what they name is tested once.
-#[derive(Drop)]
+#[derive(Clone, Copy)]
 struct Named {
     pub set: [u64; 4],
     pub rules: u64,

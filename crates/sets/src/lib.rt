@@ -1,6 +1,8 @@
 // Sets of numbers below 256, each in four 64-bit words: a set of bytes, or of positions of the
 // automaton. Number q is binary digit q % 64 of word q / 64. A set goes in and comes back by value,
 // and nothing is required of a caller. specs/Set.antt says what each function makes.
+#![tactic(auto)]
+
 ghost use Rattle.std.specs.Prelude.{◌≡◌, ◌-◌, ◌^◌, min};
 ghost use Rattle.sets.specs.Set.{has, empty_set, full_set, inserted, inserted_range, union_of, intersection_of, complement_of, kept_below, is_empty, size_of};
 

@@ -2,6 +2,8 @@
 // is something to keep one for, and 0 elsewhere. Most starts are 0, so each 64 of them are joined
 // first, and looked at one by one only if one is not. Nothing is required of a caller: the promise
 // holds for any state. specs/Order.antt says what is asked.
+#![tactic(auto)]
+
 ghost use Rattle.std.specs.Prelude.{◌≡◌, ◌+◌, ◌≤◌, length};
 ghost use Rattle.sets.specs.Set.{on, has};
 ghost use Rattle.table.specs.Layout.{max_rules, max_positions};

@@ -1,6 +1,8 @@
 // A state as words that the caller owns: reading one, and writing one. A stream's are fifteen; one
 // with starts has these first, then the starts of the live positions, of the held ones and of the
 // held pairs. Too few words are read as none, and stay as they are.
+#![tactic(auto)]
+
 ghost use Rattle.std.specs.Prelude.{◌≡◌, [], ◌+◌, ◌-◌, ◌≤◌, length, get_or};
 ghost use Rattle.table.specs.Invariants.{over};
 ghost use Rattle.states.specs.State.{state_words, trace_words, side_in, side_word, state_of, trace_of, stream_words, live_words, held_words, pair_words, traced_words, stored, stream_form, traced_form};

@@ -46,7 +46,7 @@ pub fn takers(words: &[u64], byte: u8) -> [u64; 4]
 
 // What one byte leaves: the live set after it, and how many positions were live before it, each of
 // which took a turn.
-#[derive(Drop)]
+#[derive(Clone, Copy)]
 pub struct Stepped {
     pub live: [u64; 4],
     pub turns: u32,

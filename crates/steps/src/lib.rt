@@ -3,6 +3,8 @@
 // above, in the crate `stream`. Nothing is required of a caller: each promise holds for any words,
 // and what is given of words too few for a table is the empty set, or 0. specs/Step.antt says what
 // each function gives.
+#![tactic(auto)]
+
 mod byte;
 mod line;
 mod rows;

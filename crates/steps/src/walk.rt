@@ -10,7 +10,7 @@ use super::rows::row;
 use table::layout::SET_WORDS;
 
 // What a walk leaves: the set that it has joined to, and how many turns it took.
-#[derive(Drop)]
+#[derive(Clone, Copy)]
 pub(super) struct Walked {
     pub set: [u64; 4],
     pub turns: u32,

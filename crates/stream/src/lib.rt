@@ -1,6 +1,8 @@
 // The stream: opening, scanning, closing, and the busy figure. The state goes in by value and the
 // next state comes back inside the answer. Nothing is required of a caller: each promise holds for
 // any words, state and inputs. specs/Calls.antt says what each call gives.
+#![tactic(auto)]
+
 mod checks;
 mod reports;
 mod scan;
@@ -29,7 +31,7 @@ pub const NO_LIMIT: u64 = 0xffff_ffff_ffff_ffff;
 // byte taken; a mark for each single-match rule that has reported, and one for each rule with a
 // pair that is held likewise; what the last byte is to the assertions after it, `Other` before the
 // first; the bytes taken, the counts of its table, and whether it is closed.
-#[derive(Drop)]
+#[derive(Clone, Copy)]
 pub struct Stream {
     pub live: [u64; 4],
     pub held: [u64; 4],
@@ -43,7 +45,7 @@ pub struct Stream {
 }
 
 // The answer of an opening.
-#[derive(Drop)]
+#[derive(Clone, Copy)]
 pub struct Opened {
     pub number: u32,
     pub stream: Stream,
@@ -51,7 +53,7 @@ pub struct Opened {
 
 // The answer of a scan: its number, how many bytes it took, how many reports it wrote, how many
 // units of work it used, the next state.
-#[derive(Drop)]
+#[derive(Clone, Copy)]
 pub struct Scanned {
     pub number: u32,
     pub taken: usize,
@@ -62,7 +64,7 @@ pub struct Scanned {
 
 // How far an accepted scan came: whether it stopped, how many bytes it took, how many reports it
 // wrote, the units that it did not use, the next state.
-#[derive(Drop)]
+#[derive(Clone, Copy)]
 struct Advance {
     pub stopped: bool,
     pub taken: usize,
@@ -72,7 +74,7 @@ struct Advance {
 }
 
 // The answer of a closing.
-#[derive(Drop)]
+#[derive(Clone, Copy)]
 pub struct Closed {
     pub number: u32,
     pub reports: usize,

@@ -16,7 +16,7 @@ use super::checks::least;
 use steps::{closing, in_window, rule_id, singles};
 
 // What a run leaves: the place after its last report, and the marks afterwards.
-#[derive(Drop)]
+#[derive(Clone, Copy)]
 pub(super) struct Run {
     pub next: usize,
     pub reported: u64,
@@ -99,7 +99,7 @@ fn write_two(
 
 // What one byte's runs come to: whether the free space is too small for their reports, how many
 // were written, and the marks afterwards.
-#[derive(Drop)]
+#[derive(Clone, Copy)]
 pub(super) struct Delivery {
     pub full: bool,
     pub reports: usize,

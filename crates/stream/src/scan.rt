@@ -124,7 +124,7 @@ fn passed_side(from: usize, to: usize, side: Side, block: &[u8]) -> Side
 // What a scan asks a table for once: the positions that can end a match, and those of them that can
 // end one only once the next byte is known; the single-match rules; and the positions that there
 // are.
-#[derive(Drop)]
+#[derive(Clone, Copy)]
 pub(super) struct Sets {
     pub enders: [u64; 4],
     pub late: [u64; 4],
@@ -180,7 +180,7 @@ fn own_rules(next: [u64; 4], end: u64, words: &[u64]) -> u64
 // What the reports of a byte come to: whether the free space is too small for them, how many were
 // written, and the marks afterwards; and whether a position that is live after it waits for the
 // next byte.
-#[derive(Drop)]
+#[derive(Clone, Copy)]
 struct Given {
     pub full: bool,
     pub reports: usize,
@@ -240,7 +240,7 @@ fn report(
 // what the last byte is to the assertions after it, and whether a live position waits for the next;
 // how many bytes are taken, how many reports are written, and the units that are left; and whether
 // it stopped before a byte that is not there, cannot be paid for or cannot be reported.
-#[derive(Drop)]
+#[derive(Clone, Copy)]
 pub(super) struct Turn {
     pub live: [u64; 4],
     pub before: [u64; 4],
@@ -404,7 +404,7 @@ pub(super) fn run(
 
 // What waits for the stream's end after a byte: the held positions, and the rules with a pair at
 // the offset before it.
-#[derive(Drop)]
+#[derive(Clone, Copy)]
 pub(super) struct Waiting {
     pub held: [u64; 4],
     pub pending: u64,

@@ -3,6 +3,8 @@
 // Nothing is required of a caller. docs/TABLE.md lists the words; specs/Layout.antt names them,
 // specs/Gaps.antt the gaps, specs/Table.antt is the test, specs/Automaton.antt says what passing
 // words describe.
+#![tactic(auto)]
+
 pub mod gaps;
 pub mod layout;
 

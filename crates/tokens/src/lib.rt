@@ -3,6 +3,8 @@
 // quotes, and what atoms has: bytes and escapes. A place past the pattern's end reads as its end,
 // so nothing is required of a caller. specs/ says what each function gives, for the bytes from the
 // place on.
+#![tactic(auto)]
+
 mod lexer;
 mod option;
 mod quantifier;
@@ -11,7 +13,7 @@ use atoms::Atom;
 pub use lexer::{item_set, token_at};
 
 // How the bytes at a place are read: the options `i`, `s` and `m`, and whether a quote is open.
-#[derive(Drop)]
+#[derive(Clone, Copy)]
 pub struct Options {
     pub caseless: bool,
     pub dotall: bool,
@@ -20,7 +22,7 @@ pub struct Options {
 }
 
 // What stands at a place outside a class.
-#[derive(Drop)]
+#[derive(Clone, Copy)]
 pub enum Token {
     // nothing: the pattern has ended
     Finish,
@@ -48,7 +50,7 @@ pub enum Token {
 
 // A quantifier without its mark: whether one stands here at all, its bytes, its fault 11 or 0, the
 // least number of copies, and how many more; 65,536 more is any number.
-#[derive(Drop)]
+#[derive(Clone, Copy)]
 pub struct Form {
     pub is: bool,
     pub size: usize,
@@ -58,7 +60,7 @@ pub struct Form {
 }
 
 // A token with its own lowest fault or 0, and the bytes it takes; 0 bytes where it is faulty.
-#[derive(Drop)]
+#[derive(Clone, Copy)]
 pub struct Lexeme {
     pub fault: u32,
     pub size: usize,

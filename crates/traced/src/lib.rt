@@ -3,6 +3,8 @@
 // beside each held pair of a rule that reports them; a match that is too short does not count.
 // Nothing is required of a caller: each promise holds for any words, state and inputs.
 // specs/Calls.antt says what each call gives.
+#![tactic(auto)]
+
 mod checks;
 mod pass;
 mod reports;
@@ -19,7 +21,7 @@ use stream::Stream;
 
 // The starts of the live positions, of the held positions, and of the held pairs, each 0 where
 // there is none.
-#[derive(Drop)]
+#[derive(Clone, Copy)]
 pub struct Starts {
     pub live: [u64; 256],
     pub held: [u64; 256],
@@ -27,14 +29,14 @@ pub struct Starts {
 }
 
 // A stream's state with its starts.
-#[derive(Drop)]
+#[derive(Clone, Copy)]
 pub struct Traced {
     pub stream: Stream,
     pub starts: Starts,
 }
 
 // The answer of an opening.
-#[derive(Drop)]
+#[derive(Clone, Copy)]
 pub struct Opened {
     pub number: u32,
     pub traced: Traced,
@@ -42,7 +44,7 @@ pub struct Opened {
 
 // The answer of a scan: its number, how many bytes it took, how many reports it wrote, how many
 // units of work it used, the next state.
-#[derive(Drop)]
+#[derive(Clone, Copy)]
 pub struct Scanned {
     pub number: u32,
     pub taken: usize,
@@ -52,7 +54,7 @@ pub struct Scanned {
 }
 
 // The answer of a closing.
-#[derive(Drop)]
+#[derive(Clone, Copy)]
 pub struct Closed {
     pub number: u32,
     pub reports: usize,

@@ -20,7 +20,7 @@ use stream::Stream;
 
 // What a run is written with: the single-match rules, those that report starts, and the offset from
 // which relative starts are measured.
-#[derive(Drop)]
+#[derive(Clone, Copy)]
 pub(super) struct Marks {
     pub single: u64,
     pub leftmost: u64,
@@ -28,7 +28,7 @@ pub(super) struct Marks {
 }
 
 // What a run leaves: the place after its last report, and the marks afterwards.
-#[derive(Drop)]
+#[derive(Clone, Copy)]
 pub(super) struct Run {
     pub next: usize,
     pub reported: u64,

@@ -36,7 +36,7 @@ const NEWLINE: u8 = 10;
 // What a scan asks a table for once: the positions that can end a match, those that can end one
 // only once the next byte is known, those that keep a start, and those that there are; the
 // single-match rules, and those that report starts.
-#[derive(Drop)]
+#[derive(Clone, Copy)]
 pub(super) struct Gates {
     pub last: [u64; 4],
     pub late: [u64; 4],
@@ -67,7 +67,7 @@ pub(super) fn gates_of(words: &[u64]) -> Gates
 
 // What waits for the stream's end after a byte: the held positions, and the rules with a pair at
 // the offset before it.
-#[derive(Drop)]
+#[derive(Clone, Copy)]
 struct Waiting {
     pub held: [u64; 4],
     pub pending: u64,
@@ -281,7 +281,7 @@ fn carry_waiting(
 // written, and the units that are left; whether a start of a live position, and of what is held,
 // may not be 0; and whether it stopped before a byte that is not there, cannot be paid for or
 // cannot be reported.
-#[derive(Drop)]
+#[derive(Clone, Copy)]
 pub(super) struct Turn {
     pub stream: Stream,
     pub at: usize,
@@ -295,7 +295,7 @@ pub(super) struct Turn {
 // What one byte's runs come to: whether the free space is too small for their reports, how many
 // were written, the marks afterwards, and whether a start of a live position, and of what is held,
 // may not be 0.
-#[derive(Drop)]
+#[derive(Clone, Copy)]
 struct Delivery {
     pub full: bool,
     pub reports: usize,
@@ -305,7 +305,7 @@ struct Delivery {
 }
 
 // Whether a start of a live position, and of what is held, may not be 0.
-#[derive(Drop)]
+#[derive(Clone, Copy)]
 struct Kept {
     pub some: bool,
     pub waits: bool,

@@ -1,6 +1,8 @@
 // The watcher: adds the rules of rules.txt, says which were refused, and watches standard input.
 // Only reading and writing is here; what is read and what is written are functions of `lines`, what
 // the rules and the stream do is `rules` and `stream`.
+#![tactic(auto)]
+
 mod output;
 mod rules_file;
 mod trace;

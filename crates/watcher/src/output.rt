@@ -5,7 +5,7 @@ ghost use Rattle.std.specs.Prelude.{◌≤◌, length};
 use libc::STDOUT_FILENO;
 
 // What became of a line: whether nothing failed, and where the next line goes in the buffer.
-#[derive(Drop)]
+#[derive(Clone, Copy)]
 pub struct Said {
     pub good: bool,
     pub next: usize,

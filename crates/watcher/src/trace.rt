@@ -11,7 +11,7 @@ use stream::NO_LIMIT;
 use traced::Traced;
 
 // What became of a block: whether its reports were written, and the state after it.
-#[derive(Drop)]
+#[derive(Clone, Copy)]
 struct Traces {
     good: bool,
     traced: Traced,

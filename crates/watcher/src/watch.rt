@@ -15,7 +15,7 @@ use libc::STDIN_FILENO;
 use stream::{NO_LIMIT, Stream, needs_starts};
 
 // What became of a block: whether its reports were written, and the state after it.
-#[derive(Drop)]
+#[derive(Clone, Copy)]
 struct Watched {
     good: bool,
     stream: Stream,

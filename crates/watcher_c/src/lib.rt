@@ -2,6 +2,8 @@
 // there. The state is fifteen words that the caller owns; the functions on a stream with starts are
 // in the crate watcher_trace_c. Nothing is required of a caller but that its slices are what they
 // say. specs/Interface.antt has each answer and every lent word afterwards.
+#![tactic(auto)]
+
 ghost use Rattle.std.specs.Prelude.{◌≡◌};
 ghost use Rattle.table.specs.Table.{empty_number, emptied};
 ghost use Rattle.pattern.specs.Windows.{windows_of};

@@ -2,6 +2,8 @@
 // owns, and a report is a slot of four lists. A crate by itself, so that the compiler sees one
 // caller of the loop here and one in watcher_c. Nothing is required of a caller but that its slices
 // are what they say.
+#![tactic(auto)]
+
 ghost use Rattle.std.specs.Prelude.{◌≡◌};
 ghost use Rattle.traced.specs.Calls.{opened, lists, call};
 ghost use Rattle.states.specs.State.{traced_form};
