@@ -1,0 +1,10 @@
+-- `fragments::choice` meets its contract: the unions of the sets.
+use Rattle.automaton.proofs.Pieces.{choice-is}
+use Rattle.automaton.proofs.fragments.choice.Goals as goal
+
+pub returns : goal.returns
+returns c =
+    let c-start = c.before.before.before.before.before.before.before.before.before.before in
+    let c-union = c.union-first in
+    let c-union2 = c.union-last in
+    choice-is c-start.args.f c-start.args.g c-union.ensures c-union2.ensures

@@ -1,0 +1,14 @@
+-- `card::crc::crc_of` meets its contract: a turn is the bit-by-bit step of a byte, by the table's
+-- rule.
+use Prim.Native.Nat.{◌-◌}
+use Rattle.card.proofs.Checksum.{Passed}
+use Rattle.card.proofs.crc.crc_of.Reads as reads
+use Rattle.card.proofs.crc.crc_of.Lts as lts
+use Rattle.card.proofs.crc.entries.Reads as entries-reads
+use Rattle.card.proofs.crc.crc_of.Given as goal
+
+abbrev pub invariant-loop-i : goal.invariant-loop-i
+invariant-loop-i l = Passed l.bytes l.n l.state l.i
+
+abbrev pub decreases-loop-i : goal.decreases-loop-i
+decreases-loop-i l = l.n - l.i

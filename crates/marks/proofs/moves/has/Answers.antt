@@ -1,0 +1,8 @@
+-- `has` meets its contract: it reads one digit.
+use Rattle.marks.proofs.Worlds.{digit-is}
+use Rattle.marks.proofs.moves.has.Goals as goal
+
+pub returns : goal.returns
+returns c =
+    let c-start = c in
+    digit-is c-start.args.mask c-start.args.g

@@ -1,0 +1,35 @@
+-- `report` meets its contract: the slot `count` of both lists is written where the report is due
+-- and allowed, and there is one.
+use native.Mathlib.Omega.{arith}
+use Rattle.plain.specs.Run.{lent}
+use Rattle.plain.proofs.Reports.{report-room, report-made, report-not}
+use Rattle.plain.proofs.run.report.Goals as goal
+
+pub bounds-offsets-count : goal.bounds-offsets-count
+bounds-offsets-count c =
+    let c-start = c.before.before.before.before.before in
+    let c-inside = c.inside in
+    let c-if1 = c.if-due-wanted in
+    omega (arith, (report-room c-start.args.wanted c-start.args.new c-start.args.e c-start.args.x c-start.args.count (lent c-start.args.offsets.now c-start.args.starts.now) c-inside.ensures c-if1.true c-start.requires).offsets)
+
+pub bounds-starts-count : goal.bounds-starts-count
+bounds-starts-count c =
+    let c-start = c.before.before.before.before.before.before in
+    let c-inside = c.inside in
+    let c-if1 = c.if-due-wanted in
+    omega (arith, (report-room c-start.args.wanted c-start.args.new c-start.args.e c-start.args.x c-start.args.count (lent c-start.args.offsets.now c-start.args.starts.now) c-inside.ensures c-if1.true c-start.requires).starts)
+
+pub returns-then-due-wanted : goal.returns-then-due-wanted
+returns-then-due-wanted c =
+    let c-start = c.before.before.before.before.before.before in
+    let c-inside = c.inside in
+    let c-if1 = c.if-due-wanted in
+    let c-start-of = c.start_of_lem in
+    report-made c-start.args.wanted c-start.args.new c-start.args.e c-start.args.x c-start.args.count (lent c-start.args.offsets.now c-start.args.starts.now) c-inside.ensures c-if1.true c-start-of.ensures (omega arith)
+
+pub returns : goal.returns
+returns c =
+    let c-start = c.before.before.before.before.before in
+    let c-inside = c.inside in
+    let c-if1 = c.if-due-wanted in
+    report-not c-start.args.wanted c-start.args.new c-start.args.e c-start.args.x c-start.args.count (lent c-start.args.offsets.now c-start.args.starts.now) c-inside.ensures c-if1.false

@@ -1,0 +1,39 @@
+-- `rules::write::digits_with` meets its contract: each turn asks one place and sets its digit.
+use mathlib.Core.Path.{◌≡◌, sym, ap, ap₂, ◌∙◌}
+use mathlib.Core.Bool.{Bool, ◌&&◌}
+use mathlib.Core.Logic.{⊎_elim}
+use Prim.Native.Nat.{ℕ}
+use native.Mathlib.Omega.{arith}
+use lib.Bits.{bit_or}
+use lib.Dec.{ltb}
+use borrow.Author.Tests.{lt-ltb}
+use Rattle.sets.proofs.Digits.{shl_one, word_of-ext}
+use Rattle.table.proofs.Members.{places_below, places-none, places-hit, places-miss}
+use Rattle.rules.specs.Words.{digits_with}
+use Rattle.rules.proofs.write.digits_with.Invariants.{digit}
+use Rattle.rules.proofs.write.digits_with.Goals as goal
+
+whole : (k : ℕ) (new : Bool) (old a : ℕ) → a ≡ 64 → places_below a (digit k new old) ≡ digits_with k new old
+unfolding digits_with
+whole k new old a e =
+    word_of-ext 64 (λ i. ltb i a && digit k new old i) (digit k new old) (λ i h. ap (λ (b : Bool). b && digit k new old i) (lt-ltb i a (omega arith)))
+
+pub loop-a-init : goal.loop-a-init
+loop-a-init c = (omega arith, places-none (digit c.args.k c.args.new c.args.old))
+
+pub loop-a-preserved : goal.loop-a-preserved
+loop-a-preserved c =
+    let a = c.args in
+    let l = c.loop-a in
+    let f = digit a.k a.new a.old in
+    let asked = c.digit_at in
+    ⊎_elim
+    (λ w. (omega arith, w.1 ∙ ap₂ bit_or l.invariant.1 (shl_one l.a (omega arith)) ∙ places-hit f l.a (omega arith) (sym asked.ensures ∙ w.0.taken)))
+    (λ w. (omega arith, w.1 ∙ l.invariant.1 ∙ places-miss f l.a (sym asked.ensures ∙ w.0.left)))
+    c.if-digit_at.branch
+
+pub returns : goal.returns
+returns c =
+    let a = c.args in
+    let l = c.loop-a in
+    l.invariant.1 ∙ whole a.k a.new a.old l.a (omega arith)

@@ -1,0 +1,139 @@
+-- `second::builder::target_of` meets its contract: by cases on where the byte leads.
+use mathlib.Core.Path.{◌≡◌, sym, ap, ◌∙◌}
+use Prim.Native.Nat.{◌/◌, ◌%◌}
+use native.Mathlib.Nat.{add-zero}
+use native.Mathlib.Omega.{arith}
+use Rattle.table.specs.Automaton.{automaton}
+use Rattle.second.specs.declared.Key.{Key}
+use Rattle.second.specs.Layout.{row_at}
+use Rattle.second.specs.Entries.{first_of, needs_old}
+use Rattle.second.specs.Invariants.{key_in, has_key, place_in}
+use Rattle.second.proofs.Gathering.{leads-to, target-old, target_none, target-some}
+use Rattle.second.proofs.builder.target_of.Goals as goal
+
+pub key_at-k-requires : goal.key_at-k-requires
+key_at-k-requires c =
+    let c-start = c.before.before in
+    (c-start.requires.1, omega (arith, c-start.requires.2, c-start.requires.3))
+
+pub needs_old-requires : goal.needs_old-requires
+needs_old-requires c =
+    let c-start = c.before.before.before in
+    c-start.requires.0
+
+pub returns-then-needs_old : goal.returns-then-needs_old
+returns-then-needs_old c =
+    let c-start = c.before.before.before.before.before in
+    let c-needs-old = c.needs_old in
+    let c-key-at = c.key_at-k in
+    let c-if1 = c.if-needs_old in
+    let a = c-start.args in
+    let w = automaton a.words.now in
+    let b = a.second.now in
+    let asks = c-needs-old.ensures ∙ ap (λ (k : Key). needs_old w (a.n / 256) k (a.n % 256)) c-key-at.ensures in
+    target-old w b a.count a.n (sym asks ∙ c-if1.true)
+
+pub reach-requires : goal.reach-requires
+reach-requires c =
+    let c-start = c.before.before.before.before.before in
+    c-start.requires.0
+
+pub without_starts-requires : goal.without_starts-requires
+without_starts-requires c =
+    let c-start = c.before.before.before.before.before.before in
+    c-start.requires.0
+
+pub place-next-requires : goal.place-next-requires
+place-next-requires c =
+    let six = c.before.before.before.before.before.before in
+    let c-start = six.before in
+    (c-start.requires.1, c-start.requires.2)
+
+pub returns-then-count-next : goal.returns-then-count-next
+returns-then-count-next c =
+    let six = c.before.before.before.before.before.before in
+    let c-start = six.before.before.before in
+    let c-needs-old = c.needs_old in
+    let c-key-at = c.key_at-k in
+    let c-place = c.place-next in
+    let c-reach = c.reach in
+    let c-without-starts = c.without_starts in
+    let c-if1 = c.if-needs_old in
+    let c-if2 = c.if-count-next in
+    let a = c-start.args in
+    let w = automaton a.words.now in
+    let b = a.second.now in
+    let asks = c-needs-old.ensures ∙ ap (λ (k : Key). needs_old w (a.n / 256) k (a.n % 256)) c-key-at.ensures in
+    let where-is : c-place.result ≡ place_in w b a.count a.n = c-place.ensures ∙ ap (λ (k : Key). first_of a.count (has_key b k))
+    (leads-to w (a.n / 256) (a.n % 256) (key_in b (a.n / 256)) c-key-at.result c-key-at.ensures c-reach.result c-reach.ensures c-without-starts.result c-without-starts.ensures) in
+    target_none w b a.count a.n (sym asks ∙ c-if1.false) c-place.result where-is c-if2.true
+
+pub overflow_mul-row : goal.overflow_mul-row
+overflow_mul-row c =
+    let six = c.before.before.before.before.before.before in
+    let c-start = six.before.before.before in
+    let c-if2 = c.if-count-next in
+    omega (arith, c-start.requires.2, c-if2.false)
+
+pub overflow_add-row : goal.overflow_add-row
+overflow_add-row c =
+    let six = c.before.before.before.before.before.before in
+    let c-start = six.before.before.before in
+    let c-if2 = c.if-count-next in
+    omega (arith, c-start.requires.2, c-if2.false)
+
+pub is_quiet-requires : goal.is_quiet-requires
+is_quiet-requires c =
+    let six = c.before.before.before.before.before.before in
+    let c-start = six.before.before.before in
+    let c-if2 = c.if-count-next in
+    (c-start.requires.1, omega (arith, c-start.requires.2, c-start.requires.3), omega (arith, c-start.requires.2, c-if2.false))
+
+pub overflow_add-result : goal.overflow_add-result
+overflow_add-result c =
+    let six = c.before.before.before.before.before.before in
+    let c-start = six.before.before.before.before.before in
+    let c-if2 = c.if-count-next in
+    omega (arith, c-start.requires.2, c-if2.false)
+
+pub returns-then-is_quiet : goal.returns-then-is_quiet
+returns-then-is_quiet c =
+    let six = c.before.before.before.before.before.before in
+    let c-start = six.before.before.before.before.before in
+    let c-needs-old = six.needs_old in
+    let c-key-at = six.key_at-k in
+    let c-place = c.place-next in
+    let c-reach = c.reach in
+    let c-without-starts = c.without_starts in
+    let c-if1 = c.if-needs_old in
+    let c-if2 = c.if-count-next in
+    let c-is-quiet = c.is_quiet in
+    let c-if3 = c.if-is_quiet in
+    let a = c-start.args in
+    let w = automaton a.words.now in
+    let b = a.second.now in
+    let asks = c-needs-old.ensures ∙ ap (λ (k : Key). needs_old w (a.n / 256) k (a.n % 256)) c-key-at.ensures in
+    let where-is : c-place.result ≡ place_in w b a.count a.n = c-place.ensures ∙ ap (λ (k : Key). first_of a.count (has_key b k))
+    (leads-to w (a.n / 256) (a.n % 256) (key_in b (a.n / 256)) c-key-at.result c-key-at.ensures c-reach.result c-reach.ensures c-without-starts.result c-without-starts.ensures) in
+    sym (add-zero (row_at c-place.result)) ∙ target-some w b a.count a.n (sym asks ∙ c-if1.false) c-place.result where-is (omega (arith, c-if2.false)) _ (sym c-is-quiet.ensures ∙ c-if3.true)
+
+pub returns-else-is_quiet : goal.returns-else-is_quiet
+returns-else-is_quiet c =
+    let six = c.before.before.before.before.before.before in
+    let c-start = six.before.before.before.before.before in
+    let c-needs-old = six.needs_old in
+    let c-key-at = six.key_at-k in
+    let c-place = c.place-next in
+    let c-reach = c.reach in
+    let c-without-starts = c.without_starts in
+    let c-if1 = c.if-needs_old in
+    let c-if2 = c.if-count-next in
+    let c-is-quiet = c.is_quiet in
+    let c-if3 = c.if-is_quiet in
+    let a = c-start.args in
+    let w = automaton a.words.now in
+    let b = a.second.now in
+    let asks = c-needs-old.ensures ∙ ap (λ (k : Key). needs_old w (a.n / 256) k (a.n % 256)) c-key-at.ensures in
+    let where-is : c-place.result ≡ place_in w b a.count a.n = c-place.ensures ∙ ap (λ (k : Key). first_of a.count (has_key b k))
+    (leads-to w (a.n / 256) (a.n % 256) (key_in b (a.n / 256)) c-key-at.result c-key-at.ensures c-reach.result c-reach.ensures c-without-starts.result c-without-starts.ensures) in
+    target-some w b a.count a.n (sym asks ∙ c-if1.false) c-place.result where-is (omega (arith, c-if2.false)) _ (sym c-is-quiet.ensures ∙ c-if3.false)

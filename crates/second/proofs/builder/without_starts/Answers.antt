@@ -1,0 +1,15 @@
+-- `second::builder::without_starts` meets its contract: the positions that keep a start are left
+-- out.
+use Rattle.table.proofs.Test.{passes}
+use Rattle.second.proofs.Gathering.{startless-is}
+use Rattle.second.proofs.builder.without_starts.Goals as goal
+
+pub returns : goal.returns
+returns c =
+    let six = c.before.before.before.before.before.before in
+    let c-start = six.before in
+    let c-keepers = c.keepers in
+    let c-complement = c.complement-others in
+    let c-intersection = c.intersection-lives in
+    let c-intersection2 = c.intersection-holds in
+    startless-is c-start.args.words.now (passes c-start.args.words.now c-start.requires).long c-keepers.result c-keepers.ensures c-start.args.k c-complement.result c-intersection.result c-intersection2.result c-complement.ensures c-intersection.ensures c-intersection2.ensures

@@ -1,0 +1,40 @@
+-- `second::test::names` meets its contract. The loop's invariant: what the entries before e name is
+-- joined.
+use native.Mathlib.Omega.{arith}
+use mathlib.Core.Path.{◌≡◌, ap, ap₂, ◌∙◌}
+use mathlib.Core.Bool.{true, ◌&&◌}
+use lib.Bits.{bit_or}
+use Rattle.second.specs.Invariants.{named_by_all, joined}
+use Rattle.second.proofs.Passing.{named_none, named_more}
+use Rattle.second.proofs.test.names.Goals as goal
+
+pub loop-e-init : goal.loop-e-init
+loop-e-init c =
+    let c-empty = c.empty-none in
+    let c-start = c.before.before in
+    (omega arith, (λ i. record { set = c-empty.ensures i; rules = 0; counted = true }) ∙ named_none c-start.args.second.now)
+
+pub named_by-more-requires : goal.named_by-more-requires
+named_by-more-requires c = (omega arith, omega arith)
+
+pub loop-e-preserved : goal.loop-e-preserved
+loop-e-preserved c =
+    let six = c.before.before.before.before.before.before in
+    let c-loop = six.loop-e in
+    let c-start = six.before.before.before.before.before.before in
+    let c-union = c.union-set in
+    let c-named-by = six.Named-by in
+    let l = c-loop in
+    let c₀ = c-start.args.second.now in
+    let set = c-union.ensures in (
+      omega arith,
+      (λ i. record { set = set i; rules = bit_or l.all.rules c-named-by.result.rules; counted = l.all.counted && c-named-by.result.counted })
+          ∙ ap₂ joined l.invariant.1 c-named-by.ensures ∙ named_more c₀ l.e,
+    )
+
+pub returns : goal.returns
+returns c =
+    let c-loop = c.loop-e in
+    let c-start = c.before.before.before.before in
+    let done : c-loop.e ≡ c-start.args.entries = omega arith in
+    c-loop.invariant.1 ∙ ap (named_by_all c-start.args.second.now) done

@@ -1,0 +1,9 @@
+-- `sets::intersection` meets its contract: each digit is that of s and that of t.
+use borrow.Author.Rules.{rules}
+use Rattle.sets.proofs.Laws.{words-owned, intersection-words}
+use Rattle.sets.proofs.intersection.Goals as goal
+
+pub returns : goal.returns
+returns c =
+    intersection-words c.args.s c.args.t (words-owned c.args.s (search rules) (λ i. search rules))
+    (words-owned c.args.t (search rules) (λ i. search rules))

@@ -1,0 +1,9 @@
+-- `steps::rows::row` meets its contract: four words are the set of their members.
+use Rattle.table.proofs.Rows.{row_words}
+use Rattle.steps.proofs.rows.row.Goals as goal
+
+pub returns : goal.returns
+returns c =
+    let c-start = c.before.before.before.before in
+    let c-shared-slice-known = c.shared-slice-known in
+    row_words c-start.args.words.now c-start.args.at (λ i. c-shared-slice-known.given i)

@@ -1,0 +1,14 @@
+-- `watcher::watch::watch_block` meets its contract: the bytes passed are taken, and every scan of
+-- the rest is accepted and takes one.
+use Prim.Native.Nat.{◌-◌}
+use lib.ListN.{length}
+use Rattle.watcher.specs.Invariants.{pairs}
+use Rattle.watcher.proofs.Watching.{Half, Lent}
+use Rattle.watcher.proofs.watch.watch_block.Given as goal
+
+abbrev pub invariant-loop-from : goal.invariant-loop-from
+invariant-loop-from l =
+    Half pairs l.words l.block l.initial.stream l.stream l.from × Lent l.initial.ids l.initial.offsets l.initial.out l.ids l.offsets l.out
+
+abbrev pub decreases-loop-from : goal.decreases-loop-from
+decreases-loop-from l = length l.block - l.from

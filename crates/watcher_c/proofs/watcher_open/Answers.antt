@@ -1,0 +1,30 @@
+-- `watcher_c::watcher_open` meets its contract: what the opening hands back is stored, also when it
+-- is refused.
+use mathlib.Core.Path.{ap, ◌∙◌}
+use Rattle.stream.specs.declared.Opened.{Opened}
+use Rattle.stream.specs.Calls.{opened}
+use Rattle.states.specs.State.{stream_form}
+use Rattle.states.specs.Call.{stored_in}
+use Rattle.states.proofs.Answers.{open-short, open-long, store-short}
+use Rattle.watcher_c.proofs.watcher_open.Goals as goal
+
+pub returns-then-state-lt-STATE_WORDS : goal.returns-then-state-lt-STATE_WORDS
+returns-then-state-lt-STATE_WORDS c =
+    let a = c.args in
+    let o = opened a.table.now in
+    record {
+      answer = open-short stream_form a.state.now o.number c.if-state-lt-STATE_WORDS.true;
+      state = store-short stream_form a.state.now o.stream c.if-state-lt-STATE_WORDS.true;
+    }
+
+pub returns : goal.returns
+returns c =
+    let at_store = c.before.before in
+    let at_open = at_store.before.before.before in
+    let at-if = at_open.before in
+    let a = at-if.args in
+    let o = opened a.table.now in
+    let e = at_open.«open».ensures in record {
+      answer = ap (λ (r : Opened). r.number) e ∙ open-long stream_form a.state.now o.number at-if.if-state-lt-STATE_WORDS.false;
+      state = at_store.store.ensures ∙ ap (λ (r : Opened). stored_in stream_form r.stream a.state.now) e;
+    }
