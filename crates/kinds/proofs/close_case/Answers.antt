@@ -10,6 +10,7 @@ use Rattle.kinds.specs.Invariants.{Ruled}
 use Rattle.kinds.proofs.Collect.{begun, grown, kept, collected}
 use Rattle.kinds.proofs.close_case.Invariants.{entered}
 use Rattle.kinds.proofs.close_case.Goals as goal
+use Rattle.kinds.proofs.close_case.Goals.{then-contains, else-contains}
 
 pub loop-i-init : goal.loop-i-init
 loop-i-init c = c.empty-t.ensures ∙ begun (entered c.args.s)
@@ -28,9 +29,10 @@ loop-i-preserved c =
     let f = entered s in
     let test : (first.contains.result || second.contains-in-loop-i.result) ≡ f l.i =
     ap₂ ◌||◌ first.contains.ensures (second.contains-in-loop-i.ensures ∙ ap (has s) swapped.swap_case.ensures) in
-    ⊎_elim (λ w. w.2 ∙ w.1.ensures ∙ grown f l.i l.invariant (sym test ∙ w.0.taken))
-    (λ w. w.1 ∙ kept f l.i l.invariant (sym test ∙ w.0.left))
-    c.if-contains.branch
+    elim c.if-contains.branch [
+      then-contains w ↦ w.t-is ∙ w.insert-u.ensures ∙ grown f l.i l.invariant (sym test ∙ w.if-contains.true)
+    | else-contains w ↦ w.t-is ∙ kept f l.i l.invariant (sym test ∙ w.if-contains.false)
+    ]
 
 pub returns : goal.returns
 unfolding case_closed

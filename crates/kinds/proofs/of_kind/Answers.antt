@@ -11,6 +11,7 @@ use Rattle.kinds.proofs.Bits.{meets, meets-true, meets-false, meets-kind}
 use Rattle.kinds.proofs.Collect.{begun, grown, kept, collected}
 use Rattle.kinds.proofs.of_kind.Invariants.{entered}
 use Rattle.kinds.proofs.of_kind.Goals as goal
+use Rattle.kinds.proofs.of_kind.Goals.{then-kinds-i-ne0, else-kinds-i-ne0}
 
 pub loop-i-init : goal.loop-i-init
 loop-i-init c = c.empty-s.ensures ∙ begun (entered c.kind_table-kinds.result c.bit_of-bit.result)
@@ -21,9 +22,10 @@ loop-i-preserved c =
     let bit = c.bit_of-bit.result in
     let kinds = c.kind_table-kinds.result in
     let f = entered kinds bit in
-    ⊎_elim (λ w. w.2 ∙ w.1.ensures ∙ grown f l.i l.invariant (meets-true (get_or kinds l.i 0) bit w.0.taken))
-    (λ w. w.1 ∙ kept f l.i l.invariant (meets-false (get_or kinds l.i 0) bit w.0.left))
-    c.if-kinds-i-ne0.branch
+    elim c.if-kinds-i-ne0.branch [
+      then-kinds-i-ne0 w ↦ w.s-is ∙ w.insert-t.ensures ∙ grown f l.i l.invariant (meets-true (get_or kinds l.i 0) bit w.if-kinds-i-ne0.true)
+    | else-kinds-i-ne0 w ↦ w.s-is ∙ kept f l.i l.invariant (meets-false (get_or kinds l.i 0) bit w.if-kinds-i-ne0.false)
+    ]
 
 pub returns : goal.returns
 unfolding Ruled

@@ -8,26 +8,18 @@ use Rattle.kinds.proofs.Bits.{marked, unmarked}
 use Rattle.kinds.proofs.Case.{lower-range, upper-range, of-lower, of-upper, of_other}
 use Rattle.kinds.proofs.swap_case.Goals as goal
 
-lower : (c : goal.Then-kinds-ne0) → is_lower c.args.b ≡ true
-lower c = marked _ _ 5 c.requires c.if-kinds-ne0.true
-
-not_lower : (c : goal.Else-kinds-ne0) → is_lower c.args.b ≡ false
-not_lower c = unmarked _ _ 5 c.requires c.if-kinds-ne0.false
-
-upper : (c : goal.Then-kinds-ne0-2) → is_upper c.args.b ≡ true
-upper c = marked _ _ 6 c.requires c.if-kinds-ne0-2.true
-
 pub overflow_sub-result : goal.overflow_sub-result
-overflow_sub-result c = omega (arith, lower-range _ (lower c))
+overflow_sub-result c = omega (arith, lower-range _ (marked _ _ 5 c.requires c.if-kinds-ne0.true))
 
 pub returns-then-kinds-ne0 : goal.returns-then-kinds-ne0
-returns-then-kinds-ne0 c = sym (of-lower _ (lower c))
+returns-then-kinds-ne0 c = sym (of-lower _ (marked _ _ 5 c.requires c.if-kinds-ne0.true))
 
 pub overflow_add-result : goal.overflow_add-result
-overflow_add-result c = omega (arith, upper-range _ (upper c))
+overflow_add-result c = omega (arith, upper-range _ (marked _ _ 6 c.requires c.if-kinds-ne0-2.true))
 
 pub returns-then-kinds-ne0-2 : goal.returns-then-kinds-ne0-2
-returns-then-kinds-ne0-2 c = sym (of-upper _ (not_lower c.before) (upper c))
+returns-then-kinds-ne0-2 c =
+    sym (of-upper _ (unmarked _ _ 5 c.requires c.if-kinds-ne0.false) (marked _ _ 6 c.requires c.if-kinds-ne0-2.true))
 
 pub returns : goal.returns
-returns c = sym (of_other _ (not_lower c.before) (unmarked _ _ 6 c.requires c.if-kinds-ne0-2.false))
+returns c = sym (of_other _ (unmarked _ _ 5 c.requires c.if-kinds-ne0.false) (unmarked _ _ 6 c.requires c.if-kinds-ne0-2.false))
