@@ -12,6 +12,7 @@ module _ {A : Type 0} (f : A → Bool) where
   all (x ∷ l) = f x && all l
 
   all-at : (l : List A) → all l ≡ true → (x : A) → Memᴰ x l → f x ≡ true
+  all-at [] t x m = elim m [ ]
   all-at (y ∷ l) t x (Memᴰ.head e) = ap f e ∙ first (f y) t
     where
       first : (a : Bool) → (a && all l) ≡ true → a ≡ true

@@ -12,7 +12,7 @@ use native.Mathlib.Decide.{dec_le, dec_lt, ℕ_discrete, map_dec}
 use lib.Dec.{T}
 use Rattle.meaning.specs.Tree.{Means}
 use Rattle.meaning.specs.Rule.{Rule, InWindows}
-use Rattle.meaning.specs.Ordered.{closing_moment, seen, Least, SettledFrom, Settled, Falls, Earlier, Hides, Stays, StartIs, Entry, entry, Before, Rising, Owed, IsList, Report, report, Ordered}
+use Rattle.meaning.specs.Ordered.{closing_moment, seen, SettledFrom, Settled, Falls, Earlier, Hides, Stays, StartIs, Entry, entry, Before, Rising, Owed, IsList, Report, report, Ordered}
 use Rattle.meaning.proofs.Logic.{dec-T, dec-both, dec-either, dec-implies, dec-not, dec_some, dec-every}
 use Rattle.meaning.proofs.Decidable.{means-dec}
 use Rattle.meaning.proofs.Least.{one-least, some-least, least-dec}

@@ -105,7 +105,7 @@ module _ (rules : List Rule) (bytes : List ℕ) (l : List Entry) (is : IsList ru
   closing-last e i s j d k u b (inl x) = omega (arith, ((is.exactly (entry j d k u)).0 b).3.falls.by_closing)
   closing-last e i s j d k u b (inr x) = sym x.0
 
-map-in : {l : List Entry} {x : Entry} → Memᴰ x l → Memᴰ (report x) (map report l)
+map-in : {x : Entry} {l : List Entry} → Memᴰ x l → Memᴰ (report x) (map report l)
 map-in (mathlib.Core.List.Memᴰ.head e) = mathlib.Core.List.Memᴰ.head (ap report e)
 map-in (mathlib.Core.List.Memᴰ.tail m) = mathlib.Core.List.Memᴰ.tail (map-in m)
 
@@ -115,7 +115,7 @@ map-out (x ∷ l) p (mathlib.Core.List.Memᴰ.head e) = (x, mathlib.Core.List.Me
 map-out (x ∷ l) p (mathlib.Core.List.Memᴰ.tail m) = let r : (x : Entry) × Memᴰ x l × (p ≡ report x) = map-out l p m in (r.0, mathlib.Core.List.Memᴰ.tail r.1, r.2)
 
 -- a pair of the reports is that of some report
-pair-in : {l : List Report} {p : Report} → Memᴰ p l → Memᴰ (pair p) (map pair l)
+pair-in : {p : Report} {l : List Report} → Memᴰ p l → Memᴰ (pair p) (map pair l)
 pair-in (mathlib.Core.List.Memᴰ.head e) = mathlib.Core.List.Memᴰ.head (ap pair e)
 pair-in (mathlib.Core.List.Memᴰ.tail m) = mathlib.Core.List.Memᴰ.tail (pair-in m)
 

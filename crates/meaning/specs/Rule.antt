@@ -1,6 +1,6 @@
 -- Rules, the assertions of the product, and what a rule matches in a stream. Assumes nothing: these
 -- are definitions.
-use Rattle.std.specs.Prelude.{Bool, true, false, cond, not, ◌&&◌, ◌||◌, List, ℕ, ◌+◌, ◌-◌, ◌^◌, ◌≤◌, ◌<◌, T, eqb}
+use Rattle.std.specs.Prelude.{Bool, true, false, cond, not, ◌&&◌, ◌||◌, List, ℕ, ◌+◌, ◌-◌, ◌^◌, ◌≤◌, ◌<◌, eqb}
 use Rattle.sets.specs.Set.{has}
 use Rattle.kinds.specs.declared.Side.TheVariants.{Other, Word, Newline}
 use Rattle.meaning.specs.Tree.{Tree, Text, Means}
