@@ -5,10 +5,10 @@ use mathlib.Core.Path.{◌≡◌, refl, sym, ap, ap₂, subst, ◌∙◌}
 use mathlib.Core.Logic.{◌⊎◌, inl, inr}
 use mathlib.Core.Bool.{Bool, true, false, true≢false, cond, ◌&&◌, ◌||◌, and_assoc}
 use mathlib.Core.List.{List}
-use Prim.Native.Nat.{ℕ, zero, suc, ◌+◌, ◌-◌, ◌*◌, ◌/◌, ◌%◌, ◌^◌, ◌≤◌, ◌<◌, min}
+use Prim.Native.Nat.{ℕ, zero, suc, ◌+◌, ◌-◌, ◌*◌, ◌/◌, ◌%◌, ◌^◌, ◌≤◌, ◌<◌}
 use native.Mathlib.Omega.{arith}
 use native.Mathlib.Decide.{ℕ_discrete, dec_lt}
-use lib.Bits.{bit_and, and_le_l, and_le_r}
+use lib.Bits.{bit_and, and_le_r}
 use lib.Count.{count_trailing_zeros}
 use lib.Dec.{eqb, ltb}
 use lib.ListN.{length, get_or, set, replicate, length-set}
@@ -26,10 +26,10 @@ use Rattle.table.specs.Layout.{table_words, max_rules, max_positions, owner_at, 
 use Rattle.table.specs.Gaps.{gap_of}
 use Rattle.table.specs.Automaton.{Automaton, automaton, last}
 use Rattle.table.proofs.GapBounds.{gap_of-follow}
-use Rattle.steps.specs.Step.{list_from, list_on, start_after, stepped_starts, start_at, starts_at}
+use Rattle.steps.specs.Step.{list_from, list_on, start_after, stepped_starts, start_at}
 use Rattle.steps.proofs.Bounds.{follow_rows}
 use Rattle.steps.proofs.Steps.{follow-row}
-use Rattle.steps.specs.Invariants.{chosen_of, in_word, Changed, Put, Followed, least_owned}
+use Rattle.steps.specs.Invariants.{chosen_of, in_word, Put, Followed, least_owned}
 
 -- ---- a turn over the digits of a word
 

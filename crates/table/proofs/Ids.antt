@@ -1,6 +1,6 @@
 -- The test of the ids, by numbers that are joined: what is joined has 32 bits exactly where each
 -- has, and that is where the ids are in order.
-use Rattle.std.proofs.Common.{◌≡◌, ℕ, zero, suc, ◌+◌, ◌%◌, ◌^◌, ◌<◌, ◌≤◌, Bool, true, false, ltb, List, sym, refl, ap, ◌∙◌, subst, ⊎_elim, true≢false, zero-le, le_of_suc-le-suc, not-suc-le-zero, eq-or-lt_of_le, arith, le-ltb, lt-ltb}
+use Rattle.std.proofs.Common.{◌≡◌, ℕ, zero, suc, ◌+◌, ◌%◌, ◌^◌, ◌<◌, ◌≤◌, Bool, true, false, ltb, List, sym, refl, ap, ◌∙◌, subst, ⊎_elim, zero-le, le_of_suc-le-suc, not-suc-le-zero, eq-or-lt_of_le, arith, le-ltb, lt-ltb}
 use native.Mathlib.Decide.{dec_lt}
 use lib.Bits.{bit_or, or_lt, or_add_and, and_le_l, and_le_r}
 use Rattle.table.specs.Layout.{id_word}

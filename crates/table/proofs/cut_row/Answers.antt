@@ -16,5 +16,5 @@ returns c =
     let c-start = c.before.before.before.before.before in
     let c-word = c.word in
     let c-word2 = c.word-2 in
-    let c-shared-slice-known = c.shared-slice-known in
-    row_cut c-start.args.words.now c-start.args.at c-word.result c-word2.result (λ i. c-shared-slice-known.given i) (omega (arith, c-start.requires)) c-word.ensures c-word2.ensures
+    let c-shared-slice-known = c.type_inv.words in
+    row_cut c-start.args.words.now c-start.args.at c-word.result c-word2.result (λ i. c-shared-slice-known i) (omega (arith, c-start.requires)) c-word.ensures c-word2.ensures

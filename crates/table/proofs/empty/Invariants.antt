@@ -6,7 +6,7 @@ use Rattle.table.proofs.Over.{Written}
 use Rattle.table.proofs.empty.Given as goal
 
 abbrev pub invariant-loop-w : goal.invariant-loop-w
-invariant-loop-w l = (1 ≤ l.w) × (l.w ≤ table_words) × Written 1 l.w (λ l.w. 0) l.initial.words l.words × (table_words ≤ length l.initial.words)
+invariant-loop-w l = (1 ≤ l.w) × (l.w ≤ table_words) × Written 1 l.w (λ w. 0) l.initial.words l.words × (table_words ≤ length l.initial.words)
 
 abbrev pub decreases-loop-w : goal.decreases-loop-w
 decreases-loop-w l = table_words - l.w

@@ -16,5 +16,5 @@ returns-then-words-at c =
 pub returns : goal.returns
 returns c =
     let c-start = c.before.before.before.before.before.before.before in
-    let c-shared-slice-known = c.shared-slice-known in
-    row_words c-start.args.words.now c-start.args.at (λ i. c-shared-slice-known.given i)
+    let c-shared-slice-known = c.type_inv.words in
+    row_words c-start.args.words.now c-start.args.at (λ i. c-shared-slice-known i)

@@ -8,5 +8,5 @@ pub returns : goal.returns
 returns c =
     let up = c.wrapping_add_u64 in
     let down = c.wrapping_sub_u64 in
-    let start = c.before.before in
-    told-apart start.args.id start.args.next up.result down.result start.ranges.id.fits start.ranges.next.fits (omega arith) up.ensures down.ensures
+    let start = c in
+    told-apart start.args.id start.args.next up.result down.result start.ranges.id.fits start.ranges.next.fits (omega arith) up.ensures.value down.ensures.value

@@ -17,7 +17,7 @@ use Rattle.steps.proofs.byte.step.Goals as goal
 
 pub returns-then-words-lt-TABLE_WORDS : goal.returns-then-words-lt-TABLE_WORDS
 returns-then-words-lt-TABLE_WORDS c =
-    let c-start = c.before.before.before in
+    let c-start = c in
     let c-empty = c.empty-none in
     let c-if1 = c.if-words-lt-TABLE_WORDS in
     let a = c-start.args in
@@ -30,7 +30,7 @@ pub firsts-first-requires : goal.firsts-first-requires
 firsts-first-requires c =
     let c-if1 = c.if-words-lt-TABLE_WORDS in
     let c-first-gap = c.first_gap in
-    let c-start = c.before.before.before in
+    let c-start = c in
     let a = c-start.args in
     (c-if1.false, subst (λ (g : ℕ). g < first_gaps) (sym c-first-gap.ensures) (first_gap-first false a.taken a.before a.after))
 
@@ -38,14 +38,14 @@ firsts-first-requires c =
 pub overflow_mul-rows : goal.overflow_mul-rows
 overflow_mul-rows c =
     let c-gap-of = c.gap_of in
-    let c-start = c.before.before.before.before.before in
+    let c-start = c in
     let a = c-start.args in
     follow-offset-fits c-gap-of.result (subst (λ (g : ℕ). g < follow_gaps) (sym c-gap-of.ensures) (gap_of-follow false a.before a.after))
 
 pub overflow_add-rows : goal.overflow_add-rows
 overflow_add-rows c =
     let c-gap-of = c.gap_of in
-    let c-start = c.before.before.before.before.before in
+    let c-start = c in
     let a = c-start.args in
     follow-fits c-gap-of.result (subst (λ (g : ℕ). g < follow_gaps) (sym c-gap-of.ensures) (gap_of-follow false a.before a.after))
 
@@ -53,13 +53,13 @@ pub walk-walked-requires : goal.walk-walked-requires
 walk-walked-requires c =
     let c-gap-of = c.gap_of in
     let c-if1 = c.if-words-lt-TABLE_WORDS in
-    let c-start = c.before.before.before.before.before in
+    let c-start = c in
     let a = c-start.args in
     (c-if1.false, follow-inside c-gap-of.result (subst (λ (g : ℕ). g < follow_gaps) (sym c-gap-of.ensures) (gap_of-follow false a.before a.after)))
 
 pub returns : goal.returns
 returns c =
-    let walked = c.before.before.before.before in
+    let walked = c in
     let gaps = walked.before in
     let first = gaps.before in
     let enough = first.before.before in

@@ -16,7 +16,7 @@ use Rattle.steps.proofs.line.line_step.Goals as goal
 
 pub returns-then-words-lt-TABLE_WORDS : goal.returns-then-words-lt-TABLE_WORDS
 returns-then-words-lt-TABLE_WORDS c =
-    let c-start = c.before.before.before in
+    let c-start = c in
     let c-empty = c.empty in
     let c-if1 = c.if-words-lt-TABLE_WORDS in
     let a = c-start.args in
@@ -27,7 +27,7 @@ pub firsts-first-requires : goal.firsts-first-requires
 firsts-first-requires c =
     let c-if1 = c.if-words-lt-TABLE_WORDS in
     let c-first-gap = c.first_gap in
-    let c-start = c.before.before.before in
+    let c-start = c in
     let a = c-start.args in
     (c-if1.false, subst (λ (g : ℕ). g < first_gaps) (sym c-first-gap.ensures) (first_gap-first true a.taken a.before a.after))
 
@@ -35,14 +35,14 @@ firsts-first-requires c =
 pub overflow_mul-rows : goal.overflow_mul-rows
 overflow_mul-rows c =
     let c-gap-of = c.gap_of in
-    let c-start = c.before.before.before.before.before in
+    let c-start = c in
     let a = c-start.args in
     follow-offset-fits c-gap-of.result (subst (λ (g : ℕ). g < follow_gaps) (sym c-gap-of.ensures) (gap_of-follow true a.before a.after))
 
 pub overflow_add-rows : goal.overflow_add-rows
 overflow_add-rows c =
     let c-gap-of = c.gap_of in
-    let c-start = c.before.before.before.before.before in
+    let c-start = c in
     let a = c-start.args in
     follow-fits c-gap-of.result (subst (λ (g : ℕ). g < follow_gaps) (sym c-gap-of.ensures) (gap_of-follow true a.before a.after))
 
@@ -50,18 +50,18 @@ pub line_walk-reached-requires : goal.line_walk-reached-requires
 line_walk-reached-requires c =
     let c-gap-of = c.gap_of in
     let c-if1 = c.if-words-lt-TABLE_WORDS in
-    let c-start = c.before.before.before.before.before in
+    let c-start = c in
     let a = c-start.args in
     (c-if1.false, follow-inside c-gap-of.result (subst (λ (g : ℕ). g < follow_gaps) (sym c-gap-of.ensures) (gap_of-follow true a.before a.after)))
 
 pub returns : goal.returns
 returns c =
-    let c-start = c.before.before.before.before.before.before.before.before.before in
+    let c-start = c in
     let c-if1 = c.if-words-lt-TABLE_WORDS in
     let c-first-gap = c.first_gap in
     let c-firsts = c.firsts-first in
     let c-gap-of = c.gap_of in
-    let c-walk = c.Line-walk in
+    let c-walk = c.line_walk-reached in
     let c-takers = c.takers in
     let c-intersection = c.intersection in
     let c-below = c.below in

@@ -14,7 +14,7 @@ use Rattle.steps.proofs.rows.closing.Goals as goal
 
 pub returns-then-words-lt-TABLE_WORDS : goal.returns-then-words-lt-TABLE_WORDS
 returns-then-words-lt-TABLE_WORDS c =
-    let c-start = c.before.before in
+    let c-start = c in
     let c-if1 = c.if-words-lt-TABLE_WORDS in
     let a = c-start.args in
     let w = automaton a.words.now in
@@ -22,7 +22,7 @@ returns-then-words-lt-TABLE_WORDS c =
 
 pub ending_at-at_end-requires : goal.ending_at-at_end-requires
 ending_at-at_end-requires c =
-    let c-start = c.before.before.before.before in
+    let c-start = c in
     let c-if1 = c.if-words-lt-TABLE_WORDS in
     let c-at-end = c.at_end in
     (c-if1.false, subst (λ (g : ℕ). g < last_gaps) (sym c-at-end.ensures) (at_end-last c-start.args.before))
@@ -34,11 +34,11 @@ ending_at-settled-requires c =
 
 pub returns : goal.returns
 returns c =
-    let c-start = c.before.before.before.before.before.before in
+    let c-start = c in
     let c-if1 = c.if-words-lt-TABLE_WORDS in
     let c-at-end = c.at_end in
     let c-union = c.union in
-    let c-ending-at = c.Ending-at in
+    let c-ending-at = c.ending_at-at_end in
     let c-ending-at2 = c.ending_at-settled in
     let a = c-start.args in
     let w = automaton a.words.now in

@@ -10,7 +10,7 @@ use Rattle.steps.proofs.rows.ending.Goals as goal
 
 pub returns-then-words-lt-TABLE_WORDS : goal.returns-then-words-lt-TABLE_WORDS
 returns-then-words-lt-TABLE_WORDS c =
-    let c-start = c.before.before in
+    let c-start = c in
     let c-if1 = c.if-words-lt-TABLE_WORDS in
     let w = automaton c-start.args.words.now in
     sym (number-off c-start.args.words.now (rules_where w (ends w unsettled c-start.args.live)) c-if1.true)
@@ -22,8 +22,8 @@ ending_at-requires c =
 
 pub returns : goal.returns
 returns c =
-    let c-start = c.before.before.before in
-    let c-ending-at = c.Ending-at in
+    let c-start = c in
+    let c-ending-at = c.ending_at in
     let c-if1 = c.if-words-lt-TABLE_WORDS in
     let w = automaton c-start.args.words.now in
     c-ending-at.ensures ∙ sym (number-on c-start.args.words.now (rules_where w (ends w unsettled c-start.args.live)) c-if1.false)

@@ -14,7 +14,7 @@ use Rattle.steps.proofs.rows.line_ending.Goals as goal
 
 pub returns-then-words-lt-TABLE_WORDS : goal.returns-then-words-lt-TABLE_WORDS
 returns-then-words-lt-TABLE_WORDS c =
-    let c-start = c.before.before in
+    let c-start = c in
     let c-if1 = c.if-words-lt-TABLE_WORDS in
     let a = c-start.args in
     let w = automaton a.words.now in
@@ -22,24 +22,24 @@ returns-then-words-lt-TABLE_WORDS c =
 
 pub ending_at-at_line-requires : goal.ending_at-at_line-requires
 ending_at-at_line-requires c =
-    let c-start = c.before.before.before in
+    let c-start = c in
     let c-if1 = c.if-words-lt-TABLE_WORDS in
     let c-before-last = c.before_last in
     (c-if1.false, subst (λ (g : ℕ). g < last_gaps) (sym c-before-last.ensures) (lt_trans (before_last-follow c-start.args.before) (lit< tt)))
 
 pub ending_at-at_newline-requires : goal.ending_at-at_newline-requires
 ending_at-at_newline-requires c =
-    let c-start = c.before.before.before.before.before in
+    let c-start = c in
     let c-if1 = c.if-words-lt-TABLE_WORDS in
     let c-between = c.between in
     (c-if1.false, subst (λ (g : ℕ). g < last_gaps) (sym c-between.ensures) (lt_trans (between-inner c-start.args.before Newline) (lit< tt)))
 
 pub returns : goal.returns
 returns c =
-    let c-start = c.before.before.before.before.before.before in
+    let c-start = c in
     let c-if1 = c.if-words-lt-TABLE_WORDS in
     let c-before-last = c.before.before.before.before_last in
-    let c-ending-at = c.Ending-at in
+    let c-ending-at = c.ending_at-at_line in
     let c-between = c.between in
     let c-ending-at2 = c.ending_at-at_newline in
     let a = c-start.args in

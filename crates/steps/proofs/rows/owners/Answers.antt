@@ -9,7 +9,7 @@ bounds-set-0 c = lit< tt
 
 pub owner_word-a-requires : goal.owner_word-a-requires
 owner_word-a-requires c =
-    let c-start = c.before in
+    let c-start = c in
     (c-start.requires.0, lit≤ tt, c-start.requires.1)
 
 pub bounds-set-1 : goal.bounds-set-1
@@ -17,7 +17,7 @@ bounds-set-1 c = lit< tt
 
 pub owner_word-b-requires : goal.owner_word-b-requires
 owner_word-b-requires c =
-    let c-start = c.before.before in
+    let c-start = c in
     (c-start.requires.0, lit≤ tt, c-start.requires.1)
 
 pub bounds-set-2 : goal.bounds-set-2
@@ -25,7 +25,7 @@ bounds-set-2 c = lit< tt
 
 pub owner_word-c-requires : goal.owner_word-c-requires
 owner_word-c-requires c =
-    let c-start = c.before.before.before in
+    let c-start = c in
     (c-start.requires.0, lit≤ tt, c-start.requires.1)
 
 pub bounds-set-3 : goal.bounds-set-3
@@ -33,16 +33,16 @@ bounds-set-3 c = lit< tt
 
 pub owner_word-requires : goal.owner_word-requires
 owner_word-requires c =
-    let c-start = c.before.before.before.before in
+    let c-start = c in
     (c-start.requires.0, lit≤ tt, c-start.requires.1)
 
 pub returns : goal.returns
 returns c =
-    let c-start = c.before.before.before.before.before in
+    let c-start = c in
     let a = c-start.args in
     let one = c.owner_word-a in
     let two = c.owner_word-b in
     let three = c.owner_word-c in
     let four = c.owner_word in
-    owned-all a.words.now a.rules c-start.requires.1 a.t1 (words-good a.t1 _ c-start.well-formed.0) one.result two.result three.result four.result
+    owned-all a.words.now a.rules c-start.requires.1 a.set (words-good a.set _ c-start.well_formed.0) one.result two.result three.result four.result
     one.ensures two.ensures three.ensures four.ensures

@@ -66,7 +66,7 @@ turns_fit n m h l = record { fits = omega arith }
 
 pub loop-word-preserved : goal.loop-word-preserved
 loop-word-preserved c =
-    let c-start = c.before.before.before.before.before in
+    let c-start = c in
     let c-loop = c.loop-word in
     let c-loop-test = c.loop-word-test in
     let c-union = c.union-more in
@@ -84,34 +84,34 @@ loop-word-preserved c =
 pub overflow_cast-p : goal.overflow_cast-p
 overflow_cast-p c =
     let c-loop = c.loop-word in
-    let c-start = c.before.before.before in
+    let c-start = c in
     let c-loop-test = c.loop-word-test in
     digit-fits (count_trailing_zeros 64 c-loop.word) (turn c-start.args.word c-loop.turns c-loop.word c-start.ranges.word.fits c-loop.invariant.0 c-loop.invariant.1 c-loop-test.true).1
 
 pub overflow_add-p : goal.overflow_add-p
 overflow_add-p c =
-    let c-start = c.before.before.before in
+    let c-start = c in
     let c-loop = c.loop-word in
     let c-loop-test = c.loop-word-test in
     position-fits c-start.args.base (count_trailing_zeros 64 c-loop.word) c-start.requires.1 (turn c-start.args.word c-loop.turns c-loop.word c-start.ranges.word.fits c-loop.invariant.0 c-loop.invariant.1 c-loop-test.true).1
 
 pub overflow_mul-p : goal.overflow_mul-p
 overflow_mul-p c =
-    let c-start = c.before.before.before in
+    let c-start = c in
     let c-loop = c.loop-word in
     let c-loop-test = c.loop-word-test in
     row-words-fit c-start.args.base (count_trailing_zeros 64 c-loop.word) c-start.requires.1 (turn c-start.args.word c-loop.turns c-loop.word c-start.ranges.word.fits c-loop.invariant.0 c-loop.invariant.1 c-loop-test.true).1
 
 pub overflow_add-rows : goal.overflow_add-rows
 overflow_add-rows c =
-    let c-start = c.before.before.before in
+    let c-start = c in
     let c-loop = c.loop-word in
     let c-loop-test = c.loop-word-test in
     row_fits c-start.args.base (count_trailing_zeros 64 c-loop.word) c-start.requires.1 (turn c-start.args.word c-loop.turns c-loop.word c-start.ranges.word.fits c-loop.invariant.0 c-loop.invariant.1 c-loop-test.true).1 c-start.args.rows c-start.requires.2
 
 pub row-after-requires : goal.row-after-requires
 row-after-requires c =
-    let c-start = c.before.before.before in
+    let c-start = c in
     let c-loop = c.loop-word in
     let c-loop-test = c.loop-word-test in
     row_inside c-start.args.base (count_trailing_zeros 64 c-loop.word) c-start.requires.1 (turn c-start.args.word c-loop.turns c-loop.word c-start.ranges.word.fits c-loop.invariant.0 c-loop.invariant.1 c-loop-test.true).1 c-start.args.rows (length c-start.args.words.now) c-start.requires.2 c-start.requires.0
@@ -125,19 +125,19 @@ overflow_sub-word c =
 pub overflow_add-turns : goal.overflow_add-turns
 overflow_add-turns c =
     let c-loop = c.loop-word in
-    let c-start = c.before.before.before.before.before in
+    let c-start = c in
     turns_fit c-loop.turns (ones c-start.args.word) c-loop.invariant.0 (few c-start.args.word c-start.ranges.word.fits)
 
 pub loop-word-smaller : goal.loop-word-smaller
 loop-word-smaller c =
-    let c-start = c.before.before.before.before.before in
+    let c-start = c in
     let c-loop = c.loop-word in
     let c-loop-test = c.loop-word-test in
     less-left (ones c-start.args.word) c-loop.turns c-loop.turns (le_refl c-loop.turns) (turn c-start.args.word c-loop.turns c-loop.word c-start.ranges.word.fits c-loop.invariant.0 c-loop.invariant.1 c-loop-test.true).0
 
 pub returns : goal.returns
 returns c =
-    let c-start = c.before.before.before in
+    let c-start = c in
     let c-loop = c.loop-word in
     let c-loop-test = c.loop-word-test in
     let a = c-start.args in

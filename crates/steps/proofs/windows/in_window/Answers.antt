@@ -1,7 +1,6 @@
 -- `steps::windows::in_window` meets its contract: the rules with a window are the digits that the
 -- two words share.
 use mathlib.Core.Path.{sym, ◌∙◌}
-use borrow.Author.Rules.{rules}
 use Rattle.table.specs.Automaton.{automaton}
 use Rattle.steps.specs.Step.{in_window}
 use Rattle.steps.proofs.TableSets.{number-on, number-off}

@@ -12,7 +12,7 @@ use Rattle.steps.proofs.windows.sift_all.Goals as goal
 
 pub loop-left-init : goal.loop-left-init
 loop-left-init c =
-    let s = c.before in
+    let s = c in
     let t = s.args.words.now in
     sift-none (windowed_of t) (inside t s.args.end) (others-pass t s.args.end) s.args.rules s.args.left s.ranges.rules.fits s.ranges.left.fits s.requires.1
 
@@ -23,7 +23,7 @@ pub overflow_cast-a : goal.overflow_cast-a
 overflow_cast-a c = let l = c.loop-left in digit-fits (count_trailing_zeros 64 l.left) (digit l.left l.invariant.small c.loop-left-test.true)
 
 pub sift-kept-requires : goal.sift-kept-requires
-sift-kept-requires c = c.loop-left in (c.requires.0, digit l.left l.invariant.small c.loop-left-test.true)
+sift-kept-requires c = let l = c.loop-left in (c.requires.0, digit l.left l.invariant.small c.loop-left-test.true)
 
 pub overflow_sub-left : goal.overflow_sub-left
 overflow_sub-left c = at_least_one c.loop-left.left c.loop-left-test.true
