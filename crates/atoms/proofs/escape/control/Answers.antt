@@ -13,9 +13,9 @@ returns-then-is_within c =
     let s = args.s.now in
     let at = args.at in
     let peek = c.peek-c in
-    let is_Within = c.is_Within in
+    let is_within = c.is_within in
     let if1 = c.if-is_within in
-    rw (control-is s at peek.result peek.ensures, ← is_Within.ensures, if1.true)
+    rw (control-is s at peek.result peek.ensures, ← is_within.ensures, if1.true)
     (c.sound.ensures ∙ ap (λ (x : ℕ). good 3 (Byte x)) (c.flip_64.ensures ∙ ap flipped64 c.raise.ensures))
 
 pub returns : goal.returns
@@ -24,4 +24,4 @@ returns c =
     let s = args.s.now in
     let at = args.at in
     let peek = c.peek-c in
-    rw (control-is s at peek.result peek.ensures, ← c.is_Within.ensures, c.if-is_within.false) c.faulty.ensures
+    rw (control-is s at peek.result peek.ensures, ← c.is_within.ensures, c.if-is_within.false) c.faulty.ensures

@@ -2,7 +2,6 @@
 -- digit, or one of the four that take more bytes, or another.
 use mathlib.Core.Path.{sym, ◌∙◌}
 use native.Mathlib.Omega.{arith}
-use borrow.Author.Tests.{not-true, not-false}
 use Rattle.atoms.proofs.Escapes.{escape_end, escape-literal, escape-x, escape-o, escape-0, escape-c, escape-other}
 use Rattle.atoms.proofs.escape.escape_at.Goals as goal
 
@@ -19,7 +18,7 @@ returns-then-not-is_alnum c =
     let s = args.s.now in
     let at = args.at in
     c.sound.ensures
-    ∙ sym (escape-literal s at args.inside (omega arith) (sym c.is_alnum.ensures ∙ not-true _ c.if-not-is_alnum.true-raw))
+    ∙ sym (escape-literal s at args.inside (omega arith) (sym c.is_alnum.ensures ∙ c.if-not-is_alnum.true))
 
 pub returns-in-120 : goal.returns-in-120
 returns-in-120 c =
@@ -57,9 +56,9 @@ returns-in_default c =
     let at = args.at in
     let is-alnum = c.is_alnum in
     let if2 = c.if-not-is_alnum in
-    let other = match.rest in
+    let other = match.in_default-own.rest in
     rw (
-      escape-other s at args.inside (omega arith) (sym is-alnum.ensures ∙ not-false _ if2.false) other.0.0.0.1 other.0.0.1
+      escape-other s at args.inside (omega arith) (sym is-alnum.ensures ∙ if2.false) other.0.0.0.1 other.0.0.1
           other.0.1 other.1,
       ← c.placed_escape.ensures,
       ← c.type_escape.ensures,

@@ -31,7 +31,7 @@ returns-in-116 c = rw c.in-116.is c.sound-in-116.ensures
 pub returns-in_default : goal.returns-in_default
 unfolding named_of
 returns-in_default c =
-    let other = c.in_default.rest in
+    let other = c.in_default.in_default-own.rest in
     rw (
       ne_eqb _ _ other.0.0.0.0.0.1,
       ne_eqb _ _ other.0.0.0.0.1,

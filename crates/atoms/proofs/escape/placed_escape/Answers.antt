@@ -39,7 +39,7 @@ returns-in-66 c = rw (c.if-inside.false, c.in-66.is) c.sound-in-66.ensures
 pub returns-in_default : goal.returns-in_default
 unfolding placed_of
 returns-in_default c =
-    let other = c.in_default.rest in
+    let other = c.in_default.in_default-own.rest in
     rw (
       c.if-inside.false,
       ne_eqb _ _ other.0.0.0.0.0.1,

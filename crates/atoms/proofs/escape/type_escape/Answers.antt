@@ -47,7 +47,7 @@ returns-in-86 c = rw c.in-86.is c.sound-in-86.ensures
 pub returns-in_default : goal.returns-in_default
 unfolding type_of
 returns-in_default c =
-    let other = c.in_default.rest in
+    let other = c.in_default.in_default-own.rest in
     rw (
       ne_eqb _ _ other.0.0.0.0.0.0.0.0.0.1,
       ne_eqb _ _ other.0.0.0.0.0.0.0.0.1,

@@ -1,7 +1,7 @@
 -- `atoms::number::numeral_at` meets its contract. The invariant: of the digits after the blanks,
 -- those before i are read, and make the value, cut to the cap. The measure is what is left of the
 -- bytes, since a digit's place is inside.
-use Prim.Native.Nat.{◌*◌, ◌≤◌}
+use Prim.Native.Nat.{ℕ, ◌*◌, ◌≤◌}
 use native.Mathlib.Nat.{mul-le-mul}
 use native.Mathlib.Omega.{arith}
 use Rattle.atoms.specs.Number.{cap}
@@ -9,17 +9,17 @@ use Rattle.atoms.proofs.Digits.{digit-inside, read_none, read_more, read_done}
 use Rattle.atoms.proofs.number.numeral_at.Goals as goal
 
 -- the product fits, whatever the digits so far
-small : (c : goal.In-loop-value) → c.loop-value.value * c.args.base ≤ cap * 16
-small c = mul-le-mul c.loop-value.invariant.small c.requires.1
+small : (value base : ℕ) → value ≤ cap → base ≤ 16 → value * base ≤ cap * 16
+small value base v b = mul-le-mul v b
 
 pub loop-value-init : goal.loop-value-init
 loop-value-init c = let args = c.args in read_none args.base args.s.now c.past_blanks-from.result
 
 pub overflow_mul-value : goal.overflow_mul-value
-overflow_mul-value c = omega (arith, small c)
+overflow_mul-value c = omega (arith, small c.loop-value.value c.args.base c.loop-value.invariant.small c.requires.1)
 
 pub overflow_add-value : goal.overflow_add-value
-overflow_add-value c = omega (arith, small c.before)
+overflow_add-value c = omega (arith, small c.loop-value.value c.args.base c.loop-value.invariant.small c.requires.1)
 
 pub overflow_add-i : goal.overflow_add-i
 overflow_add-i c =
