@@ -2,7 +2,6 @@
 -- other case is.
 use mathlib.Core.Path.{◌≡◌, sym, ap, ap₂, ◌∙◌}
 use mathlib.Core.Bool.{◌||◌}
-use mathlib.Core.Logic.{⊎_elim}
 use native.Mathlib.Omega.{arith}
 use Rattle.sets.specs.Set.{has}
 use Rattle.kinds.specs.Case.{case_closed}
@@ -30,8 +29,8 @@ loop-i-preserved c =
     let test : (first.contains.result || second.contains-in-loop-i.result) ≡ f l.i =
     ap₂ ◌||◌ first.contains.ensures (second.contains-in-loop-i.ensures ∙ ap (has s) swapped.swap_case.ensures) in
     elim c.if-contains.branch [
-      then-contains w ↦ w.t-is ∙ w.insert-u.ensures ∙ grown f l.i l.invariant (sym test ∙ w.if-contains.true)
-    | else-contains w ↦ w.t-is ∙ kept f l.i l.invariant (sym test ∙ w.if-contains.false)
+      | then-contains w ↦ w.t-is ∙ w.insert-u.ensures ∙ grown f l.i l.invariant (sym test ∙ w.if-contains.true)
+      | else-contains w ↦ w.t-is ∙ kept f l.i l.invariant (sym test ∙ w.if-contains.false)
     ]
 
 pub returns : goal.returns

@@ -6,7 +6,7 @@ use mathlib.Core.List.{List}
 use Prim.Native.Nat.{ℕ, ◌-◌}
 use Rattle.sets.specs.Set.{has}
 use Rattle.kinds.specs.Case.{other_case}
-use Rattle.kinds.proofs.Collect.{members_below, collected}
+use Rattle.kinds.proofs.Collect.{members_below}
 use Rattle.kinds.proofs.close_case.Given as goal
 
 -- byte q is collected

@@ -1,7 +1,6 @@
 -- `kinds::of_kind` meets its contract: the loop collects each byte whose entry has the type's bit,
 -- and the table's rule says which bytes those are.
 use mathlib.Core.Path.{ap₂, ◌∙◌}
-use mathlib.Core.Logic.{⊎_elim}
 use native.Mathlib.Omega.{arith}
 use lib.ListN.{get_or}
 use Rattle.sets.proofs.Laws.{set_of-ext}
@@ -23,8 +22,8 @@ loop-i-preserved c =
     let kinds = c.kind_table-kinds.result in
     let f = entered kinds bit in
     elim c.if-kinds-i-ne0.branch [
-      then-kinds-i-ne0 w ↦ w.s-is ∙ w.insert-t.ensures ∙ grown f l.i l.invariant (meets-true (get_or kinds l.i 0) bit w.if-kinds-i-ne0.true)
-    | else-kinds-i-ne0 w ↦ w.s-is ∙ kept f l.i l.invariant (meets-false (get_or kinds l.i 0) bit w.if-kinds-i-ne0.false)
+      | then-kinds-i-ne0 w ↦ w.s-is ∙ w.insert-t.ensures ∙ grown f l.i l.invariant (meets-true (get_or kinds l.i 0) bit w.if-kinds-i-ne0.true)
+      | else-kinds-i-ne0 w ↦ w.s-is ∙ kept f l.i l.invariant (meets-false (get_or kinds l.i 0) bit w.if-kinds-i-ne0.false)
     ]
 
 pub returns : goal.returns

@@ -6,7 +6,7 @@ use mathlib.Core.List.{List}
 use Prim.Native.Nat.{ℕ, ◌-◌}
 use lib.ListN.{get_or}
 use Rattle.kinds.proofs.Bits.{meets}
-use Rattle.kinds.proofs.Collect.{members_below, collected}
+use Rattle.kinds.proofs.Collect.{members_below}
 use Rattle.kinds.proofs.of_kind.Given as goal
 
 -- byte q is collected

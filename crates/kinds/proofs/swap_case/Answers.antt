@@ -1,9 +1,7 @@
 -- `kinds::swap_case` meets its contract: the entry's two bits tell the letter's case, and a
 -- letter's range keeps the sum and the difference in a byte.
-use mathlib.Core.Path.{◌≡◌, sym}
-use mathlib.Core.Bool.{true, false}
+use mathlib.Core.Path.{sym}
 use native.Mathlib.Omega.{arith}
-use Rattle.kinds.specs.Kind.{is_lower, is_upper}
 use Rattle.kinds.proofs.Bits.{marked, unmarked}
 use Rattle.kinds.proofs.Case.{lower-range, upper-range, of-lower, of-upper, of_other}
 use Rattle.kinds.proofs.swap_case.Goals as goal

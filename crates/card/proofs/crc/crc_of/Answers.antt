@@ -3,9 +3,6 @@
 use native.Mathlib.Omega.{arith}
 use lib.ListN.{get_or}
 use Rattle.card.proofs.Checksum.{by-table, passed_none, passed-one, passed-all}
-use Rattle.card.proofs.crc.crc_of.Reads as reads
-use Rattle.card.proofs.crc.crc_of.Lts as lts
-use Rattle.card.proofs.crc.entries.Reads as entries-reads
 use Rattle.card.proofs.crc.crc_of.Goals as goal
 
 -- src/crc.rt:24:5

@@ -2,9 +2,6 @@
 -- rule.
 use Prim.Native.Nat.{◌-◌}
 use Rattle.card.proofs.Checksum.{Passed}
-use Rattle.card.proofs.crc.crc_of.Reads as reads
-use Rattle.card.proofs.crc.crc_of.Lts as lts
-use Rattle.card.proofs.crc.entries.Reads as entries-reads
 use Rattle.card.proofs.crc.crc_of.Given as goal
 
 abbrev pub invariant-loop-i : goal.invariant-loop-i

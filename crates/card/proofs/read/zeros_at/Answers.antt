@@ -1,7 +1,6 @@
 -- `card::read::zeros_at` meets its contract: the loop's invariant is that the bytes passed are
 -- zero.
 use mathlib.Core.Path.{◌≡◌, sym, ap, ◌∙◌}
-use mathlib.Core.Bool.{true}
 use Prim.Native.Nat.{ℕ, ◌+◌}
 use native.Mathlib.Omega.{arith}
 use borrow.Author.Tests.{eq-eqb, ne_eqb}

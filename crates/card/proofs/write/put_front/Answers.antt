@@ -2,7 +2,6 @@
 -- written.
 use native.Mathlib.Omega.{arith}
 use mathlib.Core.Path.{refl}
-use Rattle.card.specs.Invariants.{front_byte}
 use Rattle.table.proofs.Over.{written_none, written-up, written_all}
 use Rattle.card.proofs.write.put_front.Goals as goal
 
