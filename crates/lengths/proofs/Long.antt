@@ -1,13 +1,13 @@
 -- The positions that are long enough, word by word. Assumes nothing.
 use mathlib.Core.Path.{◌≡◌, refl, sym, ap, ap₂, ◌∙◌}
-use mathlib.Core.Bool.{Bool, true, false, true≢false, not, ◌&&◌, ◌||◌, and-true}
-use mathlib.Core.List.{List, [], ◌∷◌}
-use Prim.Native.Nat.{ℕ, ◌+◌, ◌*◌, ◌/◌, ◌%◌, ◌-◌, ◌^◌, ◌<◌, ◌≤◌}
+use mathlib.Core.Bool.{Bool, true, false, not, ◌&&◌, ◌||◌, and-true}
+use mathlib.Core.List.{List}
+use Prim.Native.Nat.{ℕ, ◌+◌, ◌*◌, ◌/◌, ◌%◌, ◌<◌}
 use native.Mathlib.Omega.{arith}
 use lib.Dec.{eqb, leb}
-use lib.ListN.{length, get_or}
-use borrow.Author.Tests.{ne_eqb, le-leb, lt-leb}
-use Rattle.sets.specs.Set.{on, has, set_of, word_of, any, empty_set}
+use lib.ListN.{get_or}
+use borrow.Author.Tests.{ne_eqb}
+use Rattle.sets.specs.Set.{on, has, any, empty_set}
 use Rattle.sets.proofs.Digits.{on-word_of, word_of-lt}
 use Rattle.sets.proofs.Laws.{Words, has-at, four_of, four_of-set_of, has-set_of, has-empty, set_of-has, set_of-ext, any_none, any-never}
 use Rattle.table.specs.Layout.{max_positions, keepers_at, lengths_of, shortest_at, row_has}

@@ -2,9 +2,9 @@
 -- least one unless it is faulty. Callers cite `lexeme-takes` and `lexeme-fits`. By cases on what
 -- the definitions ask, and by going down the bytes.
 use mathlib.Core.Path.{◌≡◌, sym}
-use mathlib.Core.Bool.{Bool, true, false, cond, not, ◌&&◌, ◌||◌, and-eq-true_iff, true≢false}
+use mathlib.Core.Bool.{Bool, true, false, cond, ◌&&◌, and-eq-true_iff, true≢false}
 use mathlib.Core.List.{List, [], ◌∷◌}
-use Prim.Native.Nat.{ℕ, zero, suc, pred, ◌+◌, ◌≤◌, ◌<◌}
+use Prim.Native.Nat.{ℕ, suc, ◌+◌, ◌≤◌, ◌<◌}
 use native.Mathlib.Omega.{arith}
 use borrow.Author.Tests.{eqb-true, eqb-false, ltb-true}
 use lib.Dec.{eqb, leb, ltb}
@@ -12,7 +12,7 @@ use lib.ListN.{length, get_or, drop, length-drop}
 use Rattle.atoms.specs.Number.{cap, numeral_of}
 use Rattle.atoms.specs.Fault.{lower}
 use Rattle.atoms.specs.Raw.{any_raw, with_raw}
-use Rattle.atoms.specs.Quote.{is_mark, opens_quote}
+use Rattle.atoms.specs.Quote.{is_mark}
 use Rattle.tokens.specs.Option.{plain, faulty, with_caseless, with_dot_all, with_lines, letters_of, before_close, comment_of, opening_of}
 use Rattle.tokens.specs.Quantifier.{no_form, bounded, open_ended, braces_of, form_of, marked, quantifier_of}
 use Rattle.tokens.specs.Token.{escaped, unquoted_of, spelled_of, faulty_as, lexeme_of}

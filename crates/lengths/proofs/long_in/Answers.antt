@@ -1,7 +1,7 @@
 -- `lengths::long_in` meets its contract: no rule has a smallest length, or the set is looked at
 -- word by word.
 use mathlib.Core.Path.{◌≡◌, sym, ◌∙◌}
-use mathlib.Core.List.{◌∷◌}
+use mathlib.Core.List.{[], ◌∷◌}
 use Prim.Native.Nat.{ℕ}
 use Rattle.table.specs.Automaton.{automaton}
 use Rattle.steps.proofs.Bounds.{words-good}
@@ -17,19 +17,19 @@ pub returns-then-words-lt-TABLE_WORDS : goal.returns-then-words-lt-TABLE_WORDS
 returns-then-words-lt-TABLE_WORDS c =
     let a = c.args in
     let t = a.words.now in
-    c.empty.ensures ∙ sym (set-off t (long_in (automaton t) a.t1 a.starts.now a.end) c.if-words-lt-TABLE_WORDS.true)
+    c.empty.ensures ∙ sym (set-off t (long_in (automaton t) a.set a.starts.now a.end) c.if-words-lt-TABLE_WORDS.true)
 
 pub returns-then-words-eq0 : goal.returns-then-words-eq0
 returns-then-words-eq0 c =
-    let s = c.before.before.before.before in
+    let s = c in
     let a = s.args in
     let t = a.words.now in
-    all-long t a.t1 a.starts.now a.end (words-good a.t1 _ s.well-formed.0) c.if-words-eq0.true
-    ∙ sym (set_on_lem t (long_in (automaton t) a.t1 a.starts.now a.end) c.if-words-lt-TABLE_WORDS.false)
+    all-long t a.set a.starts.now a.end (words-good a.set _ s.well_formed.0) c.if-words-eq0.true
+    ∙ sym (set_on_lem t (long_in (automaton t) a.set a.starts.now a.end) c.if-words-lt-TABLE_WORDS.false)
 
 pub returns : goal.returns
 returns c =
-    let third = c.before.before in
+    let third = c in
     let second = third.before.before in
     let first = second.before.before in
     let asked = first.before.before in
@@ -37,5 +37,5 @@ returns c =
     let a = s.args in
     let t = a.words.now in
     list_of first.long_word-a.ensures second.long_word-b.ensures third.long_word-c.ensures c.long_word-d.ensures
-    ∙ long-words t a.t1 a.starts.now a.end asked.if-words-eq0.false
-    ∙ sym (set_on_lem t (long_in (automaton t) a.t1 a.starts.now a.end) asked.if-words-lt-TABLE_WORDS.false)
+    ∙ long-words t a.set a.starts.now a.end asked.if-words-eq0.false
+    ∙ sym (set_on_lem t (long_in (automaton t) a.set a.starts.now a.end) asked.if-words-lt-TABLE_WORDS.false)

@@ -82,7 +82,7 @@ overflow_add-i-else-is_mark c =
     let more = member-advances s loop.i args.caseless loop.quoted member-at.result
     c.loop-i-test.true member-at.ensures
     c.if-m-ne0.false in
-    omega (arith, more.1, c.well-formed)
+    omega (arith, more.1, c.well_formed)
 
 pub loop-i-smaller : goal.loop-i-smaller
 loop-i-smaller c =

@@ -46,7 +46,7 @@ returns-in_default c =
     let args = c.args in
     let s = args.s.now in
     let at = args.at in
-    let other = c.in_default.rest in
+    let other = c.in_default.in_default-own.rest in
     rw (
       member_is s at args.caseless args.quoted c.if-s-at.false,
       c.if-quoted.false,

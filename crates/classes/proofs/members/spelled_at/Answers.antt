@@ -65,7 +65,7 @@ range-requires c =
           c.if-m-eq6.false joint-at.ensures c.if-j.true,
       part-fits s (at + member-part.result.size + joint-at.result.size) args.caseless joint-at.result.quoted member-part2.result
           member-part2.ensures,
-      c.well-formed,
+      c.well_formed,
     ) in
     fits
 

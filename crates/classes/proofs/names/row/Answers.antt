@@ -62,7 +62,7 @@ pub returns-in_default : goal.returns-in_default
 unfolding unpadded bytes
 returns-in_default c =
     let args = c.args in
-    let r = c.in_default.rest in
+    let r = c.in_default.in_default-own.rest in
     rw (name-last args.number (beyond 12 (beyond 11 (beyond 10 (beyond 9 (beyond 8
     (beyond 7 (beyond 6 (beyond 5 (beyond 4 (beyond 3 (beyond 2 (beyond 1 (beyond 0 (omega arith) r.0.0.0.0.0.0.0.0.0.0.0.0.1)
     r.0.0.0.0.0.0.0.0.0.0.0.1) r.0.0.0.0.0.0.0.0.0.0.1) r.0.0.0.0.0.0.0.0.0.1) r.0.0.0.0.0.0.0.0.1)

@@ -1,6 +1,7 @@
 -- `tokens::lexer::faulty_as` meets its contract: by the token.
+use borrow.Enum.Refused.{opened}
 use mathlib.Core.Path.{◌≡◌, refl, ◌∙◌}
-use mathlib.Core.List.{◌∷◌}
+use mathlib.Core.List.{[], ◌∷◌}
 use Prim.Native.Nat.{ℕ}
 use types.Run.{OneOf, miss}
 use denote.Enum.Declared.{tag_of}
@@ -29,4 +30,4 @@ pub returns-in-Repeat : goal.returns-in-Repeat
 returns-in-Repeat c = rw c.in-Repeat.is
 
 pub returns-in_default : goal.returns-in_default
-returns-in_default c = c.refused.ensures ∙ other c.args.fault c.args.token c.in_default.keys2
+returns-in_default c = c.refused.ensures ∙ other c.args.fault c.args.token (opened c.in_default.in_default-own.keys2)

@@ -1,7 +1,8 @@
 -- `tokens::lexer::item_set` meets its contract, by cases on what the item stands for.
+use borrow.Enum.Refused.{opened}
 use mathlib.Core.Path.{◌≡◌, refl, ◌∙◌}
 use mathlib.Core.Bool.{true, false}
-use mathlib.Core.List.{◌∷◌}
+use mathlib.Core.List.{[], ◌∷◌}
 use types.Run.{OneOf, miss}
 use denote.Enum.Declared.{tag_of}
 use Rattle.sets.specs.Set.{empty_set}
@@ -38,8 +39,7 @@ returns-then-options c =
 pub returns-in-Byte : goal.returns-in-Byte
 unfolding item_set
 returns-in-Byte c =
-    let atom = c.atom in
-    rw (atom.given.1, ← c.empty.ensures, ← c.insert.ensures) c.cased.ensures
+    rw (c.in-Byte.is, ← c.empty.ensures, ← c.insert.ensures) c.cased.ensures
 
 pub returns-in-OfKind : goal.returns-in-OfKind
 unfolding item_set
@@ -63,4 +63,4 @@ returns-in-NotNewline c = rw c.in-NotNewline.is c.all_but_newline-in-NotNewline.
 pub returns-in_default : goal.returns-in_default
 returns-in_default c =
     let args = c.args in
-    c.empty-in_default.ensures ∙ assertion args.options args.atom c.in_default.keys6
+    c.empty-in_default.ensures ∙ assertion args.options args.atom (opened c.in_default.in_default-own.keys6)

@@ -45,7 +45,7 @@ returns-in_default c =
     let args = c.args in
     let s = args.s.now in
     let at = args.at in
-    let other = c.in_default.rest in
+    let other = c.in_default.in_default-own.rest in
     c.quantifier_or_byte.ensures
     ∙ sym
     (lexeme-other s at args.options c.requires other.0.0.0.0.0.0.0.1 other.0.0.0.0.0.0.1

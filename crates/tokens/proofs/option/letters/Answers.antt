@@ -3,7 +3,6 @@
 -- is inside, so the measure, what is left of the bytes, falls.
 use mathlib.Core.Path.{refl, sym, ◌∙◌}
 use native.Mathlib.Omega.{arith}
-use borrow.Author.Tests.{not-true, not-false}
 use Rattle.atoms.proofs.Suffixes.{inside}
 use Rattle.tokens.proofs.Letters.{letters-i, letters-s, letters-m, letters-off, letters-twice, letters-set, letters-open, letters-other}
 use Rattle.tokens.proofs.option.letters.Goals as goal
@@ -74,7 +73,7 @@ returns-then-not-on c =
     c.refused.ensures
     ∙ sym
     (letters-twice l.on l.any _ l.size s l.i peek.result peek.ensures c.in-45.is
-    (not-true _ c.if-not-on.true-raw))
+    c.if-not-on.true)
     ∙ inv.2
 
 pub loop-caseless-smaller : goal.loop-caseless-smaller
@@ -93,7 +92,7 @@ loop-caseless-preserved c =
       omega arith,
       omega (arith, inv.1),
       sym
-          (letters-off l.on l.any _ l.size s l.i peek.result peek.ensures c.in-45.is (not-false _ c.if-not-on.false-raw))
+          (letters-off l.on l.any _ l.size s l.i peek.result peek.ensures c.in-45.is c.if-not-on.false)
           ∙ inv.2,
     )
 
@@ -121,7 +120,7 @@ returns-in_default c =
     let s = c.args.s.now in
     let peek = c.peek-c in
     let inv = l.invariant in
-    let other = c.in_default.rest in
+    let other = c.in_default.in_default-own.rest in
     c.refused-in_default.ensures
     ∙ sym
     (letters-other l.on l.any _ l.size s l.i peek.result peek.ensures other.0.0.0.0.0.1 other.0.0.0.0.1

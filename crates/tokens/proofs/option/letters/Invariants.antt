@@ -11,8 +11,8 @@ use Rattle.tokens.proofs.option.letters.Given as goal
 abbrev pub invariant-loop-caseless : goal.invariant-loop-caseless
 invariant-loop-caseless l =
     (l.i ≤ length l.s) × (l.size ≤ l.i + 2)
-    × (letters_of l.on l.any (record { l.caseless = l.caseless; l.dotall = l.dotall; l.lines = l.lines; l.quoted = l.quoted }) l.size (drop l.i l.s)
-    ≡ letters_of true false (record { l.caseless = l.initial.caseless; l.dotall = l.initial.dotall; l.lines = l.initial.lines; l.quoted = l.quoted }) 2 (drop l.at l.s))
+    × (letters_of l.on l.any (record { caseless = l.caseless; dotall = l.dotall; lines = l.lines; quoted = l.quoted }) l.size (drop l.i l.s)
+    ≡ letters_of true false (record { caseless = l.initial.caseless; dotall = l.initial.dotall; lines = l.initial.lines; quoted = l.quoted }) 2 (drop l.at l.s))
 
 abbrev pub decreases-loop-caseless : goal.decreases-loop-caseless
 decreases-loop-caseless l = length l.s - l.i

@@ -3,31 +3,28 @@
 -- sum wraps.
 use mathlib.Core.Path.{◌≡◌}
 use mathlib.Core.Bool.{true, false}
-use Prim.Native.Nat.{◌+◌, ◌-◌, ◌≤◌}
+use mathlib.Core.List.{List}
+use Prim.Native.Nat.{ℕ, ◌+◌, ◌-◌, ◌≤◌}
 use native.Mathlib.Omega.{arith}
-use lib.ListN.{length}
+use lib.ListN.{length, drop}
+use Rattle.atoms.specs.Number.{numeral_of}
+use Rattle.atoms.specs.declared.Numeral.{Numeral}
 use Rattle.atoms.proofs.Digits.{numeral-fits}
 use Rattle.tokens.proofs.Forms.{braces-one, braces-two}
 use Rattle.tokens.proofs.quantifier.brace_form.Goals as goal
 
 -- the digits of the first number stand in the pattern, and those of the second after them
-first_fits : (c : goal.After-decimal_at-a) → c.decimal_at-a.result.size ≤ length c.args.s.now - c.args.at
-first_fits c = numeral-fits 10 c.args.s.now c.args.at c.decimal_at-a.result c.decimal_at-a.ensures
+first_fits : (s : List ℕ) (at : ℕ) (a : Numeral) → a ≡ numeral_of 10 (drop at s) → a.size ≤ length s - at
+first_fits s at a e = numeral-fits 10 s at a e
 
-both-fit : (c : goal.After-decimal_at-b)
-    → c.decimal_at-a.result.size + c.decimal_at-b.result.size
-    ≤ length c.args.s.now
-both-fit c =
-    let args = c.args in
-    let a = c.decimal_at-a in
-    let b = c.decimal_at-b in
-    omega (arith, first_fits c.before.before.before, numeral-fits 10 args.s.now (args.at + a.result.size + 1) b.result b.ensures)
+both-fit : (s : List ℕ) (at : ℕ) (a b : Numeral) → at ≤ length s → a ≡ numeral_of 10 (drop at s) → b ≡ numeral_of 10 (drop (at + a.size + 1) s) → a.size + b.size ≤ length s
+both-fit s at a b h e f = omega (arith, first_fits s at a e, numeral-fits 10 s (at + a.size + 1) b f)
 
 pub overflow_add-comma : goal.overflow_add-comma
-overflow_add-comma c = omega (arith, first_fits c)
+overflow_add-comma c = omega (arith, first_fits c.args.s.now c.args.at c.decimal_at-a.result c.decimal_at-a.ensures)
 
 pub overflow_add-digits : goal.overflow_add-digits
-overflow_add-digits c = omega (arith, first_fits c.before.before.before)
+overflow_add-digits c = omega (arith, first_fits c.args.s.now c.args.at c.decimal_at-a.result c.decimal_at-a.ensures)
 
 pub returns-then-from : goal.returns-then-from
 returns-then-from c =
@@ -50,19 +47,19 @@ returns-then-c-eq125 c =
     rw (braces-one s at a.result p.result a.ensures p.ensures c.if-c-eq125.true, from) c.no_form.ensures
 
 pub overflow_add-comma-2 : goal.overflow_add-comma-2
-overflow_add-comma-2 c = omega (arith, first_fits c.before.before)
+overflow_add-comma-2 c = omega (arith, first_fits c.args.s.now c.args.at c.decimal_at-a.result c.decimal_at-a.ensures)
 
 pub overflow_add-size : goal.overflow_add-size
-overflow_add-size c = omega (arith, both-fit c)
+overflow_add-size c = omega (arith, both-fit c.args.s.now c.args.at c.decimal_at-a.result c.decimal_at-b.result c.requires c.decimal_at-a.ensures c.decimal_at-b.ensures)
 
 pub overflow_add-size-2 : goal.overflow_add-size-2
-overflow_add-size-2 c = omega (arith, both-fit c)
+overflow_add-size-2 c = omega (arith, both-fit c.args.s.now c.args.at c.decimal_at-a.result c.decimal_at-b.result c.requires c.decimal_at-a.ensures c.decimal_at-b.ensures)
 
 pub overflow_add-more : goal.overflow_add-more
-overflow_add-more c = omega (arith, both-fit c)
+overflow_add-more c = omega (arith, both-fit c.args.s.now c.args.at c.decimal_at-a.result c.decimal_at-b.result c.requires c.decimal_at-a.ensures c.decimal_at-b.ensures)
 
 pub overflow_add-comma-3 : goal.overflow_add-comma-3
-overflow_add-comma-3 c = omega (arith, first_fits c.before.before.before, both-fit c)
+overflow_add-comma-3 c = omega (arith, first_fits c.args.s.now c.args.at c.decimal_at-a.result c.decimal_at-a.ensures, both-fit c.args.s.now c.args.at c.decimal_at-a.result c.decimal_at-b.result c.requires c.decimal_at-a.ensures c.decimal_at-b.ensures)
 
 pub returns-then-to : goal.returns-then-to
 returns-then-to c =

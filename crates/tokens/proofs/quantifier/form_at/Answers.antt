@@ -58,7 +58,7 @@ returns-in_default c =
     let s = args.s.now in
     let at = args.at in
     let peek = c.peek-c in
-    let other = c.in_default.rest in
+    let other = c.in_default.in_default-own.rest in
     rw (
       form-is s at peek.result peek.ensures,
       ne_eqb _ _ other.0.0.0.1,

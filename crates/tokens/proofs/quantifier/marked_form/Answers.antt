@@ -2,35 +2,34 @@
 -- the lower fault decides.
 use mathlib.Core.Path.{◌≡◌}
 use mathlib.Core.Bool.{cond}
-use mathlib.Core.Logic.{⊎_elim}
+use Prim.Native.Nat.{ℕ}
 use native.Mathlib.Omega.{arith}
 use borrow.Author.Tests.{eq-eqb, ne_eqb}
 use lib.Dec.{eqb}
 use Rattle.tokens.specs.Quantifier.{marked}
 use Rattle.tokens.proofs.quantifier.marked_form.Goals as goal
+use Rattle.tokens.proofs.quantifier.marked_form.Goals.{then-mark-eq43, else-mark-eq43, then-mark-eq63, else-mark-eq63}
 
-possessive-is : (c : goal.Joined-mark-eq43) → c.if-mark-eq43.possessive ≡ cond (eqb c.args.mark 43) 14 0
-possessive-is c = ⊎_elim (λ w. rw (eq-eqb _ 43 w.0.taken) w.1) (λ w. rw (ne_eqb _ 43 w.0.left) w.1) c.if-mark-eq43.branch
+-- a choice by a test, as the code makes it
+chosen : (mark k a b x : ℕ) → mark ≡ k → x ≡ a → x ≡ cond (eqb mark k) a b
+chosen mark k a b x e h = rw (eq-eqb _ k e) h
 
-lazy-is : (c : goal.Joined-mark-eq63) → c.if-mark-eq63.lazy ≡ cond (eqb c.args.mark 63) 1 0
-lazy-is c = ⊎_elim (λ w. rw (eq-eqb _ 63 w.0.taken) w.1) (λ w. rw (ne_eqb _ 63 w.0.left) w.1) c.if-mark-eq63.branch
+passed : (mark k a b x : ℕ) → (mark ≡ k → ⊥) → x ≡ b → x ≡ cond (eqb mark k) a b
+passed mark k a b x e h = rw (ne_eqb _ k e) h
 
 pub overflow_add-result : goal.overflow_add-result
-overflow_add-result c =
-    let if2 = c.if-mark-eq63 in
-    ⊎_elim (λ w. omega (arith, w.1)) (λ w. omega (arith, w.1)) if2.branch
+overflow_add-result c = elim c.if-mark-eq63.branch [ then-mark-eq63 w ↦ omega (arith, w.lazy-is) | else-mark-eq63 w ↦ omega (arith, w.lazy-is) ]
 
 pub returns-then-fault-eq0 : goal.returns-then-fault-eq0
 unfolding marked
 returns-then-fault-eq0 c =
+    let p : c.if-mark-eq43.possessive ≡ cond (eqb c.args.mark 43) 14 0 = elim c.if-mark-eq43.branch [ then-mark-eq43 w ↦ chosen c.args.mark 43 14 0 _ w.if-mark-eq43.true w.possessive-is | else-mark-eq43 w ↦ passed c.args.mark 43 14 0 _ w.if-mark-eq43.false w.possessive-is ] in
+    let l : c.if-mark-eq63.lazy ≡ cond (eqb c.args.mark 63) 1 0 = elim c.if-mark-eq63.branch [ then-mark-eq63 w ↦ chosen c.args.mark 63 1 0 _ w.if-mark-eq63.true w.lazy-is | else-mark-eq63 w ↦ passed c.args.mark 63 1 0 _ w.if-mark-eq63.false w.lazy-is ] in
     let lower = c.lower-fault in
-    rw (
-      ← possessive-is c.before.before.before.before.before,
-      ← lazy-is c.before.before.before.before,
-      ← lower.ensures,
-      eq-eqb _ 0 c.if-fault-eq0.true,
-    )
+    rw (← p, ← l, ← lower.ensures, eq-eqb _ 0 c.if-fault-eq0.true)
 
 pub returns : goal.returns
 unfolding marked
-returns c = rw (← possessive-is c.before.before.before, ← lazy-is c.before.before, ← c.lower-fault.ensures, ne_eqb _ 0 c.if-fault-eq0.false)
+returns c =
+    let p : c.if-mark-eq43.possessive ≡ cond (eqb c.args.mark 43) 14 0 = elim c.if-mark-eq43.branch [ then-mark-eq43 w ↦ chosen c.args.mark 43 14 0 _ w.if-mark-eq43.true w.possessive-is | else-mark-eq43 w ↦ passed c.args.mark 43 14 0 _ w.if-mark-eq43.false w.possessive-is ] in
+    rw (← p, ← c.lower-fault.ensures, ne_eqb _ 0 c.if-fault-eq0.false)
