@@ -55,8 +55,11 @@ field-within v g =
       | no l ↦ absurd (omega (arith, g.space, get_or-eq_default v 0 {n = length (digits_of v)} (omega arith)))
     ]
 
--- with the capped number and the end of the digits at hand
-module _ (s : List ℕ) (from value end : ℕ) (r : (value ≡ min (2 ^ 32) (field_value (drop from s))) × (end ≡ from + length (digits_of (drop from s)))) where
+-- what the digits at a place give: the capped number and where they end
+abbrev pub Read : (s : List ℕ) (from value end : ℕ) → Type 0
+Read s from value end = (value ≡ min (2 ^ 32) (field_value (drop from s))) × (end ≡ from + length (digits_of (drop from s)))
+
+module _ (s : List ℕ) (from value end : ℕ) (r : Read s from value end) where
   pub space-at : get_or s end 0 ≡ get_or (drop from s) (length (digits_of (drop from s))) 0
   space-at = rw r.1 (sym (get_or-drop from s _ 0))
 

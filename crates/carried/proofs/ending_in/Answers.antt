@@ -30,14 +30,14 @@ none_is t gap set h =
 pub met_row-requires : goal.met_row-requires
 met_row-requires c =
     let c-if1 = c.if-gap-lt-LAST_GAPS in
-    let c-start = c.before.before in
+    let c-start = c in
     omega (arith, c-start.requires, c-if1.true)
 
 pub returns-then-gap-lt-LAST_GAPS : goal.returns-then-gap-lt-LAST_GAPS
 returns-then-gap-lt-LAST_GAPS c =
     let c-met-row = c.met_row in
     let c-if1 = c.if-gap-lt-LAST_GAPS in
-    let c-start = c.before.before.before in
+    let c-start = c in
     let a = c-start.args in
     c-met-row.ensures ∙ swapped (set_of (row_has a.words.now (last_at a.gap))) a.set
     ∙ ap (intersection_of a.set) (last_is a.words.now a.gap c-if1.true)
@@ -46,6 +46,6 @@ pub returns : goal.returns
 returns c =
     let c-empty = c.empty in
     let c-if1 = c.if-gap-lt-LAST_GAPS in
-    let c-start = c.before.before.before in
+    let c-start = c in
     let a = c-start.args in
     c-empty.ensures ∙ none_is a.words.now a.gap a.set c-if1.false

@@ -10,16 +10,6 @@ use Rattle.table.specs.Layout.{table_words, owner_at}
 use Rattle.steps.proofs.Carrying.{least-none, least-turn, least-all, digit, falls, base-fits, digit-fits, place-fits, bytes_fit, place_inside, at_least_one}
 use Rattle.carried.proofs.least_word.Goals as goal
 
--- the digit that a turn asks, and its place
-asked : (c : goal.In-loop-word) → count_trailing_zeros 64 c.loop-word.word < 64
-asked c = digit c.loop-word.word c.loop-word.invariant.small c.loop-word-test.true
-
-abbrev lowest : goal.In-loop-word → ℕ
-lowest c = count_trailing_zeros 64 c.loop-word.word
-
-abbrev start : goal.In-loop-word → goal.Start
-start c = c.before.before.before
-
 module _ (p : ℕ) (h : p < 256) where
   owner-fits : Fits w64 (owner_at p)
   owner-fits = record { fits = omega arith }
@@ -30,40 +20,36 @@ module _ (p : ℕ) (h : p < 256) where
   owner-inside : (n : ℕ) → table_words ≤ n → owner_at p < n
   owner-inside n m = omega arith
 
-inside : (c : goal.In-loop-word) → (start c).args.i * 64 + lowest c < 256
-inside c = place_inside (start c).args.i (lowest c) (start c).requires.1 (asked c)
-
 pub loop-word-init : goal.loop-word-init
 loop-word-init c =
-    let c-start = c.before in
+    let c-start = c in
     let a = c-start.args in
     least-none a.words.now a.owner a.starts.now a.word a.i a.least c-start.ranges.word.fits
 
 pub overflow_mul-p : goal.overflow_mul-p
-overflow_mul-p c = base-fits (start c).args.i (lowest c) (start c).requires.1 (asked c)
+overflow_mul-p c = base-fits c.args.i (count_trailing_zeros 64 c.loop-word.word) c.requires.1 (digit c.loop-word.word c.loop-word.invariant.small c.loop-word-test.true)
 
 pub overflow_cast-p : goal.overflow_cast-p
-overflow_cast-p c = digit-fits (start c).args.i (lowest c) (start c).requires.1 (asked c)
+overflow_cast-p c = digit-fits c.args.i (count_trailing_zeros 64 c.loop-word.word) c.requires.1 (digit c.loop-word.word c.loop-word.invariant.small c.loop-word-test.true)
 
 pub overflow_add-p : goal.overflow_add-p
-overflow_add-p c = place-fits (start c).args.i (lowest c) (start c).requires.1 (asked c)
+overflow_add-p c = place-fits c.args.i (count_trailing_zeros 64 c.loop-word.word) c.requires.1 (digit c.loop-word.word c.loop-word.invariant.small c.loop-word-test.true)
 
 pub offset_bounds-starts-p : goal.offset_bounds-starts-p
-offset_bounds-starts-p c = bytes_fit (start c).args.i (lowest c) (start c).requires.1 (asked c)
+offset_bounds-starts-p c = bytes_fit c.args.i (count_trailing_zeros 64 c.loop-word.word) c.requires.1 (digit c.loop-word.word c.loop-word.invariant.small c.loop-word-test.true)
 
 pub bounds-starts-p : goal.bounds-starts-p
-bounds-starts-p c = inside c
+bounds-starts-p c = place_inside c.args.i (count_trailing_zeros 64 c.loop-word.word) c.requires.1 (digit c.loop-word.word c.loop-word.invariant.small c.loop-word-test.true)
 
 pub overflow_add-own : goal.overflow_add-own
-overflow_add-own c = let o = c.before in owner-fits ((start o).args.i * 64 + lowest o) (inside o)
+overflow_add-own c = owner-fits (c.args.i * 64 + (count_trailing_zeros 64 c.loop-word.word)) (place_inside c.args.i (count_trailing_zeros 64 c.loop-word.word) c.requires.1 (digit c.loop-word.word c.loop-word.invariant.small c.loop-word-test.true))
 
 pub offset_bounds-words-p : goal.offset_bounds-words-p
-offset_bounds-words-p c = let o = c.before in owner-bytes-fit ((start o).args.i * 64 + lowest o) (inside o)
+offset_bounds-words-p c = owner-bytes-fit (c.args.i * 64 + (count_trailing_zeros 64 c.loop-word.word)) (place_inside c.args.i (count_trailing_zeros 64 c.loop-word.word) c.requires.1 (digit c.loop-word.word c.loop-word.invariant.small c.loop-word-test.true))
 
 pub bounds-words-p : goal.bounds-words-p
 bounds-words-p c =
-    let o = c.before.before in
-    owner-inside ((start o).args.i * 64 + lowest o) (inside o) (length (start o).args.words.now) (start o).requires.0
+    owner-inside (c.args.i * 64 + (count_trailing_zeros 64 c.loop-word.word)) (place_inside c.args.i (count_trailing_zeros 64 c.loop-word.word) c.requires.1 (digit c.loop-word.word c.loop-word.invariant.small c.loop-word-test.true)) (length c.args.words.now) c.requires.0
 
 pub overflow_sub-word : goal.overflow_sub-word
 overflow_sub-word c =
@@ -82,7 +68,7 @@ loop-word-preserved c =
     let c-lowered = c.lowered-least in
     let c-loop-test = c.loop-word-test in
     let c-loop = c.loop-word in
-    let c-start = c.before.before.before.before.before.before in
+    let c-start = c in
     let a = c-start.args in
     least-turn a.words.now a.owner a.starts.now a.word a.i a.least
     c-loop.word c-loop.least c-loop.invariant c-loop-test.true c-start.requires.1
@@ -92,7 +78,7 @@ pub returns : goal.returns
 returns c =
     let c-loop-test = c.loop-word-test in
     let c-loop = c.loop-word in
-    let c-start = c.before.before.before in
+    let c-start = c in
     let a = c-start.args in
     least-all a.words.now a.owner a.starts.now a.word a.i a.least
     c-loop.word c-loop.least c-loop.invariant c-loop-test.false

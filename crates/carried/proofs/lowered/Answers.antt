@@ -8,7 +8,7 @@ pub returns-then-counts : goal.returns-then-counts
 returns-then-counts c =
     let c-chosen = c.chosen in
     let c-if1 = c.if-counts in
-    let c-start = c.before.before in
+    let c-start = c in
     let a = c-start.args in
     c-chosen.ensures
     ∙ sym (ap (λ (b : Bool). cond b (chosen_of true a.least a.start) a.least) c-if1.true)
@@ -16,6 +16,6 @@ returns-then-counts c =
 pub returns-else-counts : goal.returns-else-counts
 returns-else-counts c =
     let c-if1 = c.if-counts in
-    let c-start = c.before in
+    let c-start = c in
     let a = c-start.args in
     sym (ap (λ (b : Bool). cond b (chosen_of true a.least a.start) a.least) c-if1.false)

@@ -6,6 +6,6 @@ use Rattle.carried.proofs.met_row.Goals as goal
 
 pub returns : goal.returns
 returns c =
-    let known = c.shared-slice-known in
+    let known = c.type_inv.words in
     let a = c.args in
-    met-words a.words.now a.at (λ i. known.given i) a.t3 (words-owned a.t3 (search rules) (λ i. search rules))
+    met-words a.words.now a.at (λ i. known i) a.set (words-owned a.set (search rules) (λ i. search rules))

@@ -1,11 +1,8 @@
 -- `carried::put` meets its contract: the four words, one after the other.
 use Rattle.steps.proofs.Carrying.{put-set}
-use Rattle.carried.proofs.put.Reads as reads
-use Rattle.carried.proofs.put.Lts as lts
-use Rattle.carried.proofs.put_word.Reads as put-word-reads
 use Rattle.carried.proofs.put.Goals as goal
 
 pub returns : goal.returns
 returns c =
     let a = c.args in
-    put-set a.t1 a.keep a.start a.starts.now _ _ _ _ c.put_word.ensures c.put_word-2.ensures c.put_word-3.ensures c.put_word-4.ensures
+    put-set a.set a.keep a.start a.starts.now _ _ _ _ c.put_word.ensures c.put_word-2.ensures c.put_word-3.ensures c.put_word-4.ensures

@@ -14,10 +14,6 @@ use Rattle.steps.proofs.Carrying.{rules-none-yet, rules-turn, rules-all, least-e
 use Rattle.carried.proofs.rule_starts.Invariants.{give}
 use Rattle.carried.proofs.rule_starts.Goals as goal
 
--- the digit that a turn asks
-asked : (c : goal.In-loop-rules) → count_trailing_zeros 64 c.loop-rules.rules < 64
-asked c = digit c.loop-rules.rules c.loop-rules.invariant.small c.loop-rules-test.true
-
 module _ (n : ℕ) (h : n < 64) where
   digit-fits : Fits w64 n
   digit-fits = record { fits = omega arith }
@@ -28,7 +24,7 @@ module _ (n : ℕ) (h : n < 64) where
 pub returns-then-words-lt-TABLE_WORDS : goal.returns-then-words-lt-TABLE_WORDS
 returns-then-words-lt-TABLE_WORDS c =
     let c-if1 = c.if-words-lt-TABLE_WORDS in
-    let c-start = c.before.before in
+    let c-start = c in
     let a = c-start.args in
     let t = a.words.now in
     list-off t 64 (starts_at (automaton t) a.rules a.gap a.set a.starts.now a.from.now)
@@ -42,22 +38,22 @@ ending_in-found-requires c =
 pub loop-rules-init : goal.loop-rules-init
 loop-rules-init c =
     let c-ending-in = c.ending_in-found in
-    let c-start = c.before.before.before in
+    let c-start = c in
     let a = c-start.args in
     rules-none-yet (give a.words.now c-ending-in.result a.starts.now a.from.now)
     a.rules (replicate 64 0) c-start.ranges.rules.fits (zeros-length 64) (λ q lt. zeros-at 64 q)
 
 pub overflow_cast-least : goal.overflow_cast-least
-overflow_cast-least c = digit-fits (count_trailing_zeros 64 c.loop-rules.rules) (asked c)
+overflow_cast-least c = digit-fits (count_trailing_zeros 64 c.loop-rules.rules) (digit c.loop-rules.rules c.loop-rules.invariant.small c.loop-rules-test.true)
 
 pub offset_bounds-from-a : goal.offset_bounds-from-a
-offset_bounds-from-a c = bytes_fit (count_trailing_zeros 64 c.loop-rules.rules) (asked c)
+offset_bounds-from-a c = bytes_fit (count_trailing_zeros 64 c.loop-rules.rules) (digit c.loop-rules.rules c.loop-rules.invariant.small c.loop-rules-test.true)
 
 pub bounds-from-a : goal.bounds-from-a
-bounds-from-a c = asked c
+bounds-from-a c = digit c.loop-rules.rules c.loop-rules.invariant.small c.loop-rules-test.true
 
 pub overflow_cast-a : goal.overflow_cast-a
-overflow_cast-a c = digit-fits (count_trailing_zeros 64 c.loop-rules.rules) (asked c.before)
+overflow_cast-a c = digit-fits (count_trailing_zeros 64 c.loop-rules.rules) (digit c.loop-rules.rules c.loop-rules.invariant.small c.loop-rules-test.true)
 
 pub least_start-requires : goal.least_start-requires
 least_start-requires c =
@@ -65,13 +61,13 @@ least_start-requires c =
     c-if1.false
 
 pub overflow_cast-new : goal.overflow_cast-new
-overflow_cast-new c = digit-fits (count_trailing_zeros 64 c.loop-rules.rules) (asked c.before.before)
+overflow_cast-new c = digit-fits (count_trailing_zeros 64 c.loop-rules.rules) (digit c.loop-rules.rules c.loop-rules.invariant.small c.loop-rules-test.true)
 
 pub offset_bounds-new-a : goal.offset_bounds-new-a
-offset_bounds-new-a c = bytes_fit (count_trailing_zeros 64 c.loop-rules.rules) (asked c.before.before)
+offset_bounds-new-a c = bytes_fit (count_trailing_zeros 64 c.loop-rules.rules) (digit c.loop-rules.rules c.loop-rules.invariant.small c.loop-rules-test.true)
 
 pub bounds-new-a : goal.bounds-new-a
-bounds-new-a c = asked c.before.before
+bounds-new-a c = digit c.loop-rules.rules c.loop-rules.invariant.small c.loop-rules-test.true
 
 pub overflow_sub-rules : goal.overflow_sub-rules
 overflow_sub-rules c =
@@ -91,8 +87,8 @@ loop-rules-preserved c =
     let c-loop-test = c.loop-rules-test in
     let c-loop = c.loop-rules in
     let c-ending-in = c.ending_in-found in
-    let back = c.before.before.before.before.before.before in
-    let c-start = back.before in
+    let back = c in
+    let c-start = c in
     let a = c-start.args in
     rules-turn (give a.words.now c-ending-in.result a.starts.now a.from.now)
     a.rules c-loop.rules c-loop.new c-loop.invariant c-loop-test.true
@@ -105,7 +101,7 @@ returns c =
     let c-loop = c.loop-rules in
     let c-ending-in = c.ending_in-found in
     let c-if1 = c.if-words-lt-TABLE_WORDS in
-    let c-start = c.before.before.before.before.before in
+    let c-start = c in
     let a = c-start.args in
     let t = a.words.now in
     let w = automaton t in

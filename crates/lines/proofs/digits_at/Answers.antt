@@ -20,18 +20,11 @@ returns-then-not-is_digit c =
     (digits-stop l x.at c.loop-at-test.true (sym c.is_digit.ensures ∙ not-true _ c.if-not-is_digit.true-raw)) in
     record { value = both.0; end = both.1 }
 
--- the byte at hand, and its range where it is a digit
-abbrev byte : goal.Else-not-is_digit → ℕ
-byte c = get_or c.args.line.now c.loop-at.at 0
-
-digit : (c : goal.Else-not-is_digit) → (48 ≤ byte c) × (byte c ≤ 57)
-digit c = digit-range _ (sym c.is_digit.ensures ∙ not-false _ c.if-not-is_digit.false-raw)
-
 pub overflow_sub-b : goal.overflow_sub-b
-overflow_sub-b c = (digit c).0
+overflow_sub-b c = (digit-range _ (sym c.is_digit.ensures ∙ not-false _ c.if-not-is_digit.false-raw)).0
 
 pub overflow_add-value : goal.overflow_add-value
-overflow_add-value c = omega (arith, digit c.before, c.wide.ensures)
+overflow_add-value c = omega (arith, digit-range (get_or c.args.line.now c.loop-at.at 0) (sym c.is_digit.ensures ∙ not-false _ c.if-not-is_digit.false-raw), c.wide.ensures)
 
 pub loop-at-preserved : goal.loop-at-preserved
 loop-at-preserved c =
