@@ -1,11 +1,9 @@
 -- The readers of branches, of a sequence and of an item meet their contracts together. Every return
 -- is one law of `Returns`; the other answers are places inside the pattern and room in the words.
 use mathlib.Core.Path.{sym, ap, ◌∙◌}
-use mathlib.Core.Logic.{inl, inr}
 use Prim.Native.Nat.{ℕ}
 use native.Mathlib.Omega.{arith}
 use borrow.Enum.Refused.{opened}
-use Rattle.tokens.specs.declared.Token.TheVariants.{Set, Note}
 use Rattle.pattern.specs.Invariants.{refusal}
 use Rattle.pattern.proofs.Keys.{ends, beginning, not_last, only-class}
 use Rattle.pattern.proofs.Returns as returned
