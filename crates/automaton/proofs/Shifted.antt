@@ -1,8 +1,8 @@
 -- Where a form's positions are numbered from makes no difference: numbered from d further on, its
 -- sets
 -- are the same sets d further on. And a position that is not the form's is in none of them.
-use mathlib.Core.Path.{◌≡◌, refl, sym, ap, ◌∙◌}
-use mathlib.Core.Bool.{Bool, true, false}
+use mathlib.Core.Path.{◌≡◌, refl, sym, ◌∙◌}
+use mathlib.Core.Bool.{Bool, false}
 use mathlib.Core.Logic.{◌⊎◌, inl, inr}
 use Prim.Native.Nat.{ℕ, ◌+◌, ◌≤◌, ◌<◌}
 use native.Mathlib.Decide.{ℕ_discrete}
@@ -11,7 +11,7 @@ use borrow.Author.Tests.{eq-eqb, ne_eqb}
 use lib.Dec.{eqb}
 use Rattle.meaning.specs.Form.{eps, take, check, seq, alt, plus, opt, positions}
 use Rattle.meaning.specs.Rule.{Assertion}
-use Rattle.meaning.specs.Automaton.{null, first, last, follow}
+use Rattle.meaning.specs.Automaton.{first, last, follow}
 use Rattle.meaning.proofs.Logic.{false-T}
 use Rattle.meaning.proofs.Computed.{first-T, last-T, follow-T}
 use Rattle.meaning.proofs.Range.{first-inside, last-inside, follow-inside, follow-inside-to}

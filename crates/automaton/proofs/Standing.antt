@@ -1,25 +1,24 @@
 -- A part that stands in the rows, and its copies. What is built over empty rows stands there,
 -- behind it
 -- the rows are empty again, and its copy is what building it once more would give.
-use mathlib.Core.Path.{◌≡◌, refl, sym, ap, ap₂, ◌∙◌}
-use mathlib.Core.Bool.{Bool, true, false, true≢false, ◌&&◌, ◌||◌, and-false}
-use mathlib.Core.Logic.{◌⊎◌, inl, inr}
+use mathlib.Core.Path.{◌≡◌, sym, ap, ap₂, ◌∙◌}
+use mathlib.Core.Bool.{Bool, ◌&&◌, ◌||◌, and-false}
+use mathlib.Core.Logic.{inl, inr}
 use mathlib.Core.List.{List, ◌++◌, append_assoc}
 use Prim.Native.Nat.{ℕ, ◌+◌, ◌-◌, ◌*◌, ◌≤◌, ◌<◌}
 use native.Mathlib.Decide.{dec_lt}
 use native.Mathlib.Omega.{arith}
 use lib.ListN.{length, take, drop}
 use lib.Seq.{sets, sets-eq, length-sets, length-take-le, drop_at, take_at}
-use Rattle.sets.specs.Set.{set_of}
 use Rattle.meaning.specs.Form.{positions}
 use Rattle.meaning.specs.Rule.{Assertion}
-use Rattle.meaning.specs.Automaton.{null, first, last, follow, items}
+use Rattle.meaning.specs.Automaton.{first, last, follow, items}
 use Rattle.meaning.proofs.Computed.{items-length}
 use Rattle.automaton.specs.Parts.{flat, world_of}
 use Rattle.automaton.specs.declared.fragments.Fragment.{Fragment}
 use Rattle.nodes.specs.Invariants.{Written}
-use Rattle.automaton.specs.Invariants.{fragment_of, has_at, Room, Built, among, moved_on, moved_part, Copied, Again, Fresh, Stands}
-use Rattle.automaton.proofs.Shifted.{Outside, first_on, last_on, follow-on, no-first-at, no-last-at, no-follow-at, no-follow-to}
+use Rattle.automaton.specs.Invariants.{fragment_of, has_at, Room, Built, among, moved_part, Again, Fresh, Stands}
+use Rattle.automaton.proofs.Shifted.{first_on, last_on, follow-on, no-first-at, no-last-at, no-follow-at, no-follow-to}
 use Rattle.automaton.proofs.Moving.{among_in, among_below, among-above, moved-set}
 use Rattle.automaton.proofs.Steps.{size_of, length-flat}
 

@@ -6,21 +6,21 @@ use mathlib.Core.List.{List, [], ◌∷◌, ◌++◌, append_assoc}
 use Prim.Native.Nat.{ℕ, suc, ◌+◌, ◌*◌, ◌-◌, ◌≤◌, ◌<◌}
 use native.Mathlib.Omega.{arith}
 use native.Mathlib.Decide.{ℕ_discrete}
-use borrow.Author.Tests.{lt-ltb, le-leb, leb-true, eq-eqb, ne_eqb, eqb-true, eqb-false}
+use borrow.Author.Tests.{lt-ltb, le-leb, leb-true, eq-eqb, ne_eqb, eqb-true}
 use lib.Dec.{eqb, leb}
-use lib.ListN.{length, get_or, length-append}
+use lib.ListN.{length, length-append}
 use lib.Seq.{sets}
 use Rattle.sets.specs.Set.{has}
 use Rattle.sets.proofs.Laws.{has-set_of}
-use Rattle.meaning.specs.Tree.{Extra, at_most, unbounded}
+use Rattle.meaning.specs.Tree.{Extra, at_most}
 use Rattle.meaning.specs.Form.{eps, take, check, seq, alt, plus, opt, write, positions, copies, optionals, repeated}
 use Rattle.meaning.specs.Rule.{Assertion, ByteSet}
 use Rattle.meaning.specs.Automaton.{first, last, follow, items}
 use Rattle.meaning.proofs.Computed.{items-length}
-use Rattle.nodes.specs.Nodes.{Syntax, op_of, x_of, y_of, z_of, extra_of, assertion_of}
+use Rattle.nodes.specs.Nodes.{Syntax, extra_of}
 use Rattle.automaton.specs.Parts.{four_words, flat, world_of}
 use Rattle.automaton.specs.declared.fragments.Fragment.{Fragment}
-use Rattle.nodes.specs.Invariants.{Written, form_at, child_form, extra}
+use Rattle.nodes.specs.Invariants.{Written, extra}
 use Rattle.automaton.specs.Invariants.{bare_of, one_of, in_turn, choice_of, optional_of, fragment_of, has_at, Joined, Room, Built}
 use Rattle.nodes.proofs.Forms.{nested-positions, repeat-any, repeat-nested, repeat_many, repeat-positions}
 use Rattle.automaton.proofs.Words.{sets-append}

@@ -1,17 +1,14 @@
 -- A tree without assertions has the same parts in every world: nothing in its written-out form asks
 -- the world.
-use mathlib.Core.Path.{◌≡◌, refl, ap, ap₂, fun_ext}
-use mathlib.Core.Bool.{Bool, true, false, true≢false, cond, ◌||◌}
-use Prim.Native.Nat.{ℕ, zero, suc, ◌+◌}
-use lib.Dec.{leb}
+use mathlib.Core.Path.{◌≡◌, refl, fun_ext}
+use mathlib.Core.Bool.{Bool, true, false, true≢false, ◌||◌}
+use Prim.Native.Nat.{ℕ, zero, suc}
 use Rattle.meaning.specs.Tree.{Extra, at_most, unbounded, empty, item, assertion, then, or, repeat}
-use Rattle.meaning.specs.Form.{eps, take, check, seq, alt, plus, opt, write, positions, copies, optionals, repeated}
-use Rattle.meaning.specs.Count.{limit}
+use Rattle.meaning.specs.Form.{eps, take, check, seq, alt, plus, opt, write, copies, optionals, repeated}
 use Rattle.meaning.specs.Rule.{Assertion}
 use Rattle.meaning.specs.Automaton.{null, first, last, follow}
 use Rattle.nodes.specs.Nodes.{Syntax, asserts}
-use Rattle.automaton.specs.Parts.{world_of, form_parts, no_parts, parts_of}
-use Rattle.automaton.specs.declared.Parts.{Parts}
+use Rattle.automaton.specs.Parts.{world_of, form_parts, parts_of}
 use Rattle.nodes.specs.Invariants.{Written}
 
 -- ---- forms without assertions

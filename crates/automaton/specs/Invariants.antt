@@ -2,11 +2,9 @@
 use Rattle.std.specs.Prelude.{◌≡◌, Bool, true, false, cond, ◌&&◌, ◌||◌, List, ℕ, ◌+◌, ◌-◌, ◌*◌, ◌≤◌, ◌<◌, leb, ltb, length, take, drop}
 use Rattle.std.proofs.lemmas.List.Edits.{sets}
 use Rattle.sets.specs.Set.{has, set_of, empty_set, union_of, inserted}
-use Rattle.meaning.specs.Tree.{Extra, at_most, unbounded}
-use Rattle.meaning.specs.Form.{Form, write, positions}
-use Rattle.meaning.specs.Rule.{Assertion, ByteSet}
+use Rattle.meaning.specs.Form.{positions}
 use Rattle.meaning.specs.Automaton.{null, first, last, follow, items}
-use Rattle.nodes.specs.Invariants.{Written, form_at, child_form, extra}
+use Rattle.nodes.specs.Invariants.{Written}
 use Rattle.automaton.specs.Parts.{four_words, flat, world_of}
 use Rattle.automaton.specs.declared.fragments.Fragment.{Fragment}
 

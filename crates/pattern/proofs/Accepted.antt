@@ -187,7 +187,7 @@ module _ (s : List ℕ) (o : Options) where
         (λ e z. Reason.escape_large at m S (is_T _ e))
         (λ e. none e)
         (λ e z. Reason.nothing_repeated at m S (is_T _ e))
-        (λ e z. Reason.bad_bounds at m S (is_T _ e))
+        (λ e z. Reason.bounds_are_bad at m S (is_T _ e))
         (λ e z. Reason.unsupported at m S (is_T _ e))
         (λ e z. Reason.raw_byte at m S (is_T _ e))
         (λ z. absurd (z refl)))
@@ -428,7 +428,7 @@ module _ (s : List ℕ) (o : Options) where
   reason-refuses n q (Reason.class_open at bracket c b k C i h) = unclosed-refuses at bracket c b k C i h
   reason-refuses n q (Reason.bad_range at c b M x) = member-refuses c b 9 at M (most9 (of_member row6 c b at) (of_member row7 c b at) (row9 c b (drop at s)) false false (of_member member_row14 c b at) (raw_member c b (drop at s)) (true-T _ x))
   reason-refuses n q (Reason.nothing_repeated at m S x) = rows-refuse at m S 10 (most10 (own row6 at m) (own row7 at m) false (ten at m) (own row11 at m) (own row14 at m) (raw_token s at m) (true-T _ x))
-  reason-refuses n q (Reason.bad_bounds at m S x) = rows-refuse at m S 11 (most11 (own row6 at m) (own row7 at m) false (ten at m) (own row11 at m) (own row14 at m) (raw_token s at m) (true-T _ x))
+  reason-refuses n q (Reason.bounds_are_bad at m S x) = rows-refuse at m S 11 (most11 (own row6 at m) (own row7 at m) false (ten at m) (own row11 at m) (own row14 at m) (raw_token s at m) (true-T _ x))
   reason-refuses n q (Reason.group_open at m S h z) = open-refuses at m S h z
   reason-refuses n q (Reason.comment_open at m S x r) = comment-refuses at m S (true-T _ x) r
   reason-refuses n q (Reason.no_group at m S e z) = close-refuses at m S e z

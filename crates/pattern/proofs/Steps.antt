@@ -3,7 +3,7 @@
 use mathlib.Core.Path.{◌≡◌, refl, sym, ap, ◌∙◌}
 use mathlib.Core.Bool.{Bool, true, false, cond}
 use mathlib.Core.List.{List, [], ◌∷◌}
-use mathlib.Core.Logic.{◌⊎◌, inl, inr, ⊎_elim}
+use mathlib.Core.Logic.{◌⊎◌, ⊎_elim}
 use Prim.Native.Nat.{ℕ, zero, suc, pred, ◌+◌, ◌-◌, ◌≤◌, ◌<◌}
 use native.Mathlib.Omega.{arith}
 use native.Mathlib.Nat.{add-zero}
@@ -25,7 +25,7 @@ use Rattle.atoms.proofs.Suffixes.{front}
 use Rattle.tokens.proofs.Lexemes.{lexeme-end}
 use Rattle.meaning.specs.Tree.{empty, item, repeat}
 use Rattle.nodes.specs.Nodes.{Syntax, extra_of}
-use Rattle.pattern.specs.Walk.{Target, nothing, single, repeated, Frame, State, Read, refused, Next, stop, go, chained, chosen, with_item, noted, one, deepest, repeating, target_fault, closing, opening, act, context, next, finish, walk}
+use Rattle.pattern.specs.Walk.{Target, nothing, single, repeated, Frame, State, Read, refused, Next, stop, go, chained, chosen, with_item, one, deepest, repeating, target_fault, closing, opening, act, context, next, finish, walk}
 use Rattle.pattern.specs.Invariants.{state, from, follow, ended, group_ends, branch_ends, class_ends, fault_for, fault_of}
 use Rattle.pattern.proofs.Base.{by-lt, split, true-not-false}
 use Rattle.pattern.proofs.Lexemes.{Right, Sound, lexeme-sound}

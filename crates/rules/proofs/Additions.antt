@@ -276,6 +276,7 @@ encode-all t rs b (a ∷ l) narrow =
 
 pub narrow_at : (l : List Addition) → Narrow l → (a : Addition) → Memᴰ a l → a.id < 2 ^ 32
 unfolding Narrow
+narrow_at [] h a m = elim m [ ]
 narrow_at (b ∷ l) h a (Memᴰ.head e) = subst (λ (c : Addition). c.id < 2 ^ 32) (sym e) h.0
 narrow_at (b ∷ l) h a (Memᴰ.tail m) = narrow_at l h.1 a m
 

@@ -2,7 +2,7 @@
 -- reports of a rule and 257 units a byte.
 use mathlib.Core.Path.{◌≡◌, refl, sym, ap, ◌∙◌}
 use mathlib.Core.Bool.{Bool}
-use mathlib.Core.List.{List, []}
+use mathlib.Core.List.{List}
 use Prim.Native.Nat.{ℕ, zero, suc, ◌+◌, ◌*◌, ◌<◌, ◌≤◌, zero-le}
 use native.Mathlib.Nat.{add-zero, add-suc}
 use native.Mathlib.Numerals.{add-one}
@@ -16,7 +16,7 @@ use Rattle.stream.specs.declared.Stream.{Stream}
 use Rattle.stream.specs.Byte.{Machine, after, reports_by, cost_by, fits_by, given, next_held, state_by, late_test, own_test, byte_reports, byte_state, plain, state_after, reports_of, cost_of, fits}
 use Rattle.stream.specs.Invariants.{side_at}
 use Rattle.stream.proofs.TwoRuns.{two-few}
-use Rattle.stream.proofs.Machines.{reports-more, reports-none, cost-more, cost-none, fits-most}
+use Rattle.stream.proofs.Machines.{reports-more, cost-more, cost-none, fits-most}
 
 -- ---- a stream but for its marks and held pairs
 

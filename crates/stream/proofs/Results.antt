@@ -29,7 +29,7 @@ use Rattle.stream.specs.Byte.{state_by, next_held, next_pending, run_marks, two_
 use Rattle.stream.specs.Valid.{stream_limit, same_counts, live_inside, marks_single, under_limit, held_inside, pending_inside, pending_late, begun, sound, needs_starts, valid}
 use Rattle.stream.specs.Calls.{Lists, Call, fresh, opened, space, close_number, call_number, taken_by, scanned, shut, closed}
 use Rattle.stream.proofs.Machines.{fits_le, fits-within}
-use Rattle.stream.proofs.Blocks.{cost-some, cost-few, one-fits, taken-after, rules-after, positions-after}
+use Rattle.stream.proofs.Blocks.{cost-some, cost-few, one-fits, taken-after}
 use Rattle.stream.proofs.Accepting.{Fitting, fitted, valid-is, Accepted, accepted, close-number}
 
 -- ---- an opened stream
@@ -257,7 +257,7 @@ module _ (t : List ℕ) (s : Stream) (c : Call) where
         ∙ valid-is (automaton t) (state_after (automaton t) s c.block (scanned t s c).taken)
         (fitted (automaton t) (state_after (automaton t) s c.block (scanned t s c).taken)
         (fitting-after (automaton t) s c.block held.state (scanned t s c).taken (omega (arith, held.short, taken-within))))
-        held.no_starts
+        held.none_has_starts
 
   -- what a scan uses: no more than it may, and from 1 to 257 units for each byte that it takes
   pub used-within : ((scanned t s c).used ≤ c.allowance)
@@ -302,7 +302,7 @@ module _ (t : List ℕ) (s : Stream) (l : Lists) where
     pub closed-valid : valid (automaton t) (closed t s l).stream ≡ true
     closed-valid =
         ap (λ (r : Closed). valid (automaton t) r.stream) (accepted-close (sym close-number-is ∙ ok)) ∙ shut-valid (automaton t) s
-        ∙ valid-is (automaton t) s (fitted (automaton t) s held.state) held.no_starts
+        ∙ valid-is (automaton t) s (fitted (automaton t) s held.state) held.none_has_starts
       where
         held : Accepted t s 0 (space l)
         held = accepted t s 0 (space l) (close-number t s (space l) ∙ sym close-number-is ∙ ok)

@@ -1,6 +1,6 @@
 -- What the private functions promise, where that is not an equation with a definition that a reader
 -- must believe. Assumes nothing: these are definitions.
-use Rattle.std.specs.Prelude.{◌≡◌, Bool, true, false, cond, not, ◌&&◌, ◌⊎◌, List, [], ◌++◌, map, ℕ, zero, suc, ◌+◌, ◌-◌, ◌^◌, ◌<◌, ◌≤◌, min, eqb, ltb, length, get_or, take, drop}
+use Rattle.std.specs.Prelude.{◌≡◌, Bool, true, false, cond, ◌&&◌, ◌⊎◌, List, [], ◌++◌, map, ℕ, zero, suc, ◌+◌, ◌-◌, ◌^◌, ◌<◌, ◌≤◌, min, eqb, ltb, length, get_or, take, drop}
 use borrow.Rule.Slice.PartMut.{put_mid}
 use Rattle.sets.specs.Set.{has, any, empty_set, full_set, is_empty, kept_below, union_of, size_of}
 use Rattle.kinds.specs.declared.Side.{Side}
@@ -13,7 +13,7 @@ use Rattle.stream.specs.declared.scan.Sets.{Sets}
 use Rattle.stream.specs.declared.scan.Turn.{Turn}
 use Rattle.stream.specs.declared.Advance.{Advance}
 use Rattle.stream.specs.Byte.{Report, Machine, after, reports_by, cost_by, next_live, next_held, next_pending, run_reports, run_marks, two_reports, two_marks, byte_reports, byte_state, plain, state_after, reports_of, cost_of, close_reports}
-use Rattle.stream.specs.Calls.{Lists, lists, space, written}
+use Rattle.stream.specs.Calls.{Lists, space, written}
 
 -- a state of which the live set, the marks, the last byte's side and the bytes taken count
 abbrev pub state_of : (live : List ℕ) → (reported : ℕ) → (last : Side) → (taken : ℕ) → Stream

@@ -1,5 +1,5 @@
 -- The worked cases with starts: the checker reads the rule, its one ordered list is known by meaning
--- (Example of regex), and by demand 3 the joined reports are that list. Assumes nothing.
+-- (Example of meaning), and by demand 3 the joined reports are that list. Assumes nothing.
 use mathlib.Core.Path.{◌≡◌, refl, sym, subst, ap, ◌∙◌}
 use mathlib.Core.Logic.{inl}
 use mathlib.Core.List.{List, [], ◌∷◌, map}

@@ -9,6 +9,7 @@ use borrow.Author.Rules.{part_to_end}
 use lib.ListN.{length, drop, drop_of_length-le}
 use Rattle.pattern.specs.Read.{limited_read, options_of, answer_of}
 use Rattle.pattern.proofs.read_at.Goals as goal
+use Rattle.pattern.proofs.read_at.Goals.{then-at-length, else-at-length}
 
 -- where the lesser of a place and the length is: it lies inside, and the same bytes follow it
 abbrev Lesser : ℕ → ℕ → ℕ → Type 0
@@ -25,12 +26,12 @@ same s at from h =
 pub slice_bounds-read_all-count : goal.slice_bounds-read_all-count
 slice_bounds-read_all-count c =
     let s = c.args in
-    inside (length s.s.now) s.at c.if-at-length.from (⊎_elim (λ x. inl (x.0.taken, x.1)) (λ x. inr (x.0.left, x.1)) c.if-at-length.branch)
+    inside (length s.s.now) s.at c.if-at-length.from (elim c.if-at-length.branch [ then-at-length w ↦ inl (w.if-at-length.true, w.from-is) | else-at-length w ↦ inr (w.if-at-length.false, w.from-is) ])
 
 pub slice_bounds-read_all-start : goal.slice_bounds-read_all-start
 slice_bounds-read_all-start c =
     let s = c.args in
-    inside (length s.s.now) s.at c.if-at-length.from (⊎_elim (λ x. inl (x.0.taken, x.1)) (λ x. inr (x.0.left, x.1)) c.if-at-length.branch)
+    inside (length s.s.now) s.at c.if-at-length.from (elim c.if-at-length.branch [ then-at-length w ↦ inl (w.if-at-length.true, w.from-is) | else-at-length w ↦ inr (w.if-at-length.false, w.from-is) ])
 
 pub returns : goal.returns
 returns c =
@@ -38,4 +39,4 @@ returns c =
     let c-if1 = c.if-at-length in
     c.read_all.ensures ∙
     ap (λ (l : List ℕ). answer_of (limited_read l (options_of s.flags)))
-    (part_to_end s.s.now c-if1.from ∙ same s.s.now s.at c-if1.from (⊎_elim (λ x. inl (x.0.taken, x.1)) (λ x. inr (x.0.left, x.1)) c-if1.branch))
+    (part_to_end s.s.now c-if1.from ∙ same s.s.now s.at c-if1.from (elim c-if1.branch [ then-at-length w ↦ inl (w.if-at-length.true, w.from-is) | else-at-length w ↦ inr (w.if-at-length.false, w.from-is) ]))

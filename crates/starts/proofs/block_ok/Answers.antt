@@ -19,14 +19,14 @@ why there taken = go (eqb there 0) refl
 
 pub joined-requires : goal.joined-requires
 joined-requires c =
-    let c-start = c.before in
+    let c-start = c in
     c-start.requires
 
 pub returns-then-joined-there : goal.returns-then-joined-there
 returns-then-joined-there c =
     let c-if1 = c.if-joined-there in
     let c-joined = c.joined in
-    let c-start = c.before.before.before in
+    let c-start = c in
     let a = c-start.args in
     let two = (and-eq-true_iff (eqb c-joined.result 0) (eqb a.there 0 || ltb 0 a.taken)).0 c-if1.true in
     order-none a.starts.now a.base a.there a.taken c-joined.result c-joined.ensures
@@ -34,7 +34,7 @@ returns-then-joined-there c =
 
 pub each_ok-requires : goal.each_ok-requires
 each_ok-requires c =
-    let c-start = c.before.before.before in
+    let c-start = c in
     c-start.requires
 
 pub returns : goal.returns

@@ -11,7 +11,7 @@ use Rattle.starts.proofs.each_ok.Goals as goal
 
 pub loop-i-init : goal.loop-i-init
 loop-i-init c =
-    let c-start = c.before in
+    let c-start = c in
     let a = c-start.args in (omega arith, order-start a.starts.now a.base (on a.there) a.taken)
 
 pub overflow_cast-start : goal.overflow_cast-start
@@ -24,21 +24,21 @@ pub overflow_add-start : goal.overflow_add-start
 overflow_add-start c =
     let c-loop-test = c.loop-i-test in
     let c-loop = c.loop-i in
-    let c-start = c.before.before.before in
-    block-fits c-start.args.base c-loop.i (length c-start.args.starts.now) c-start.requires c-loop-test.true c-start.well-formed.0.1
+    let c-start = c in
+    block-fits c-start.args.base c-loop.i (length c-start.args.starts.now) c-start.requires c-loop-test.true c-start.well_formed.0.1
 
 pub offset_bounds-starts-base : goal.offset_bounds-starts-base
 offset_bounds-starts-base c =
     let c-loop-test = c.loop-i-test in
     let c-loop = c.loop-i in
-    let c-start = c.before.before.before in
-    block-bytes-fit c-start.args.base c-loop.i (length c-start.args.starts.now) c-start.requires c-loop-test.true c-start.well-formed.0.1
+    let c-start = c in
+    block-bytes-fit c-start.args.base c-loop.i (length c-start.args.starts.now) c-start.requires c-loop-test.true c-start.well_formed.0.1
 
 pub bounds-starts-base : goal.bounds-starts-base
 bounds-starts-base c =
     let c-loop-test = c.loop-i-test in
     let c-loop = c.loop-i in
-    let c-start = c.before.before.before.before in
+    let c-start = c in
     block_inside c-start.args.base c-loop.i (length c-start.args.starts.now) c-start.requires c-loop-test.true
 
 pub overflow_cast-i : goal.overflow_cast-i
@@ -69,7 +69,7 @@ loop-i-preserved c =
     let c-start-ok = c.start_ok-ok in
     let c-loop-test = c.loop-i-test in
     let c-loop = c.loop-i in
-    let c-start = c.before.before.before.before.before in
+    let c-start = c in
     let a = c-start.args in (
       omega (arith, c-loop-test.true),
       order-more a.starts.now a.base (on a.there) a.taken c-loop.i c-loop.ok c-start-ok.result c-loop.invariant.1 c-start-ok.ensures,
@@ -79,6 +79,6 @@ pub returns : goal.returns
 returns c =
     let c-loop-test = c.loop-i-test in
     let c-loop = c.loop-i in
-    let c-start = c.before.before.before in
+    let c-start = c in
     let a = c-start.args in
     c-loop.invariant.1 ∙ ap (λ (n : ℕ). starts_in a.starts.now a.base n (on a.there) a.taken) (whole c-loop.i c-loop.invariant.0 c-loop-test.false)

@@ -7,13 +7,13 @@ use Rattle.starts.proofs.start_ok.Goals as goal
 pub returns-then-there : goal.returns-then-there
 returns-then-there c =
     let c-if1 = c.if-there in
-    let c-start = c.before in
+    let c-start = c in
     let a = c-start.args in
     sym (ap (λ (b : Bool). cond b (ltb a.start a.taken) (eqb a.start 0)) c-if1.true)
 
 pub returns-else-there : goal.returns-else-there
 returns-else-there c =
     let c-if1 = c.if-there in
-    let c-start = c.before in
+    let c-start = c in
     let a = c-start.args in
     sym (ap (λ (b : Bool). cond b (ltb a.start a.taken) (eqb a.start 0)) c-if1.false)

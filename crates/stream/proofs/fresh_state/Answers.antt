@@ -1,5 +1,4 @@
 -- `stream::fresh_state` meets its contract: its live set and what it holds are the empty set.
-use borrow.Author.Rules.{rules}
 use Rattle.kinds.specs.declared.Side.TheVariants.{Other}
 use Rattle.stream.proofs.fresh_state.Goals as goal
 

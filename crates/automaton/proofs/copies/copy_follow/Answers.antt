@@ -11,13 +11,11 @@ loop-i-init c = (omega arith, copied_none c.args.c c.args.n c.args.rows.now)
 
 pub loop-i-preserved : goal.loop-i-preserved
 loop-i-preserved c =
-    let back = c.before.before.before.before.before.before in
-    let c-start = back.before in
     let c-loop = c.loop-i in
     let c-add = c.add in
     let c-row = c.row-old in
     let c-moved = c.moved-new in
-    let a = c-start.args in
+    let a = c.args in
     let Next = Copied a.c a.n (c-loop.i + 1) a.rows.now in (
       omega arith,
       subst Next (sym c-add.ensures)
@@ -27,8 +25,7 @@ loop-i-preserved c =
 
 pub returns : goal.returns
 returns c =
-    let c-start = c.before.before in
     let c-loop = c.loop-i in
-    let a = c-start.args in
+    let a = c.args in
     let e : c-loop.i ≡ a.n = omega arith in
     rw e at c-loop.invariant.1

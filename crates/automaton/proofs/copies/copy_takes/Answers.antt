@@ -12,9 +12,8 @@ loop-i-init c = (omega arith, c.requires.1, refl)
 
 pub loop-i-preserved : goal.loop-i-preserved
 loop-i-preserved c =
-    let c-start = c.before.before.before in
     let c-loop = c.loop-i in
-    let a = c-start.args in (
+    let a = c.args in (
       omega arith,
       c-loop.invariant.1,
       taken-turn a.rows.now c-loop.rows a.c a.n
@@ -23,9 +22,8 @@ loop-i-preserved c =
 
 pub returns : goal.returns
 returns c =
-    let c-start = c.before.before in
     let c-loop = c.loop-i in
-    let a = c-start.args in
+    let a = c.args in
     let e : c-loop.i ≡ a.n * 4 = omega arith in
     c-loop.invariant.2 ∙ ap (λ (i : ℕ). sets a.rows.now ((a.c + a.n) * 4)
     (take i (drop (a.c * 4) a.rows.now))) e

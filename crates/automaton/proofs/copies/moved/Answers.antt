@@ -2,7 +2,6 @@
 -- positions
 -- are moved.
 use mathlib.Core.Path.{◌≡◌, sym, ap, ◌∙◌}
-use mathlib.Core.Logic.{⊎_elim}
 use mathlib.Core.List.{List}
 use Prim.Native.Nat.{ℕ, ◌+◌}
 use native.Mathlib.Omega.{arith}
@@ -10,43 +9,41 @@ use Rattle.sets.specs.Set.{inserted}
 use Rattle.automaton.specs.Invariants.{moved_on}
 use Rattle.automaton.proofs.Moving.{moved_none, moved-hit, moved-miss}
 use Rattle.automaton.proofs.copies.moved.Goals as goal
+use Rattle.automaton.proofs.copies.moved.Goals.{then-contains, else-contains}
 
 pub loop-i-init : goal.loop-i-init
 loop-i-init c =
-    let c-empty = c.empty-out in
-    let c-start = c.before in (
+    let c-empty = c.empty-out in (
       omega arith,
-      c-empty.ensures ∙ moved_none c-start.args.c c-start.args.n
-          c-start.args.s,
+      c-empty.ensures ∙ moved_none c.args.c c.args.n
+          c.args.s,
     )
 
 pub loop-i-preserved : goal.loop-i-preserved
 loop-i-preserved c =
     let c-contains = c.contains in
-    let c-start = c.before.before.before.before.before in
     let c-loop = c.loop-i in
     let c-if1 = c.if-contains in
     let test = sym c-contains.ensures in
-    let a = c-start.args in
+    let a = c.args in
     let i = c-loop.i in
-    ⊎_elim
-    (λ w. (
-      omega arith,
-      w.2 ∙ w.1.ensures
-          ∙ ap (λ (l : List ℕ). inserted l (a.c + a.n + i)) c-loop.invariant.1
-          ∙ moved-hit a.c a.n a.s i (test ∙ w.0.taken),
-    ))
-    (λ w. (
-      omega arith,
-      w.1 ∙ c-loop.invariant.1
-          ∙ moved-miss a.c a.n a.s i (test ∙ w.0.left),
-    ))
-    c-if1.branch
+    elim c-if1.branch [
+      | then-contains w ↦ (
+        omega arith,
+        w.out-is ∙ w.insert-t.ensures
+            ∙ ap (λ (l : List ℕ). inserted l (a.c + a.n + i)) c-loop.invariant.1
+            ∙ moved-hit a.c a.n a.s i (test ∙ w.if-contains.true),
+      )
+      | else-contains w ↦ (
+        omega arith,
+        w.out-is ∙ c-loop.invariant.1
+            ∙ moved-miss a.c a.n a.s i (test ∙ w.if-contains.false),
+      )
+    ]
 
 pub returns : goal.returns
 returns c =
-    let c-start = c.before.before.before in
     let c-loop = c.loop-i in
-    let a = c-start.args in
+    let a = c.args in
     let e : c-loop.i ≡ a.n = omega arith in
     c-loop.invariant.1 ∙ ap (λ (i : ℕ). moved_on a.c a.n i a.s) e

@@ -4,7 +4,6 @@ use Rattle.automaton.proofs.fragments.choice.Goals as goal
 
 pub returns : goal.returns
 returns c =
-    let c-start = c.before.before.before.before.before.before.before.before.before.before in
     let c-union = c.union-first in
     let c-union2 = c.union-last in
-    choice-is c-start.args.f c-start.args.g c-union.ensures c-union2.ensures
+    choice-is c.args.f c.args.g c-union.ensures c-union2.ensures

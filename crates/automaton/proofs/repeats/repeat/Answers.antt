@@ -14,12 +14,11 @@ use Rattle.automaton.proofs.repeats.repeat.Goals as goal
 pub returns-then-n-eq0 : goal.returns-then-n-eq0
 unfolding Extends
 returns-then-n-eq0 c =
-    let c-start = c.before.before.before.before.before.before in
     let c-if2 = c.if-n-eq0 in
     let c-if1 = c.if-endless-n in
     let c-many = c.many in
     let c-optional = c.optional in
-    let v = c-start.args in
+    let v = c.args in
     let any =
     forms.repeat-any (child_form v.a.now v.k v.x) v.n v.endless v.j c-if2.true
     (steps.looped v.endless v.n c-if1.true).0 in
@@ -28,11 +27,10 @@ returns-then-n-eq0 c =
 pub returns-then-endless-n : goal.returns-then-endless-n
 unfolding Extends
 returns-then-endless-n c =
-    let c-start = c.before.before.before.before.before in
     let c-if1 = c.if-endless-n in
     let c-if2 = c.if-n-eq0 in
     let c-many = c.many in
-    let v = c-start.args in
+    let v = c.args in
     let one =
     forms.repeat_many (child_form v.a.now v.k v.x) v.n v.endless v.j
     (steps.looped-once v.endless v.n c-if1.true c-if2.false) in
@@ -41,12 +39,11 @@ returns-then-endless-n c =
 pub returns-then-f-eq0 : goal.returns-then-f-eq0
 unfolding Extends
 returns-then-f-eq0 c =
-    let c-start = c.before.before.before.before.before.before in
     let c-if3 = c.if-n-eq0-2 in
     let c-if1 = c.if-endless-n in
     let c-if4 = c.if-f-eq0 in
     let c-optional2 = c.optional-alone in
-    let v = c-start.args in
+    let v = c.args in
     let all =
     forms.repeat-nested (child_form v.a.now v.k v.x) v.n v.endless v.j
     c-if3.true (steps.unlooped-none v.endless v.n c-if1.false c-if3.true) in
@@ -56,20 +53,17 @@ returns-then-f-eq0 c =
 
 pub overflow_sub-j : goal.overflow_sub-j
 overflow_sub-j c =
-    let c-start = c.before.before.before.before.before.before in
     let c-if3 = c.if-n-eq0-2 in
-    let v = c-start.args in
-    let some = steps.some-copy v.n v.j c-start.requires.0 c-if3.true in
+    let v = c.args in
+    let some = steps.some-copy v.n v.j c.requires.0 c-if3.true in
     omega arith
 
 pub nested-g-requires : goal.nested-g-requires
 nested-g-requires c =
-    let back = c.before.before.before.before.before.before in
-    let c-start = back.before.before in
     let c-if3 = c.if-n-eq0-2 in
     let c-if1 = c.if-endless-n in
-    let v = c-start.args in
-    let p = c-start.requires in
+    let v = c.args in
+    let p = c.requires in
     let copy = child_form v.a.now v.k v.x in
     let all =
     forms.repeat-nested copy v.n v.endless v.j c-if3.true
@@ -80,13 +74,11 @@ nested-g-requires c =
 
 pub then-requires : goal.then-requires
 then-requires c =
-    let back = c.before.before.before.before.before.before in
-    let c-start = back.before.before.before.before in
-    let c-if3 = back.if-n-eq0-2 in
-    let c-if1 = back.if-endless-n in
+    let c-if3 = c.if-n-eq0-2 in
+    let c-if1 = c.if-endless-n in
     let c-nested = c.nested-g in
-    let v = c-start.args in
-    let p = c-start.requires in
+    let v = c.args in
+    let p = c.requires in
     let copy = child_form v.a.now v.k v.x in
     let all =
     forms.repeat-nested copy v.n v.endless v.j c-if3.true
@@ -105,21 +97,19 @@ then-requires c =
 pub returns-then-n-eq0-2 : goal.returns-then-n-eq0-2
 unfolding Extends
 returns-then-n-eq0-2 c =
-    let back = c.before.before.before.before.before.before in
-    let c-start = back.before.before.before.before.before.before in
-    let c-if3 = back.if-n-eq0-2 in
-    let c-if1 = back.if-endless-n in
+    let c-if3 = c.if-n-eq0-2 in
+    let c-if1 = c.if-endless-n in
     let c-nested = c.nested-g in
     let c-then = c.then in
     let c-optional3 = c.optional-then-n-eq0-2 in
-    let v = c-start.args in
+    let v = c.args in
     let copy = child_form v.a.now v.k v.x in
     let all =
     forms.repeat-nested copy v.n v.endless v.j c-if3.true
     (steps.unlooped-none v.endless v.n c-if1.false c-if3.true) in
     let first =
     forms.nested-step copy v.j
-    (steps.some-copy v.n v.j c-start.requires.0 c-if3.true) in
+    (steps.some-copy v.n v.j c.requires.0 c-if3.true) in
     λ o u h. steps.built-opt (all ∙ first)
     (steps.built-seq h c-nested.ensures refl c-then.ensures.0 c-then.ensures.1)
     c-optional3.ensures
@@ -127,21 +117,18 @@ returns-then-n-eq0-2 c =
 pub returns-then-f-eq0-2 : goal.returns-then-f-eq0-2
 unfolding Extends
 returns-then-f-eq0-2 c =
-    let c-start = c.before.before.before.before.before in
     let c-if5 = c.if-f-eq0-2 in
     let c-if3 = c.if-n-eq0-2 in
-    let v = c-start.args in
+    let v = c.args in
     λ o u h. steps.settled-repeat (child_at v.a.now v.k v.x) h c-if5.true v.n
     (extra v.endless v.j) c-if3.false
 
 pub more-g-requires : goal.more-g-requires
 more-g-requires c =
-    let back = c.before.before.before.before.before.before in
-    let c-start = back.before in
     let c-if1 = c.if-endless-n in
     let c-if3 = c.if-n-eq0-2 in
-    let v = c-start.args in
-    let p = c-start.requires in
+    let v = c.args in
+    let p = c.requires in
     let test = steps.unlooped v.endless v.n c-if1.false in
     let sum =
     forms.repeat-positions (child_form v.a.now v.k v.x) v.n v.endless v.j
@@ -154,13 +141,11 @@ more-g-requires c =
 
 pub then-requires-2 : goal.then-requires-2
 then-requires-2 c =
-    let back = c.before.before.before.before.before.before in
-    let c-start = back.before.before.before in
     let c-if3 = c.if-n-eq0-2 in
-    let c-if1 = back.if-endless-n in
+    let c-if1 = c.if-endless-n in
     let c-more = c.more-g in
-    let v = c-start.args in
-    let p = c-start.requires in
+    let v = c.args in
+    let p = c.requires in
     let sum =
     forms.repeat-positions (child_form v.a.now v.k v.x) v.n v.endless v.j
     c-if3.false (steps.unlooped v.endless v.n c-if1.false) in
@@ -169,13 +154,11 @@ then-requires-2 c =
 pub returns : goal.returns
 unfolding Extends
 returns c =
-    let back = c.before.before.before.before.before.before in
-    let c-start = back.before.before.before.before in
-    let c-if3 = back.if-n-eq0-2 in
-    let c-if1 = back.if-endless-n in
+    let c-if3 = c.if-n-eq0-2 in
+    let c-if1 = c.if-endless-n in
     let c-more = c.more-g in
     let c-then2 = c.then-2 in
-    let v = c-start.args in
+    let v = c.args in
     let first =
     forms.repeat-step (child_form v.a.now v.k v.x) v.n v.endless v.j c-if3.false
     (steps.unlooped v.endless v.n c-if1.false) in

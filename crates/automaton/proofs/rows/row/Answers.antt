@@ -6,5 +6,4 @@ use Rattle.automaton.proofs.rows.row.Goals as goal
 
 pub returns : goal.returns
 returns c =
-    let c-start = c.before.before.before.before in
-    sym (four-from c-start.args.rows.now (c-start.args.p * 4))
+    sym (four-from c.args.rows.now (c.args.p * 4))

@@ -1,7 +1,6 @@
 -- `rules::write::digits_with` meets its contract: each turn asks one place and sets its digit.
 use mathlib.Core.Path.{◌≡◌, sym, ap, ap₂, ◌∙◌}
 use mathlib.Core.Bool.{Bool, ◌&&◌}
-use mathlib.Core.Logic.{⊎_elim}
 use Prim.Native.Nat.{ℕ}
 use native.Mathlib.Omega.{arith}
 use lib.Bits.{bit_or}
@@ -12,6 +11,7 @@ use Rattle.table.proofs.Members.{places_below, places-none, places-hit, places-m
 use Rattle.rules.specs.Words.{digits_with}
 use Rattle.rules.proofs.write.digits_with.Invariants.{digit}
 use Rattle.rules.proofs.write.digits_with.Goals as goal
+use Rattle.rules.proofs.write.digits_with.Goals.{then-digit_at, else-digit_at}
 
 whole : (k : ℕ) (new : Bool) (old a : ℕ) → a ≡ 64 → places_below a (digit k new old) ≡ digits_with k new old
 unfolding digits_with
@@ -27,10 +27,10 @@ loop-a-preserved c =
     let l = c.loop-a in
     let f = digit a.k a.new a.old in
     let asked = c.digit_at in
-    ⊎_elim
-    (λ w. (omega arith, w.1 ∙ ap₂ bit_or l.invariant.1 (shl_one l.a (omega arith)) ∙ places-hit f l.a (omega arith) (sym asked.ensures ∙ w.0.taken)))
-    (λ w. (omega arith, w.1 ∙ l.invariant.1 ∙ places-miss f l.a (sym asked.ensures ∙ w.0.left)))
-    c.if-digit_at.branch
+    elim c.if-digit_at.branch [
+      then-digit_at w ↦ (omega arith, w.found-is ∙ ap₂ bit_or l.invariant.1 (shl_one l.a (omega arith)) ∙ places-hit f l.a (omega arith) (sym asked.ensures ∙ w.if-digit_at.true))
+    | else-digit_at w ↦ (omega arith, w.found-is ∙ l.invariant.1 ∙ places-miss f l.a (sym asked.ensures ∙ w.if-digit_at.false))
+    ]
 
 pub returns : goal.returns
 returns c =

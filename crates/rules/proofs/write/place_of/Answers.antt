@@ -1,13 +1,13 @@
 -- `rules::write::place_of` meets its contract. The loop's invariant: `k` counts the smaller ids
 -- before `a`.
 use mathlib.Core.Path.{◌≡◌, ap, ◌∙◌}
-use mathlib.Core.Logic.{⊎_elim}
 use Prim.Native.Nat.{ℕ}
 use native.Mathlib.Omega.{arith}
 use Rattle.sets.specs.Set.{count}
 use Rattle.rules.specs.Invariants.{smaller}
 use Rattle.rules.proofs.Steps.{place_none, place-hit, place-miss}
 use Rattle.rules.proofs.write.place_of.Goals as goal
+use Rattle.rules.proofs.write.place_of.Goals.{then-words-a, else-words-a}
 
 pub loop-a-init : goal.loop-a-init
 loop-a-init c =
@@ -18,11 +18,10 @@ pub loop-a-preserved : goal.loop-a-preserved
 loop-a-preserved c =
     let c-start = c.before.before.before.before in
     let c-loop = c.loop-a in
-    let c-if1 = c.if-words-a in
-    ⊎_elim
-    (λ w. (omega arith, omega arith, w.1 ∙ place-hit c-start.args.words.now c-start.args.id c-loop.a c-loop.k c-loop.invariant.2 w.0.taken))
-    (λ w. (omega arith, omega arith, w.1 ∙ place-miss c-start.args.words.now c-start.args.id c-loop.a c-loop.k c-loop.invariant.2 w.0.left))
-    c-if1.branch
+    elim c.if-words-a.branch [
+      then-words-a w ↦ (omega arith, omega arith, w.k-is ∙ place-hit c-start.args.words.now c-start.args.id c-loop.a c-loop.k c-loop.invariant.2 w.if-words-a.true)
+    | else-words-a w ↦ (omega arith, omega arith, w.k-is ∙ place-miss c-start.args.words.now c-start.args.id c-loop.a c-loop.k c-loop.invariant.2 w.if-words-a.false)
+    ]
 
 pub returns : goal.returns
 returns c =

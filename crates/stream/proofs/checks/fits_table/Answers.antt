@@ -16,39 +16,31 @@ use Rattle.stream.proofs.checks.fits_table.Goals as goal
 
 pub bounds-words-1 : goal.bounds-words-1
 bounds-words-1 c =
-    let c-start = c.before.before in
+    let c-start = c in
     rules-word (length c-start.args.words.now) c-start.requires
 
 pub bounds-words-2 : goal.bounds-words-2
 bounds-words-2 c =
-    let c-start = c.before.before.before in
+    let c-start = c in
     positions-word (length c-start.args.words.now) c-start.requires
 
--- from the union back to the start
-abbrev sets : goal.After-union-both → goal.After-live-1
-sets c = c.before.before.before.before
-
-abbrev start : goal.After-union-both → goal.Start
-start c = (sets c).before.before.before.before
-
 pub marks_single-marked-requires : goal.marks_single-marked-requires
-marks_single-marked-requires c = (start c.before).requires
+marks_single-marked-requires c = c.requires
 
 pub returns : goal.returns
 unfolding same_counts marks_single under_limit pending_inside pending_late automaton
 returns c =
     let c-empty = c.is_empty in
-    let c-pending = c.before.before.before.before.before in
+    let c-pending = c in
     let c-marks = c-pending.marks_single-marked in
     let c-inside = c-pending.inside-positioned in
-    let c-union = c-pending.before.before.before in
-    let s = (start c-union).args.s in
-    let t = (start c-union).args.words.now in
+    let s = c.args.s in
+    let t = c.args.words.now in
     let inside =
     c-inside.ensures
     ∙ ap (λ (x : List ℕ). not (any max_positions (λ q. has x q && leb (positions_of t) q)))
-    c-union.union-both.ensures in
-    let empty = c-empty.ensures ∙ ap is_empty c-union.union-both.ensures in
+    c.union-both.ensures in
+    let empty = c-empty.ensures ∙ ap is_empty c.union-both.ensures in
     (λ i. (eqb s.rules (rules_of t) && eqb s.positions (positions_of t))
     && (inside i && (c-marks.ensures i && (leb s.taken stream_limit
     && ((c-pending.pending_inside.ensures i && (eqb s.pending 0 || leb 2 s.taken))

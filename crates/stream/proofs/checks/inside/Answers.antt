@@ -13,7 +13,7 @@ returns-then-is_empty c =
 
 pub returns : goal.returns
 returns c =
-    let below = c.before.before.before in
+    let below = c in
     let full = below.before in
     let a = full.args in
     c.is_empty-2.ensures

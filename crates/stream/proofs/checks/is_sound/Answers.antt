@@ -11,7 +11,7 @@ use Rattle.stream.proofs.checks.is_sound.Goals as goal
 pub returns-then-words-lt-TABLE_WORDS : goal.returns-then-words-lt-TABLE_WORDS
 returns-then-words-lt-TABLE_WORDS c =
     let c-if1 = c.if-words-lt-TABLE_WORDS in
-    let c-start = c.before.before in
+    let c-start = c in
     let a = c-start.args in
     let t = a.words.now in
     sym (ap (λ (b : Bool). b && sound (automaton t) a.s) (lt-leb table_words (length t) c-if1.true))
@@ -25,7 +25,7 @@ pub returns : goal.returns
 returns c =
     let c-fits-table = c.fits_table in
     let c-if1 = c.if-words-lt-TABLE_WORDS in
-    let c-start = c.before.before.before in
+    let c-start = c in
     let a = c-start.args in
     let t = a.words.now in
     c-fits-table.ensures

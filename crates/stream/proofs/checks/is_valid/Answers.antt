@@ -14,7 +14,7 @@ fits_table-requires c = c.requires
 pub returns : goal.returns
 unfolding valid
 returns c =
-    let start = c.before.before.before in
+    let start = c in
     let t = start.args.words.now in
     ap₂ (λ (a b : Bool). a && not b) c.fits_table.ensures
     (c.needs_starts.ensures ∙ ap (λ (b : Bool). b && needs_starts (automaton t)) (le-leb table_words (length t) start.requires))

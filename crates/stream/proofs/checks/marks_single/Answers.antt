@@ -11,7 +11,7 @@ use Rattle.stream.proofs.checks.marks_single.Goals as goal
 
 pub returns : goal.returns
 returns c =
-    let c-start = c.before.before in
+    let c-start = c in
     let c-singles = c.singles in
     let a = c-start.args in
     let w = automaton a.words.now in

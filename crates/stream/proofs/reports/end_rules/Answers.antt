@@ -12,7 +12,7 @@ use Rattle.stream.proofs.reports.end_rules.Goals as goal
 
 pub returns : goal.returns
 returns c =
-    let start = c.before.before.before.before.before in
+    let start = c in
     let s = start.args.s in
     let t = start.args.words.now in
     let long = (passes t start.requires).long in

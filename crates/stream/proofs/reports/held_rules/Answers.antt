@@ -11,15 +11,12 @@ use Rattle.steps.proofs.Sifting.{window-is}
 use Rattle.stream.proofs.Accepting.{pending-rules}
 use Rattle.stream.proofs.reports.held_rules.Goals as goal
 
-pending-small : (c : goal.Start) → c.args.s.pending < 2 ^ 64
-pending-small c = omega arith
-
 pub returns : goal.returns
 returns c =
-    let start = c.before.before.before in
-    let s = start.args.s in
-    let t = start.args.words.now in
+    let s = c.args.s in
+    let t = c.args.words.now in
     let w = automaton t in
-    window-is t (on s.pending) c.before.before_last.result (passes t start.requires.0).long
-    (pending-rules w s start.requires.1 (pending-small start)) c.in_window.ensures
-    ∙ ap (λ (e : ℕ). rules_where w (windowed w (on s.pending) e)) c.before.before_last.ensures
+    let small : s.pending < 2 ^ 64 = omega arith in
+    window-is t (on s.pending) c.before_last.result (passes t c.requires.0).long
+    (pending-rules w s c.requires.1 small) c.in_window.ensures
+    ∙ ap (λ (e : ℕ). rules_where w (windowed w (on s.pending) e)) c.before_last.ensures

@@ -23,44 +23,31 @@ unfolding automaton
 at_most t one two marks first second = two-few (automaton t) one two marks first second
 
 pub held_rules-requires : goal.held_rules-requires
-held_rules-requires c = c.before.before.before in (start.requires.0, start.requires.1)
+held_rules-requires c = (c.requires.0, c.requires.1)
 
 pub end_rules-requires : goal.end_rules-requires
 end_rules-requires c = c.requires.0
 
--- where the rules of both runs are found, and where they are about to be written
-abbrev start : goal.After-end_rules → goal.Start
-start c = c.before.before.before.before.before
-
-abbrev found : goal.After-write_two-arg-2-1 → goal.After-end_rules
-found c = c.before.before.before.before
-
-abbrev table : goal.After-end_rules → List ℕ
-table c = (start c).args.words.now
-
 pub write_two-run-requires : goal.write_two-run-requires
 write_two-run-requires c =
-    let at_end = found c in
-    let held = at_end.before in
-    let s = (start at_end).args.s in
-    let p = (start at_end).requires in
-    let t = table at_end in
+    let s = c.args.s in
+    let p = c.requires in
+    let t = c.args.words.now in
     let w = automaton t in (
       p.0,
       c.singles.ensures
           ∙ number-on t (rules_where w (single w)) (passes t p.0).long,
-      alone w (held_test w s) held.held_rules.ensures,
-      alone w (end_test w s) at_end.end_rules.ensures,
+      alone w (held_test w s) c.held_rules.ensures,
+      alone w (end_test w s) c.end_rules.ensures,
       le_trans
-          (at_most t (on held.held_rules.result) (on at_end.end_rules.result) s.reported
-          (given w c.before.before.before_last.result) (given w s.taken))
+          (at_most t (on c.held_rules.result) (on c.end_rules.result) s.reported
+          (given w c.before_last.result) (given w s.taken))
           p.2,
     )
 
 pub returns : goal.returns
 returns c =
-    let c-write-two = c.before.before.before.before in
-    let c-found = found c-write-two.before in
-    let few = rules-few (table c-found) (passes (table c-found) (start c-found).requires.0).rules in
-    ended few c-write-two.before.before.before.before_last.ensures c-found.held_rules.ensures c-found.end_rules.ensures
-    c-write-two.write_two-run.ensures
+    let t = c.args.words.now in
+    let few = rules-few t (passes t c.requires.0).rules in
+    ended few c.before_last.ensures c.held_rules.ensures c.end_rules.ensures
+    c.write_two-run.ensures

@@ -20,7 +20,7 @@ returns-then-not-pause c =
 pub returns : goal.returns
 returns c =
     let c-if1 = c.if-z in
-    let c-start = c.before.before.before.before in
+    let c-start = c in
     let c-if2 = c.if-not-pause in
     let c-is-empty = c.is_empty in
-    (λ e. c-if1.false, λ e n. (unnot c-start.args.pause c-if2.false, sym c-is-empty.ensures ∙ unnot c-is-empty.result e))
+    (λ e. c-if1.false, λ e n. (c-if2.false, sym c-is-empty.ensures ∙ unnot c-is-empty.result e))

@@ -12,7 +12,7 @@ use Rattle.stream.proofs.scan.late_rules.Goals as goal
 
 pub returns-then-waits : goal.returns-then-waits
 returns-then-waits c =
-    let start = c.before.before.before.before in
+    let start = c in
     let a = start.args in
     let t = a.words.now in
     let long = (passes t start.requires.0).long in
@@ -23,6 +23,6 @@ returns-then-waits c =
 
 pub returns-else-waits : goal.returns-else-waits
 returns-else-waits c =
-    let start = c.before.before in
+    let start = c in
     let a = start.args in
     late-none (automaton a.words.now) a.live (sym start.requires.1 ∙ c.if-waits.false) a.before a.after a.offset

@@ -9,7 +9,7 @@ use Rattle.stream.proofs.scan.left_waiting.Goals as goal
 
 pub returns-then-byte-ne-NEWLINE : goal.returns-then-byte-ne-NEWLINE
 returns-then-byte-ne-NEWLINE c =
-    let c-start = c.before.before.before in
+    let c-start = c in
     let c-if1 = c.if-byte-ne-NEWLINE in
     let c-empty = c.empty-held in
     let a = c-start.args in
@@ -22,12 +22,12 @@ returns-then-byte-ne-NEWLINE c =
 
 pub bounds-words-2 : goal.bounds-words-2
 bounds-words-2 c =
-    let c-start = c.before.before.before in
+    let c-start = c in
     positions-word (length c-start.args.words.now) c-start.requires
 
 pub returns-then-taken-eq0 : goal.returns-then-taken-eq0
 returns-then-taken-eq0 c =
-    let c-start = c.before.before.before.before.before.before in
+    let c-start = c in
     let c-if1 = c.if-byte-ne-NEWLINE in
     let c-side-of = c.side_of in
     let c-step = c.line_step-held in
@@ -42,7 +42,7 @@ returns-then-taken-eq0 c =
 
 pub returns : goal.returns
 returns c =
-    let stepped = c.before.before in
+    let stepped = c in
     let c-start = stepped.before.before.before.before.before in
     let c-if1 = stepped.if-byte-ne-NEWLINE in
     let c-side-of = stepped.side_of in

@@ -15,7 +15,7 @@ none_yet : (t block : List ℕ) (at : ℕ) → false ≡ opening t block at 0
 unfolding any
 none_yet t block at = refl
 
-one_more : (t block : List ℕ) (at i : ℕ) (some next : Bool) → some ≡ opening t block at i → next ≡ (automaton t).opens-some (get_or block (at + i) 0)
+one_more : (t block : List ℕ) (at i : ℕ) (some next : Bool) → some ≡ opening t block at i → next ≡ (automaton t).opens (get_or block (at + i) 0)
     → (some || next) ≡ opening t block at (i + 1)
 unfolding any
 one_more t block at i some next e f = ap₂ (λ (x y : Bool). x || y) e f ∙ ap (opening t block at) (sym (add-one i))

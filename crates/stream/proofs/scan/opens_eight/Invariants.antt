@@ -10,7 +10,7 @@ use Rattle.stream.proofs.scan.opens_eight.Given as goal
 
 -- one of the first n bytes from `at` on
 abbrev pub opening : (t block : List ℕ) → (at n : ℕ) → Bool
-opening t block at n = any n (λ i. (automaton t).opens-some (get_or block (at + i) 0))
+opening t block at n = any n (λ i. (automaton t).opens (get_or block (at + i) 0))
 
 abbrev pub invariant-loop-i : goal.invariant-loop-i
 invariant-loop-i l = (l.i ≤ 8) × (l.some ≡ opening l.words l.block l.at l.i)

@@ -20,7 +20,7 @@ eight w block at e j l m =
 
 pub loop-at-init : goal.loop-at-init
 loop-at-init c =
-    let start = c.before.before in
+    let start = c in
     unopened-none (automaton start.args.words.now) start.args.block.now start.args.from start.args.end start.requires.0
 
 pub overflow_sub-end : goal.overflow_sub-end

@@ -10,7 +10,7 @@ use Rattle.stream.proofs.scan.own_rules.Goals as goal
 
 pub returns : goal.returns
 returns c =
-    let start = c.before.before.before in
+    let start = c in
     let a = start.args in
     let t = a.words.now in
     let long = (passes t start.requires).long in

@@ -1,9 +1,9 @@
 -- `stream::scan::report` meets its contract: where the gate is shut no rule ends, and else the
 -- rules of both runs are those of the definition.
 use mathlib.Core.Path.{◌≡◌, refl, sym, ap, ◌∙◌}
-use mathlib.Core.Bool.{Bool, true, false, true≢false, not, ◌||◌, ◌&&◌}
+use mathlib.Core.Bool.{Bool, true, false, true≢false, ◌||◌, ◌&&◌}
 use mathlib.Core.List.{List}
-use Prim.Native.Nat.{ℕ, suc, ◌^◌, ◌<◌, ◌≤◌}
+use Prim.Native.Nat.{ℕ, suc, ◌+◌, ◌^◌, ◌<◌, ◌≤◌}
 use native.Mathlib.Numerals.{add-one}
 use Rattle.sets.specs.Set.{on, has, any, union_of}
 use Rattle.kinds.specs.declared.Side.{Side}
@@ -21,10 +21,6 @@ use Rattle.stream.proofs.Runs.{alone}
 use Rattle.stream.proofs.Quiet.{gate, late-gate, none_end}
 use Rattle.stream.proofs.TwoRuns.{delivered-quiet, delivered-ext}
 use Rattle.stream.proofs.scan.report.Goals as goal
-
-not-true : (b : Bool) → not b ≡ true → b ≡ false
-not-true true e = sym e
-not-true false e = refl
 
 module _ (w : Automaton) (live next : List ℕ) (old new : Side) (marks gap : ℕ) (l : Lists) where
   abbrev late-test : ℕ → Bool
@@ -70,70 +66,57 @@ module _ (w : Automaton) (live next : List ℕ) (old new : Side) (marks gap : �
         (λ a h. ap (λ (x : ℕ). on x a) late_is ∙ on-places late-test w.rules a h few)
         (λ a h. ap (λ (x : ℕ). on x a) own_is ∙ on-places own-test w.rules a h few) full reports marks' l' d
 
--- the start of the call, from where the gate was asked
-abbrev begun : goal.After-meets → goal.Start
-begun asked = asked.before.before.before.before.before
-
 pub returns-then-not-waits-meets : goal.returns-then-not-waits-meets
 returns-then-not-waits-meets c =
-    let asked = c.before in
-    let start = begun asked in
-    let a = start.args in
+    let a = c.args in
     let w = automaton a.words.now in
-    let shut : (a.waits || asked.meets.result) ≡ false = not-true (a.waits || asked.meets.result) c.if-not-waits-meets.true-raw in
+    let shut : (a.waits || c.meets.result) ≡ false = c.if-not-waits-meets.true in
     let l = lists a.ids.now a.offsets.now in record {
-      waits = quiet-waits w a.live a.next a.old a.new a.reported a.offset l a.waits asked.meets.result a.sets.enders start.requires.2 start.requires.1.enders_is asked.meets.ensures shut;
-      reports = quiet w a.live a.next a.old a.new a.reported a.offset l a.waits asked.meets.result a.sets.enders start.requires.2 start.requires.1.enders_is asked.meets.ensures shut
-          start.fits.reported.fits;
+      waits = quiet-waits w a.live a.next a.old a.new a.reported a.offset l a.waits c.meets.result a.sets.enders c.requires.2 c.requires.1.enders_is c.meets.ensures shut;
+      reports = quiet w a.live a.next a.old a.new a.reported a.offset l a.waits c.meets.result a.sets.enders c.requires.2 c.requires.1.enders_is c.meets.ensures shut
+          c.ranges.reported.fits;
     }
 
 pub late_rules-requires : goal.late_rules-requires
-late_rules-requires c = begun c.before in (start.requires.0, start.requires.2)
+late_rules-requires c = (c.requires.0, c.requires.2)
 
 pub overflow_add-offset : goal.overflow_add-offset
-overflow_add-offset c = record { fits = (begun c.before.before).requires.3 }
+overflow_add-offset c = record { fits = c.requires.3 }
 
 pub own_rules-requires : goal.own_rules-requires
-own_rules-requires c = (begun c.before.before).requires.0
+own_rules-requires c = c.requires.0
 
 -- what is known where both words of rules were found
-module _ (e : goal.After-own_rules) where
-  abbrev start : goal.Start
-  start = begun e.before.before.before
-
-  abbrev t : List ℕ
-  t = start.args.words.now
-
-  abbrev lent : Lists
-  lent = lists start.args.ids.now start.args.offsets.now
-
-  few : (automaton t).rules ≤ 64
-  few = rules-few t (passes t start.requires.0).rules
-
-  own : e.own_rules.result ≡ rules_where (automaton t) (windowed (automaton t) (ends (automaton t) unsettled start.args.next) (suc start.args.offset))
-  own = e.own_rules.ensures ∙ ap (λ (n : ℕ). rules_where (automaton t) (windowed (automaton t) (ends (automaton t) unsettled start.args.next) n)) (add-one start.args.offset)
+own-found : (t next : List ℕ) (offset own : ℕ) → own ≡ rules_where (automaton t) (windowed (automaton t) (ends (automaton t) unsettled next) (offset + 1))
+    → own ≡ rules_where (automaton t) (windowed (automaton t) (ends (automaton t) unsettled next) (suc offset))
+own-found t next offset own e = e ∙ ap (λ (n : ℕ). rules_where (automaton t) (windowed (automaton t) (ends (automaton t) unsettled next) n)) (add-one offset)
 
 pub deliver-r-requires : goal.deliver-r-requires
 deliver-r-requires c =
-    let found = c.before.before in
-    let a = (start found).args in
-    let late = found.late_rules in (
-      (start found).requires.0,
-      (start found).requires.1.single_is,
-      late-alone (automaton (t found)) a.live a.next a.old a.new a.reported a.offset (lent found) (few found) late.result found.own_rules.result late.ensures (own found),
-      own_alone (automaton (t found)) a.live a.next a.old a.new a.reported a.offset (lent found) (few found) late.result found.own_rules.result late.ensures (own found),
-      (start found).requires.3,
+    let a = c.args in
+    let t = a.words.now in
+    let lent = lists a.ids.now a.offsets.now in
+    let few = rules-few t (passes t c.requires.0).rules in
+    let late = c.late_rules in
+    let own = own-found t a.next a.offset c.own_rules.result c.own_rules.ensures in (
+      c.requires.0,
+      c.requires.1.single_is,
+      late-alone (automaton t) a.live a.next a.old a.new a.reported a.offset lent few late.result c.own_rules.result late.ensures own,
+      own_alone (automaton t) a.live a.next a.old a.new a.reported a.offset lent few late.result c.own_rules.result late.ensures own,
+      c.requires.3,
     )
 
 pub returns : goal.returns
 returns c =
-    let wrote = c.before.before.before.before.before.before in
-    let r = wrote.deliver-r in
-    let found = wrote.before.before.before in
-    let a = (start found).args in
-    let late = found.late_rules in
+    let r = c.deliver-r in
+    let a = c.args in
+    let t = a.words.now in
+    let lent = lists a.ids.now a.offsets.now in
+    let few = rules-few t (passes t c.requires.0).rules in
+    let late = c.late_rules in
+    let own = own-found t a.next a.offset c.own_rules.result c.own_rules.ensures in
     record {
-      waits = c.meets-2.ensures ∙ ap (λ (s : List ℕ). any max_positions (λ q. has a.next q && has s q)) (start found).requires.1.late_is;
-      reports = looked (automaton (t found)) a.live a.next a.old a.new a.reported a.offset (lent found) (few found) late.result found.own_rules.result late.ensures (own found)
+      waits = c.meets-2.ensures ∙ ap (λ (s : List ℕ). any max_positions (λ q. has a.next q && has s q)) c.requires.1.late_is;
+      reports = looked (automaton t) a.live a.next a.old a.new a.reported a.offset lent few late.result c.own_rules.result late.ensures own
           r.result.full r.result.reports r.result.reported (lists r.new.ids r.new.offsets) r.ensures;
     }

@@ -14,13 +14,9 @@ use Rattle.stream.proofs.Lists.{filled-inside}
 use Rattle.stream.proofs.Turns.{turned-start, running-skip, turn-rises, turn-further, turned, ran, turn-less}
 use Rattle.stream.proofs.scan.run.Goals as goal
 
--- the start of the call, from where it was asked whether a position waits
-abbrev begun : goal.After-meets → goal.Start
-begun m = let live = m.before.before in live.before.before.before.before.before
-
 pub loop-going-init : goal.loop-going-init
 loop-going-init c =
-    let start = begun c in
+    let start = c in
     let a = start.args in
     let w = automaton a.words.now in
     let small : a.s.reported < 2 ^ 64 = search rules in
@@ -29,14 +25,14 @@ loop-going-init c =
 
 pub pass_over-over-requires : goal.pass_over-over-requires
 pass_over-over-requires c =
-    let loop = c.before in
-    (loop.loop-going.invariant.running.inside, (begun loop.before).requires.2)
+    let loop = c in
+    (loop.loop-going.invariant.running.inside, c.requires.2)
 
 pub take_byte-next-requires : goal.take_byte-next-requires
 take_byte-next-requires c =
-    let over = c.before.before in
+    let over = c in
     let l = over.loop-going in
-    let start = begun over.before.before.before in
+    let start = c in
     let a = start.args in
     let still = running-skip (automaton a.words.now) a.s a.allowance a.block.now (lists a.ids.now a.offsets.now) l.z over.pass_over-over.result
     (lists l.ids l.offsets) l.invariant.running over.pass_over-over.ensures in
@@ -44,19 +40,19 @@ take_byte-next-requires c =
 
 pub loop-going-smaller : goal.loop-going-smaller
 loop-going-smaller c =
-    let took = c.before.before.before.before.before in
-    let over = took.before.before.before in
+    let took = c in
+    let over = c in
     let l = over.loop-going in
-    let a = (begun over.before.before.before).args in
+    let a = c.args in
     turn-less l.going c.goes_on-going.result took.take_byte-next.result.stopped l.z.at took.take_byte-next.result.at (length a.block.now) over.loop-going-test.true
     c.goes_on-going.ensures.0 (turn-rises l.invariant.running over.pass_over-over.ensures took.take_byte-next.ensures) (turn-further l.invariant.running over.pass_over-over.ensures took.take_byte-next.ensures)
 
 pub loop-going-preserved : goal.loop-going-preserved
 loop-going-preserved c =
-    let took = c.before.before.before.before.before in
-    let over = took.before.before.before in
+    let took = c in
+    let over = c in
     let l = over.loop-going in
-    let a = (begun over.before.before.before).args in
+    let a = c.args in
     turned l.invariant.running over.pass_over-over.ensures took.take_byte-next.ensures a.pause c.goes_on-going.result c.goes_on-going.ensures
 
 pub returns : goal.returns

@@ -14,12 +14,12 @@ use Rattle.stream.proofs.scan.sets_of.Goals as goal
 
 pub bounds-words-2 : goal.bounds-words-2
 bounds-words-2 c =
-    let start = c.before.before.before in
+    let start = c in
     positions-word (length start.args.words.now) start.requires
 
 pub returns : goal.returns
 returns c =
-    let late = c.before.before.before in
+    let late = c in
     let positions = late.before in
     let full = positions.before.before in
     let start = full.before.before in

@@ -30,19 +30,19 @@ overflow_sub-at c =
 
 pub bounds-block-at : goal.bounds-block-at
 bounds-block-at c =
-    let c-start = c.before.before.before in
+    let c-start = c in
     let c-if1 = c.if-at-eq0 in
     omega (arith, c-start.requires, c-if1.false)
 
 pub returns-then-at-eq0 : goal.returns-then-at-eq0
 returns-then-at-eq0 c =
-    let c-start = c.before.before in
+    let c-start = c in
     let c-if1 = c.if-at-eq0 in
     first c-start.args.before c-start.args.block.now c-start.args.at c-if1.true
 
 pub returns-else-at-eq0 : goal.returns-else-at-eq0
 returns-else-at-eq0 c =
     let c-side-of = c.side_of in
-    let c-start = c.before.before.before.before in
+    let c-start = c in
     let c-if1 = c.if-at-eq0 in
     c-side-of.ensures ∙ later c-start.args.before c-start.args.block.now c-start.args.at c-if1.false

@@ -16,7 +16,7 @@ use Rattle.table.proofs.Test.{passes}
 use Rattle.steps.specs.Step.{set_on, stepped}
 use Rattle.steps.proofs.Steps.{stepped-among}
 use Rattle.steps.proofs.TableSets.{set_on_lem, number-on}
-use Rattle.stream.specs.Calls.{Lists, lists}
+use Rattle.stream.specs.Calls.{lists}
 use Rattle.stream.proofs.Bounds.{sum_fits, next_small, after-fits, count_fits, ids_fit, offsets_fit, enough-left, enough-right}
 use Rattle.stream.proofs.Taking.{Told, offered-end, offered-unpaid, offered-full, taken-room, offered-taken}
 use Rattle.stream.proofs.scan.take_byte.Goals as goal
@@ -39,127 +39,125 @@ returns-then-block-at c =
 
 pub overflow_add-offset : goal.overflow_add-offset
 overflow_add-offset c =
-    let inside = c.before.before in
-    let start = inside.before.before.before.before.before in
+    let inside = c in
+    let start = c in
     sum_fits start.args.taken start.args.z.at (length start.args.block.now) start.requires.4 (le_of_lt inside.if-block-at.false)
 
 pub bounds-block-at : goal.bounds-block-at
 bounds-block-at c = c.if-block-at.false
 
 pub overflow_cast-cost : goal.overflow_cast-cost
-overflow_cast-cost c = omega (arith, c.struct_known-1.given)
+overflow_cast-cost c = omega (arith, c.ranges)
 
 pub overflow_add-cost : goal.overflow_add-cost
-overflow_add-cost c = omega (arith, c.struct_known-1.given)
+overflow_add-cost c = omega (arith, c.ranges)
 
 pub returns-then-z-cost : goal.returns-then-z-cost
 returns-then-z-cost c =
-    let step = c.before.before.before.before.before in
-    let inside = step.before.before.before.before.before in
-    let start = inside.before.before.before.before.before in
+    let step = c in
+    let start = c in
     let a = start.args in
     let t = a.words.now in
     offered-unpaid (automaton t) a.taken a.block.now a.z (lists a.ids.now a.offsets.now) c.stop-then-z-cost.result c.stop-then-z-cost.ensures
     step.step-after.result.turns (step.step-after.ensures.turns ∙ number-on t (size_of a.z.live) (passes t start.requires.0).long) c.if-z-cost.true
 
--- the start of the call, from the step on
-abbrev begun : goal.After-step-after → goal.Start
-begun s = let live = s.before.before.before.before in live.before.before.before.before.before.before
-
 pub offset_bounds-ids-count : goal.offset_bounds-ids-count
 offset_bounds-ids-count c =
-    let start = begun c.before.before.before.before in
-    ids_fit start.args.z.count (length start.args.ids.now) (length start.args.offsets.now) start.requires.3 start.good.1.1.1.1.1.0.1
+    let start = c in
+    ids_fit start.args.z.count (length start.args.ids.now) (length start.args.offsets.now) start.requires.3 start.well_formed.1.1.1.1.1.0.1
 
 pub slice_bounds-report-count : goal.slice_bounds-report-count
 slice_bounds-report-count c =
-    let start = begun c.before.before.before.before in
+    let start = c in
     enough-left start.args.z.count (length start.args.ids.now) (length start.args.offsets.now) start.requires.3
 
 pub slice_bounds-report-start : goal.slice_bounds-report-start
 slice_bounds-report-start c =
-    let start = begun c.before.before.before.before in
+    let start = c in
     enough-left start.args.z.count (length start.args.ids.now) (length start.args.offsets.now) start.requires.3
 
 pub slice_bounds-report-end : goal.slice_bounds-report-end
-slice_bounds-report-end c = le_refl (length (begun c.before.before.before.before).args.ids.now)
+slice_bounds-report-end c = le_refl (length c.args.ids.now)
 
 pub offset_bounds-offsets-count : goal.offset_bounds-offsets-count
 offset_bounds-offsets-count c =
-    let start = begun c.before.before.before.before.before in
-    offsets_fit start.args.z.count (length start.args.ids.now) (length start.args.offsets.now) start.requires.3 start.good.1.1.1.1.1.1.0.1
+    let start = c in
+    offsets_fit start.args.z.count (length start.args.ids.now) (length start.args.offsets.now) start.requires.3 start.well_formed.1.1.1.1.1.1.0.1
 
 pub slice_bounds-report-count-2 : goal.slice_bounds-report-count-2
 slice_bounds-report-count-2 c =
-    let start = begun c.before.before.before.before.before in
+    let start = c in
     enough-right start.args.z.count (length start.args.ids.now) (length start.args.offsets.now) start.requires.3
 
 pub slice_bounds-report-start-2 : goal.slice_bounds-report-start-2
 slice_bounds-report-start-2 c =
-    let start = begun c.before.before.before.before.before in
+    let start = c in
     enough-right start.args.z.count (length start.args.ids.now) (length start.args.offsets.now) start.requires.3
 
 pub slice_bounds-report-end-2 : goal.slice_bounds-report-end-2
-slice_bounds-report-end-2 c = le_refl (length (begun c.before.before.before.before.before).args.offsets.now)
+slice_bounds-report-end-2 c = le_refl (length c.args.offsets.now)
 
 pub report-r-requires : goal.report-r-requires
 report-r-requires c =
-    let step = c.before.before.before.before.before.before in
-    let start = begun step in
-    let inside = step.before.before.before.before.before in
+    let start = c in
+    let inside = c in
     (start.requires.0, start.requires.1, start.requires.2, next_small start.args.taken start.args.z.at (length start.args.block.now) start.requires.4 inside.if-block-at.false)
-
--- what is known where the runs were written
-module _ (r : goal.After-report-r) where
-  abbrev took : goal.After-step-after
-  took = let paid = r.before.before.before in paid.before.before.before.before
-
-  abbrev start : goal.Start
-  start = begun took
-
-  abbrev last : Lists
-  last = let lent = r.report-r.last.1.1.1.1.1.1.1.1.1 in lists lent.0 lent.1.0
-
-  told : Told (automaton start.args.words.now) start.args.taken start.args.block.now start.args.z (lists start.args.ids.now start.args.offsets.now) took.step-after.result.live took.side_of-new.result
-      r.report-r.result.full r.report-r.result.reports r.report-r.result.reported r.report-r.result.waits last
-  told =
-      let t = start.args.words.now in
-      record {
-        step =
-            stepping t start.args.z.live start.args.z.side took.side_of-new.result start.args.sets.positions took.step-after.result.live (start.args.taken + start.args.z.at) (get_or start.args.block.now start.args.z.at 0)
-            start.requires.1.positions_is took.side_of-new.ensures (passes t start.requires.0).long took.step-after.ensures.live;
-        side = took.side_of-new.ensures;
-        room = start.requires.3;
-        wait = r.report-r.ensures.waits;
-        delivered = r.report-r.ensures.reports;
-      }
-
-  turns-are : took.step-after.result.turns ≡ size_of start.args.z.live
-  turns-are = took.step-after.ensures.turns ∙ number-on start.args.words.now (size_of start.args.z.live) (passes start.args.words.now start.requires.0).long
 
 pub returns-then-r : goal.returns-then-r
 returns-then-r c =
-    let r = c.before.before.before.before.before.before in
-    offered-full (told r) c.stop-then-r.result c.stop-then-r.ensures c.if-r.true
+    let a = c.args in
+    let t = a.words.now in
+    let lent = c.report-r.new in
+    let told : Told (automaton t) a.taken a.block.now a.z (lists a.ids.now a.offsets.now) c.step-after.result.live c.side_of-new.result
+    c.report-r.result.full c.report-r.result.reports c.report-r.result.reported c.report-r.result.waits (lists lent.ids lent.offsets) =
+    record {
+      step =
+          stepping t a.z.live a.z.side c.side_of-new.result a.sets.positions c.step-after.result.live (a.taken + a.z.at) (get_or a.block.now a.z.at 0)
+          c.requires.1.positions_is c.side_of-new.ensures (passes t c.requires.0).long c.step-after.ensures.live;
+      side = c.side_of-new.ensures;
+      room = c.requires.3;
+      wait = c.report-r.ensures.waits;
+      delivered = c.report-r.ensures.reports;
+    } in
+    offered-full told c.stop-then-r.result c.stop-then-r.ensures c.if-r.true
 
 pub overflow_add-result : goal.overflow_add-result
 overflow_add-result c =
-    let step = took c.before.before.before.before.before in
-    let start = begun step in
-    let inside = step.before.before.before.before.before in
-    after-fits start.args.taken start.args.z.at (length start.args.block.now) start.requires.4 inside.if-block-at.false
+    after-fits c.args.taken c.args.z.at (length c.args.block.now) c.requires.4 c.if-block-at.false
 
 pub overflow_add-result-2 : goal.overflow_add-result-2
 overflow_add-result-2 c =
-    let r = c.before.before.before.before.before.before in
-    let a = (begun (took r)).args in
-    count_fits (a.z.count + r.report-r.result.reports) (length a.ids.now) (length a.offsets.now) (taken-room (told r) c.if-r.false) (begun (took r)).well-formed.1.1.1.1.1.0.1
+    let a = c.args in
+    let t = a.words.now in
+    let lent = c.report-r.new in
+    let told : Told (automaton t) a.taken a.block.now a.z (lists a.ids.now a.offsets.now) c.step-after.result.live c.side_of-new.result
+    c.report-r.result.full c.report-r.result.reports c.report-r.result.reported c.report-r.result.waits (lists lent.ids lent.offsets) =
+    record {
+      step =
+          stepping t a.z.live a.z.side c.side_of-new.result a.sets.positions c.step-after.result.live (a.taken + a.z.at) (get_or a.block.now a.z.at 0)
+          c.requires.1.positions_is c.side_of-new.ensures (passes t c.requires.0).long c.step-after.ensures.live;
+      side = c.side_of-new.ensures;
+      room = c.requires.3;
+      wait = c.report-r.ensures.waits;
+      delivered = c.report-r.ensures.reports;
+    } in
+    count_fits (a.z.count + c.report-r.result.reports) (length a.ids.now) (length a.offsets.now) (taken-room told c.if-r.false) c.well_formed.1.1.1.1.1.0.1
 
 pub returns : goal.returns
 returns c =
-    let ids = c.before.before.before.before.before.before in
-    let r = ids.before in
-    let step = took r in
-    let inside = step.before.before.before.before.before in
-    let paid = r.before.before.before in
-    offered-taken (told r) inside.if-block-at.false c.if-r.false step.step-after.result.turns (turns-are r) paid.if-z-cost.false
+    let a = c.args in
+    let t = a.words.now in
+    let lent = c.report-r.new in
+    let told : Told (automaton t) a.taken a.block.now a.z (lists a.ids.now a.offsets.now) c.step-after.result.live c.side_of-new.result
+    c.report-r.result.full c.report-r.result.reports c.report-r.result.reported c.report-r.result.waits (lists lent.ids lent.offsets) =
+    record {
+      step =
+          stepping t a.z.live a.z.side c.side_of-new.result a.sets.positions c.step-after.result.live (a.taken + a.z.at) (get_or a.block.now a.z.at 0)
+          c.requires.1.positions_is c.side_of-new.ensures (passes t c.requires.0).long c.step-after.ensures.live;
+      side = c.side_of-new.ensures;
+      room = c.requires.3;
+      wait = c.report-r.ensures.waits;
+      delivered = c.report-r.ensures.reports;
+    } in
+    let turns-are = c.step-after.ensures.turns ∙ number-on t (size_of a.z.live) (passes t c.requires.0).long in
+    offered-taken told c.if-block-at.false c.if-r.false c.step-after.result.turns turns-are c.if-z-cost.false

@@ -6,7 +6,7 @@ use Rattle.stream.proofs.scan.waiting_after.Goals as goal
 
 pub returns-then-n-eq0 : goal.returns-then-n-eq0
 returns-then-n-eq0 c =
-    let c-start = c.before.before.before.before in
+    let c-start = c in
     let c-if1 = c.if-n-eq0 in
     let a = c-start.args in
     left-none (automaton a.words.now) a.s a.block.now a.before a.n c-if1.true
@@ -18,28 +18,28 @@ overflow_sub-last c =
 
 pub side_at-side-requires : goal.side_at-side-requires
 side_at-side-requires c =
-    let c-start = c.before.before.before in
+    let c-start = c in
     omega (arith, c-start.requires.1)
 
 pub overflow_add-s : goal.overflow_add-s
 overflow_add-s c =
-    let c-start = c.before.before.before.before.before in
+    let c-start = c in
     record { fits = omega (arith, c-start.requires.1, c-start.requires.2) }
 
 pub bounds-block-last : goal.bounds-block-last
 bounds-block-last c =
-    let c-start = c.before.before.before.before.before.before in
+    let c-start = c in
     let c-if1 = c.if-n-eq0 in
     omega (arith, c-start.requires.1, c-if1.false)
 
 pub left_waiting-requires : goal.left_waiting-requires
 left_waiting-requires c =
-    let c-start = c.before.before.before.before.before.before in
+    let c-start = c in
     c-start.requires.0
 
 pub returns : goal.returns
 returns c =
-    let sided = c.before.before.before in
+    let sided = c in
     let c-start = sided.before.before.before.before in
     let c-left-waiting = c.left_waiting in
     let c-if1 = sided.if-n-eq0 in
