@@ -12,5 +12,5 @@ returns c =
     let is = ap (λ (b : Bool). not (a.some || a.waits) && (b && not (eqb a.taken 0))) c.is_empty.ensures in
     record {
       is = is;
-      so = λ e. quietly a.some a.waits a.live a.taken (words-good a.live _ c.well-formed.1.1.0) (sym is ∙ e);
+      so = λ e. quietly a.some a.waits a.live a.taken (words-good a.live _ c.well_formed.1.1.0) (sym is ∙ e);
     }

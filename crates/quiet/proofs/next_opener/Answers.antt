@@ -10,7 +10,7 @@ use Rattle.quiet.proofs.next_opener.Goals as goal
 
 pub returns-then-words-lt-TABLE_WORDS : goal.returns-then-words-lt-TABLE_WORDS
 returns-then-words-lt-TABLE_WORDS c =
-    let start = c.before.before.before in
+    let start = c in
     unopened-none (automaton start.args.words.now) start.args.block.now start.args.from start.args.end start.requires.0
 
 pub over_eights-at-requires : goal.over_eights-at-requires
@@ -24,7 +24,7 @@ returns-then-opens c = c.loop-at.invariant
 
 pub loop-at-preserved : goal.loop-at-preserved
 loop-at-preserved c =
-    let loop = c.before.before.before.before in
+    let loop = c in
     let l = loop.loop-at in
     let start = loop.before.before.before.before.before in
     let b = start.args.block.now in

@@ -12,18 +12,18 @@ use Rattle.stream.proofs.Quiet.{unopened-none, unopened-more}
 use Rattle.quiet.proofs.over_eights.Invariants.{NoneOf}
 use Rattle.quiet.proofs.over_eights.Goals as goal
 
-one_more : (w : Automaton) (block : List ℕ) (at i : ℕ) (some next : Bool) → (some ≡ false → NoneOf w block at i) → next ≡ w.opens-some (get_or block (at + i) 0)
+one_more : (w : Automaton) (block : List ℕ) (at i : ℕ) (some next : Bool) → (some ≡ false → NoneOf w block at i) → next ≡ w.opens (get_or block (at + i) 0)
     → (some || next) ≡ false → NoneOf w block at (i + 1)
 one_more w block at i true next h e q j f g = absurd (true≢false q)
 one_more w block at i false next h e q j f g = go (dec_lt j (at + i))
   where
-    go : Dec (j < at + i) → w.opens-some (get_or block j 0) ≡ false
+    go : Dec (j < at + i) → w.opens (get_or block j 0) ≡ false
     go (yes l) = h refl j f l
-    go (no l) = let same : j ≡ at + i = omega arith in ap (λ (k : ℕ). w.opens-some (get_or block k 0)) same ∙ sym e ∙ q
+    go (no l) = let same : j ≡ at + i = omega arith in ap (λ (k : ℕ). w.opens (get_or block k 0)) same ∙ sym e ∙ q
 
 pub loop-at-init : goal.loop-at-init
 loop-at-init c =
-    let start = c.before.before in
+    let start = c in
     unopened-none (automaton start.args.words.now) start.args.block.now start.args.from start.args.end start.requires.0
 
 pub overflow_sub-end : goal.overflow_sub-end
@@ -40,7 +40,7 @@ bounds-block-at c = omega (arith, c.loop-at.invariant.inside)
 
 pub loop-i-preserved : goal.loop-i-preserved
 loop-i-preserved c =
-    let inner = c.before.before.before in
+    let inner = c in
     let outer = inner.before.before in
     let a = outer.args in
     let l = inner.loop-i in
@@ -57,7 +57,7 @@ loop-at-smaller c = omega (arith, c.loop-at.invariant.inside)
 
 pub loop-at-preserved : goal.loop-at-preserved
 loop-at-preserved c =
-    let inner = c.before.before in
+    let inner = c in
     let outer = inner.before.before in
     let a = outer.args in
     let l = outer.loop-at in

@@ -11,7 +11,7 @@ use Rattle.quiet.proofs.over_eights.Given as goal
 
 -- none of the first n bytes from `at` on
 abbrev pub NoneOf : (w : Automaton) (block : List ℕ) (at n : ℕ) → Type 0
-NoneOf w block at n = (j : ℕ) → at ≤ j → j < at + n → w.opens-some (get_or block j 0) ≡ false
+NoneOf w block at n = (j : ℕ) → at ≤ j → j < at + n → w.opens (get_or block j 0) ≡ false
 
 abbrev pub invariant-loop-i : goal.invariant-loop-i
 invariant-loop-i l = (l.i ≤ 8) × (l.some ≡ false → NoneOf (automaton l.words) l.block l.at l.i)

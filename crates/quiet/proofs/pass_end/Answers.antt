@@ -1,10 +1,11 @@
 -- `quiet::pass_end` meets its contract: it does not begin, or goes up to the next opener
 -- and back over the newlines before that.
 use mathlib.Core.Path.{refl, subst}
+use mathlib.Core.Bool.{Bool}
+use mathlib.Core.List.{List}
 use Prim.Native.Nat.{ℕ, ◌+◌, ◌≤◌, min}
 use native.Mathlib.Nat.{le_trans}
 use native.Mathlib.Omega.{arith}
-use borrow.Author.Tests.{not-false}
 use lib.ListN.{length}
 use Rattle.table.specs.Automaton.{automaton}
 use Rattle.stream.proofs.Bounds.{short-end, from_end}
@@ -13,74 +14,53 @@ use Rattle.quiet.specs.Pass.{PassEnd, Ends}
 use Rattle.quiet.proofs.Ending.{pass-none, pass-back}
 use Rattle.quiet.proofs.pass_end.Goals as goal
 
-module _ (s : goal.Start) where
-  abbrev n : ℕ
-  n = length s.args.block.now
-
-  abbrev end : ℕ
-  end = min n (s.args.from + s.args.units)
-
-  abbrev To : ℕ → Type 0
-  To r = Ends (automaton s.args.words.now) s.args.quiet s.args.block.now s.args.from s.args.units r
-
-  stays : To s.args.from
-  stays =
-      let a = s.args in
-      let w = automaton a.words.now in record {
-        inside = λ h. pass-none w a.quiet a.block.now a.from end (unopened-none w a.block.now a.from end (from_end a.from end n a.units h refl));
-        past = λ h. refl;
-      }
+stays : (t block : List ℕ) (quiet : Bool) (from units : ℕ) → Ends (automaton t) quiet block from units from
+stays t block quiet from units =
+    let w = automaton t in
+    let n = length block in
+    let end = min n (from + units) in record {
+      inside = λ h. pass-none w quiet block from end (unopened-none w block from end (from_end from end n units h refl));
+      past = λ h. refl;
+    }
 
 pub returns-then-not-quiet : goal.returns-then-not-quiet
-returns-then-not-quiet c = stays c.before.before.before
+returns-then-not-quiet c = let a = c.args in stays a.words.now a.block.now a.quiet a.from a.units
 
 pub returns-then-block-from : goal.returns-then-block-from
-returns-then-block-from c = stays c.before.before.before.before
+returns-then-block-from c = let a = c.args in stays a.words.now a.block.now a.quiet a.from a.units
 
 -- the place is in the block
-abbrev begun : goal.Else-block-from → goal.Start
-begun c = c.before.before.before.before
-
-in-block : (c : goal.Else-block-from) → (begun c).args.from ≤ n (begun c)
-in-block c = omega (arith, c.if-block-from.false)
-
 pub at_newlines-requires : goal.at_newlines-requires
-at_newlines-requires c = in-block c
+at_newlines-requires c = omega (arith, c.if-block-from.false)
 
 pub returns-then-at_newlines : goal.returns-then-at_newlines
-returns-then-at_newlines c = stays (begun c.before.before)
+returns-then-at_newlines c = let a = c.args in stays a.words.now a.block.now a.quiet a.from a.units
 
 pub payable-end-requires : goal.payable-end-requires
-payable-end-requires c = in-block c.before.before
-
--- where the end is known
-abbrev two : goal.After-payable-end → goal.Else-block-from
-two c = c.before.before.before
+payable-end-requires c = omega (arith, c.if-block-from.false)
 
 pub next_opener-requires : goal.next_opener-requires
 next_opener-requires c =
-    let s = begun (two c) in
+    let a = c.args in
+    let n = length a.block.now in
+    let h : a.from ≤ n = omega (arith, c.if-block-from.false) in
     let e = c.payable-end.ensures in (
-      from_end s.args.from c.payable-end.result (n s) s.args.units (in-block (two c)) e,
-      short-end c.payable-end.result (n s) (s.args.from + s.args.units) e,
+      from_end a.from c.payable-end.result n a.units h e,
+      short-end c.payable-end.result n (a.from + a.units) e,
     )
 
 pub before_newlines-requires : goal.before_newlines-requires
 before_newlines-requires c =
+    let a = c.args in
     let o = c.next_opener.ensures in
-    let p = c.before in
-    let s = begun (two p) in
-    (o.rises, le_trans o.inside (short-end p.payable-end.result (n s) (s.args.from + s.args.units) p.payable-end.ensures))
+    (o.rises, le_trans o.inside (short-end c.payable-end.result (length a.block.now) (a.from + a.units) c.payable-end.ensures))
 
 pub returns : goal.returns
 returns c =
-    let o = c.before in
-    let p = o.before in
-    let s = begun (two p) in
-    let a = s.args in
-    let h = in-block (two p) in
+    let a = c.args in
+    let h : a.from ≤ length a.block.now = omega (arith, c.if-block-from.false) in
     record {
-      inside = λ l. subst (λ (m : ℕ). PassEnd (automaton a.words.now) a.quiet a.block.now a.from m c.before_newlines.result) p.payable-end.ensures
-          (pass-back (not-false a.quiet (two p).if-not-quiet.false-raw) o.next_opener.ensures c.before_newlines.ensures);
+      inside = λ l. subst (λ (m : ℕ). PassEnd (automaton a.words.now) a.quiet a.block.now a.from m c.before_newlines.result) c.payable-end.ensures
+          (pass-back c.if-not-quiet.false c.next_opener.ensures c.before_newlines.ensures);
       past = λ l. absurd (omega arith);
     }
