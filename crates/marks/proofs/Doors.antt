@@ -3,9 +3,9 @@
 -- Assumes nothing.
 use mathlib.Core.Path.{◌≡◌, refl, sym, ap, ap₂, ◌∙◌}
 use mathlib.Core.Logic.{◌⊎◌, inl, inr}
-use mathlib.Core.Bool.{Bool, true, false, cond, ◌&&◌, ◌||◌}
+use mathlib.Core.Bool.{Bool, true, false, ◌&&◌, ◌||◌}
 use mathlib.Core.List.{List}
-use Prim.Native.Nat.{ℕ, suc, ◌+◌, ◌*◌, min, ◌≤◌, ◌<◌}
+use Prim.Native.Nat.{ℕ, ◌+◌, ◌*◌, min, ◌≤◌, ◌<◌}
 use native.Mathlib.Omega.{arith}
 use borrow.Author.Tests.{lt-ltb}
 use lib.Bits.{bit_and, bit_or}
@@ -13,16 +13,14 @@ use lib.ListN.{get_or, set}
 use lib.Seq.{set_comm}
 use Rattle.sets.specs.Set.{on, has}
 use Rattle.sets.proofs.Laws.{on_or, on_and, on-zero, on-ones}
-use Rattle.meaning.specs.Form.{Form, eps, take, check, seq, alt, plus, opt, positions}
+use Rattle.meaning.specs.Form.{take, seq, alt, plus, opt, positions}
 use Rattle.meaning.specs.Automaton.{null}
-use Rattle.meaning.specs.Rule.{Assertion, ByteSet}
-use Rattle.meaning.proofs.Range.{Inside}
 use Rattle.marks.specs.Marks.{none, when, ends, past, moved}
 use Rattle.marks.specs.Parts.{world_of, all, Doors, Part, one, then, or, doors_of, size_of, last_of, core_p, ends_p, entered_p, moved_p}
 use Rattle.nodes.specs.Invariants.{Written, set_at}
 use Rattle.marks.specs.Invariants.{has_byte, hits_of, Passes, Says}
 use Rattle.marks.proofs.Least.{when-low}
-use Rattle.marks.proofs.Moving.{ends_low, ends_same, moved-outside}
+use Rattle.marks.proofs.Moving.{ends_low, moved-outside}
 use Rattle.marks.proofs.Skips.{when-none, ends-none, moved_none, min-none, none-min, when-and, past-none}
 
 -- ---- masks

@@ -1,6 +1,6 @@
 -- The least number of a kind, as a mark says it: `none` where no number below `none` is of the
 -- kind. Assumes nothing.
-use mathlib.Core.Path.{◌≡◌, refl, sym, subst}
+use mathlib.Core.Path.{◌≡◌, sym, subst}
 use mathlib.Core.Logic.{◌⊎◌, inl, inr, ◌↔◌}
 use mathlib.Core.Bool.{Bool, true, false}
 use Prim.Native.Nat.{ℕ, min, ◌≤◌, ◌<◌}

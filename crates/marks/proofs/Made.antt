@@ -11,7 +11,7 @@ use native.Mathlib.Decide.{ℕ_discrete}
 use borrow.Author.Tests.{eq-eqb, ne_eqb, eqb-true, eqb-false, leb-true, leb-false, le-leb}
 use lib.Bits.{bit_and, bit_or}
 use lib.Dec.{eqb, leb}
-use lib.ListN.{length, get_or, set, length-set}
+use lib.ListN.{length, get_or, length-set}
 use lib.Seq.{get_or-set_other}
 use Rattle.sets.specs.Set.{on}
 use Rattle.sets.proofs.Laws.{on_or, on_and, on-zero}
@@ -27,7 +27,7 @@ use Rattle.nodes.specs.Invariants.{Written, form_at, set_at, extra}
 use Rattle.marks.specs.Invariants.{Plays, Passes, Says, at, Row, Laid, rows_of, Room, Kept, Made, Joined, open_if, narrowed, widened, placed, seq_piece, seq_rows, alt_piece, alt_rows}
 use Rattle.marks.specs.declared.write_out.Piece.{Piece}
 use Rattle.nodes.proofs.Forms.{nested-none, nested-step, repeat-any, repeat-nested, repeat_many, repeat-step}
-use Rattle.marks.proofs.Doors.{on-all, size-pos, rows-size, with_doors, shut-front, shut-back, open-round, with-last, says-take, says-seq, says-alt, says-before, says-behind, says-left, says-right, says-opt, says-plus}
+use Rattle.marks.proofs.Doors.{on-all, size-pos, rows-size, with_doors, shut-front, shut-back, open-round, says-take, says-seq, says-alt, says-before, says-behind, says-left, says-right, says-opt, says-plus}
 use Rattle.marks.proofs.Laid.{laid_same, laid-front, laid-back, laid-round, placed-in, placed-out, placed_row, placed-length}
 
 -- ---- how many rows

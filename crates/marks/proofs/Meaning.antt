@@ -4,7 +4,7 @@
 -- are least starts too. By the form's structure: what comes to the second part of a sequence is
 -- what the first lets pass, what comes to a repeated part is what comes through any number of
 -- copies. Assumes nothing.
-use mathlib.Core.Path.{◌≡◌, refl, sym, subst, ap, ◌∙◌}
+use mathlib.Core.Path.{◌≡◌, refl, subst, ap, ◌∙◌}
 use mathlib.Core.Logic.{◌⊎◌, inl, inr, ◌↔◌}
 use mathlib.Core.Bool.{Bool}
 use mathlib.Core.List.{List}
@@ -18,11 +18,11 @@ use lib.Seq.{get_or-set_same}
 use Rattle.meaning.specs.Tree.{Text}
 use Rattle.meaning.specs.Form.{Form, eps, take, check, seq, alt, plus, opt, Star, done, more, Match, positions, Reach}
 use Rattle.meaning.specs.Automaton.{null}
-use Rattle.meaning.proofs.Local.{match-up, reach-up}
+use Rattle.meaning.proofs.Local.{match-up}
 use Rattle.meaning.proofs.Range.{Inside, reach-inside}
 use Rattle.meaning.proofs.Step.{null_is}
 use Rattle.meaning.proofs.Computed.{null-T}
-use Rattle.marks.specs.Marks.{none, when, ends, past, moved}
+use Rattle.marks.specs.Marks.{when, ends, past, moved}
 use Rattle.marks.proofs.Least.{Least, least_iff, least-as, least-none, least-min, least-cap, least-when}
 use Rattle.marks.proofs.Moving.{moved-long, moved-outside}
 

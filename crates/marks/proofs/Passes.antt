@@ -2,10 +2,9 @@
 -- down, what is left to do makes the same of the present marks as all of it makes of the first
 -- ones. Assumes nothing.
 use mathlib.Core.Path.{◌≡◌, refl, sym, subst, ap, ap₂, ◌∙◌}
-use mathlib.Core.Logic.{◌⊎◌, inl, inr}
 use mathlib.Core.Bool.{Bool, true, false, cond}
 use mathlib.Core.List.{List}
-use Prim.Native.Nat.{ℕ, zero, suc, ◌+◌, ◌*◌, ◌-◌, min, ◌≤◌, ◌<◌}
+use Prim.Native.Nat.{ℕ, suc, ◌+◌, ◌*◌, ◌-◌, min, ◌≤◌, ◌<◌}
 use native.Mathlib.Omega.{arith}
 use native.Mathlib.Decide.{dec_lt, ℕ_discrete}
 use borrow.Author.Tests.{eq-eqb, ne_eqb}
@@ -14,11 +13,10 @@ use lib.ListN.{length, get_or, set, length-set}
 use lib.Seq.{get_or-set_same, get_or-set_other}
 use Rattle.sets.specs.Set.{on}
 use Rattle.marks.specs.Marks.{none, when, ends, moved}
-use Rattle.marks.specs.Parts.{Doors, Part, one, then, or, doors_of, size_of, last_of, core_p, ends_p, entered_p, moved_p}
+use Rattle.marks.specs.Parts.{Part, one, then, or, doors_of, size_of, last_of, core_p, ends_p, entered_p, moved_p}
 use Rattle.marks.specs.Gaps.{inner_world, outer_world}
 use Rattle.nodes.specs.Invariants.{Written, form_at}
-use Rattle.marks.specs.Invariants.{has_byte, hits_of, Shows, at, Row, Laid, Plays, core_word, Looked, top_of, entered_at, handed_down, Turned, Moved, Took}
-use Rattle.marks.specs.declared.byte.Ends.{Ends}
+use Rattle.marks.specs.Invariants.{has_byte, hits_of, Shows, at, Laid, Plays, core_word, Looked, top_of, entered_at, handed_down, Turned, Moved, Took}
 use Rattle.meaning.specs.Rule.{Assertion}
 use Rattle.marks.proofs.Skips.{ends-none, moved_none}
 use Rattle.marks.proofs.Laid.{front_at, back_at, round-at}

@@ -1,18 +1,17 @@
 -- A form without positions leaves the marks alone: it only lets pass or not. Assumes nothing.
-use mathlib.Core.Path.{◌≡◌, refl, sym, ap, ap₂, ◌∙◌}
+use mathlib.Core.Path.{◌≡◌, refl}
 use mathlib.Core.Bool.{Bool, true, false, ◌&&◌}
 use mathlib.Core.List.{List}
-use Prim.Native.Nat.{ℕ, ◌+◌, min, ◌≤◌, ◌<◌}
+use Prim.Native.Nat.{ℕ, ◌+◌, min, ◌≤◌}
 use native.Mathlib.Omega.{arith}
-use lib.ListN.{get_or}
 use lib.Seq.{ext_get_or}
-use Rattle.meaning.specs.Form.{Form, eps, take, check, seq, alt, plus, opt, positions}
+use Rattle.meaning.specs.Form.{eps, take, check, seq, alt, plus, opt, positions}
 use Rattle.meaning.specs.Automaton.{null}
 use Rattle.meaning.specs.Rule.{Assertion, ByteSet}
 use Rattle.marks.specs.Marks.{none, when, ends, past, moved}
 use Rattle.nodes.specs.Invariants.{Written}
 use Rattle.marks.proofs.Least.{when-low}
-use Rattle.marks.proofs.Moving.{ends_low, moved-long, moved-outside}
+use Rattle.marks.proofs.Moving.{moved-long, moved-outside}
 
 pub when-none : (v : Bool) → when v none ≡ none
 unfolding when

@@ -1,6 +1,6 @@
 -- The gaps of a log by number: at each of them the assertions hold that the meaning says. Finite
 -- tests, computed.
-use mathlib.Core.Path.{◌≡◌, refl, sym, subst, ap, ap₂, ◌∙◌, fun_ext}
+use mathlib.Core.Path.{◌≡◌, refl, sym, ap, ap₂, ◌∙◌, fun_ext}
 use mathlib.Core.Bool.{Bool, true, false, true≢false, cond, ◌&&◌}
 use mathlib.Core.List.{List, [], ◌∷◌}
 use Prim.Native.Nat.{ℕ, zero, suc, ◌+◌, ◌*◌, ◌-◌, ◌/◌, ◌^◌, ◌≤◌, ◌<◌}
@@ -17,7 +17,7 @@ use Rattle.meaning.specs.Gap.{Known, byte, edge, unknown, known_before}
 use Rattle.meaning.specs.Rule.{Assertion, world}
 use Rattle.meaning.proofs.Finite.{every_side, at_side, agree, agreed}
 use Rattle.marks.specs.Parts.{side_code, world_of}
-use Rattle.marks.specs.Gaps.{before_gap, after_gap, inner_world, outer_world}
+use Rattle.marks.specs.Gaps.{before_gap, inner_world, outer_world}
 use Rattle.marks.specs.Invariants.{Shows}
 
 -- one digit of a mask

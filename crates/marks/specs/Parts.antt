@@ -2,7 +2,7 @@
 -- that take bytes, with their doors. What each part does to the marks is what its form does
 -- (Marks): that is proved, so nothing here must be believed. Assumes nothing: these are
 -- definitions.
-use Rattle.std.specs.Prelude.{Bool, true, false, cond, List, ℕ, suc, ◌+◌, min, get_or, set}
+use Rattle.std.specs.Prelude.{Bool, List, ℕ, suc, ◌+◌, min, get_or, set}
 use Rattle.sets.specs.Set.{on}
 use Rattle.kinds.specs.declared.Side.TheVariants.{Other, Word, Newline}
 use Rattle.meaning.specs.Gap.{Known, byte, edge, unknown}

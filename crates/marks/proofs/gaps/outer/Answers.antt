@@ -9,25 +9,21 @@ use Rattle.marks.proofs.gaps.outer.Goals as goal
 pub overflow_add-result : goal.overflow_add-result
 overflow_add-result c =
     let c-side = c.side-side in
-    let c-start = c.before.before.before.before in
-    omega (arith, c-side.ensures, code-low (byte (side_of (get_or c-start.args.log.now c-start.args.k 0))))
+    omega (arith, c-side.ensures, code-low (byte (side_of (get_or c.args.log.now c.args.k 0))))
 
 pub returns-then-last : goal.returns-then-last
 returns-then-last c =
-    let c-start = c.before.before.before.before in
     let c-side = c.side-side in
     let c-if1 = c.if-last in
-    outer-end c-start.args.log.now c-start.args.k c-start.requires c-side.result c-side.ensures c-start.args.last c-if1.true
+    outer-end c.args.log.now c.args.k c.requires c-side.result c-side.ensures c.args.last c-if1.true
 
 pub overflow_add-result-2 : goal.overflow_add-result-2
 overflow_add-result-2 c =
     let c-side = c.side-side in
-    let c-start = c.before.before.before.before in
-    omega (arith, c-side.ensures, code-low (byte (side_of (get_or c-start.args.log.now c-start.args.k 0))))
+    omega (arith, c-side.ensures, code-low (byte (side_of (get_or c.args.log.now c.args.k 0))))
 
 pub returns : goal.returns
 returns c =
-    let c-start = c.before.before.before.before in
     let c-side = c.side-side in
     let c-if1 = c.if-last in
-    outer-open c-start.args.log.now c-start.args.k c-start.requires c-side.result c-side.ensures c-start.args.last c-if1.false
+    outer-open c.args.log.now c.args.k c.requires c-side.result c-side.ensures c.args.last c-if1.false

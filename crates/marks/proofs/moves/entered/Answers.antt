@@ -6,9 +6,7 @@ use Rattle.marks.proofs.moves.entered.Goals as goal
 
 pub returns : goal.returns
 returns c =
-    let at_only = c.before.before.before.before.before in
-    let at-word = at_only.before.before.before in
-    let a = at-word.args in
-    let front = through a.parts.now a.j 5 a.g at-word.word.ensures at_only.has.ensures at_only.word-2.ensures at_only.only-come.ensures in
+    let a = c.args in
+    let front = through a.parts.now a.j 5 a.g c.word.ensures c.has.ensures c.word-2.ensures c.only-come.ensures in
     let round = through a.parts.now a.j 7 a.g c.word-3.ensures c.has-2.ensures c.word-4.ensures c.only.ensures in
     c.least.ensures ∙ ap₂ (λ (x y : ℕ). min x y) front round

@@ -4,5 +4,4 @@ use Rattle.marks.proofs.moves.has.Goals as goal
 
 pub returns : goal.returns
 returns c =
-    let c-start = c in
-    digit-is c-start.args.mask c-start.args.g
+    digit-is c.args.mask c.args.g

@@ -6,6 +6,5 @@ use Rattle.marks.proofs.moves.put.Goals as goal
 
 pub returns-else-k-s : goal.returns-else-k-s
 returns-else-k-s c =
-    let c-start = c.before in
     let c-if1 = c.if-k-s in
-    sym (set_out c-start.args.s.now c-start.args.k c-start.args.v (omega (arith, c-if1.false)))
+    sym (set_out c.args.s.now c.args.k c.args.v (omega (arith, c-if1.false)))

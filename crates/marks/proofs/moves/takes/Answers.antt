@@ -1,6 +1,5 @@
 -- `takes` meets its contract: it reads one digit of the set.
 use mathlib.Core.Path.{◌≡◌, sym, ap, ◌∙◌}
-use mathlib.Core.Logic.{⊎_elim}
 use mathlib.Core.List.{List}
 use Prim.Native.Nat.{ℕ, ◌+◌, ◌-◌, ◌/◌, ◌%◌, ◌^◌, ◌<◌}
 use native.Mathlib.Omega.{arith}
@@ -11,6 +10,7 @@ use lib.Seq.{get_or-take, get_or-drop}
 use Rattle.sets.specs.Set.{on, has}
 use Rattle.nodes.specs.Invariants.{set_at}
 use Rattle.marks.proofs.moves.takes.Goals as goal
+use Rattle.marks.proofs.moves.takes.Goals.{then-k-lt4, else-k-lt4}
 
 -- a byte in the set that stands before node k
 takes_is : (a : List ℕ) (k from x w : ℕ) → x < 256 → from ≡ k - 4 → w ≡ get_or a (from + x / 64) 0 → eqb (bit_and (w / 2 ^ (x % 64)) 1) 1 ≡ has (set_at a k) x
@@ -23,11 +23,10 @@ takes_is a k from x w lt e f =
 pub overflow_add-from : goal.overflow_add-from
 overflow_add-from c =
     let c-if1 = c.if-k-lt4 in
-    ⊎_elim (λ u. omega (arith, u.0.taken, u.1)) (λ u. omega (arith, u.0.left, u.1)) c-if1.branch
+    elim c-if1.branch [ then-k-lt4 w ↦ omega arith | else-k-lt4 w ↦ omega arith ]
 
 pub returns : goal.returns
 returns c =
-    let c-start = c.before.before.before.before in
     let c-if1 = c.if-k-lt4 in
     let c-word = c.word in
-    takes_is c-start.args.a.now c-start.args.k c-if1.from c-start.args.byte c-word.result (omega arith) (⊎_elim (λ u. omega (arith, u.0.taken, u.1)) (λ u. omega (arith, u.0.left, u.1)) c-if1.branch) c-word.ensures
+    takes_is c.args.a.now c.args.k c-if1.from c.args.byte c-word.result (omega arith) (elim c-if1.branch [ then-k-lt4 w ↦ omega arith | else-k-lt4 w ↦ omega arith ]) c-word.ensures

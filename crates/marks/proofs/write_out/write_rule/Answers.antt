@@ -29,20 +29,14 @@ returns-then-count-gt256 c =
     let a = c.args in
     record { words = length-replicate {A = ℕ} 4096 0; plays = λ few. absurd (too_many a.a.now a.root c.count.result c.count.ensures c.if-count-gt256.true few) }
 
--- from where the rule is not too large
-abbrev roomy : (s : goal.Else-count-gt256) → Room (form_at s.args.a.now s.args.root) 0 0 (replicate 4096 0)
-roomy s =
-    let a = s.args in
-    room a.a.now a.root s.count.result s.count.ensures s.if-count-gt256.false
-
 pub node-piece-requires : goal.node-piece-requires
-node-piece-requires c = roomy c.before
+node-piece-requires c = room c.args.a.now c.args.root c.count.result c.count.ensures c.if-count-gt256.false
 
 pub rows-requires : goal.rows-requires
-rows-requires c = omega (arith, c.node-piece.ensures.size, (roomy c.before.before).positions)
+rows-requires c = omega (arith, c.node-piece.ensures.size, (room c.args.a.now c.args.root c.count.result c.count.ensures c.if-count-gt256.false).positions)
 
 pub returns : goal.returns
 returns c =
     let made = c.node-piece.ensures in
-    let space = roomy c.before.before.before in
+    let space = room c.args.a.now c.args.root c.count.result c.count.ensures c.if-count-gt256.false in
     record { words = made.length ∙ space.words; plays = λ few. plays-of space made c.rows.ensures }
