@@ -33,6 +33,9 @@ LEMMAS = {
     "set_on": ("",),
     "list_on": ("",),
 }
+# A string, which stays, and a comment.
+STRING = re.compile(r'"(?:[^"\\\n]|\\.)*"')
+COMMENT = re.compile(r"(?:--|//)[^\n]*")
 FACTS = {"closes": ("HasClosing", ("demands/specs/Demands.antt", "demands/specs/Alone.antt"))}
 # Names that would fall together with another in snake case.
 OTHERS = {
@@ -64,6 +67,12 @@ def read(path):
         return f.read()
 
 
+def camel(texts):
+    """The words in camel case that stand outside of strings and comments."""
+    code = (COMMENT.sub("", STRING.sub('""', t)) for t in texts)
+    return {w for t in code for w in TOKEN.findall(t) if snake(w) != w}
+
+
 def dashed(root):
     """The names with a dash that specs/ declares, and those of the fields of records."""
     found = set()
@@ -90,6 +99,7 @@ def dashed(root):
 def main(root):
     own = dashed(root)
     text = {path: read(path) for path in files(root, ".rt", ".antt", ".edit")}
+    cased = camel(t for path, t in text.items() if not path.endswith(".edit"))
     # A crate's name.
     if os.path.isdir(f"{root}/crates/regex"):
         subprocess.run(["git", "mv", "crates/regex", "crates/meaning"], cwd=root, check=True)
@@ -115,13 +125,19 @@ def main(root):
                 to = OTHERS[word]
             elif word in own:
                 to = snake(word.replace("-", "_"))
-            elif re.search(r"[a-z0-9][A-Z]", word):
+            elif word in cased:
                 to = snake(word)
             if before not in '."' and path.endswith(".antt") or to != word:
                 came_from.setdefault(to, set()).add(word)
             return to
 
-        out = TOKEN.sub(turned, t) if not path.endswith(".edit") else t
+        strings = [m.span() for m in STRING.finditer(t)]
+        inside = {i for a, b in strings for i in range(a, b)} if not path.endswith(".edit") else set()
+
+        def outside(m):
+            return m[0] if m.start() in inside else turned(m)
+
+        out = TOKEN.sub(outside, t) if not path.endswith(".edit") else t
         out = re.sub(r"\b(Rattle[.·])regex(?=[.·])", r"\1meaning", out)
         out = re.sub(r"`regex::", "`meaning::", out)
         for to, words in came_from.items():

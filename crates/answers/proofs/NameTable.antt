@@ -2,7 +2,7 @@
 -- not, and a class of it alone has exactly the bytes of its kind. What the table must have for that
 -- is computed over all its rows.
 use mathlib.Core.Path.{◌≡◌, refl, sym, ap}
-use mathlib.Core.Bool.{Bool, true, false, cond, not, ◌&&◌, and-eq-true_iff, true≢false}
+use mathlib.Core.Bool.{Bool, true, false, cond, ◌&&◌, and-eq-true_iff, true≢false}
 use mathlib.Core.List.{List, [], ◌∷◌, ◌++◌}
 use Prim.Native.Nat.{ℕ, zero, suc, ◌+◌, ◌<◌}
 use native.Mathlib.Omega.{arith}
@@ -10,10 +10,9 @@ use borrow.Author.Tests.{eqb-true, eq-eqb, ne_eqb}
 use lib.Dec.{eqb}
 use lib.ListN.{length, get_or}
 use Rattle.sets.specs.Set.{on, has, word_of, set_of, empty_set, union_of, complement_of}
-use Rattle.kinds.specs.Kind.{is_kind, is_digit, is_lower, is_upper, is_word, is_space, is_alpha, is_alnum, is_ascii, is_blank, is_cntrl, is_graph, is_print}
+use Rattle.kinds.specs.Kind.{is_digit, is_lower, is_upper, is_word, is_space, is_alpha, is_alnum, is_ascii, is_blank, is_cntrl, is_graph, is_print}
 use Rattle.kinds.specs.Kind.{is_punct, is_xdigit}
-use Rattle.kinds.specs.Case.{other_case, case_closed, uncased}
-use Rattle.kinds.specs.declared.Kind.{Kind}
+use Rattle.kinds.specs.Case.{other_case, case_closed}
 use Rattle.kinds.specs.declared.Kind.TheVariants.{Xdigit}
 use Rattle.atoms.specs.Fault.{lower}
 use Rattle.atoms.specs.Raw.{any_raw, with_raw}

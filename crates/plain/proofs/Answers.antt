@@ -1,8 +1,8 @@
 -- The answer: by the checks before the pattern is read, then by the reader, then by the run.
 use mathlib.Core.Path.{◌≡◌, refl, sym, subst, ap, ap₂, ◌∙◌}
 use mathlib.Core.Bool.{Bool, true, false, cond, not, ◌&&◌}
-use mathlib.Core.List.{List, [], ◌∷◌, ◌++◌, map}
-use Prim.Native.Nat.{ℕ, min, ◌≤◌, ◌<◌}
+use mathlib.Core.List.{List, ◌++◌, map}
+use Prim.Native.Nat.{ℕ, min, ◌≤◌}
 use native.Mathlib.Omega.{arith}
 use borrow.Author.Tests.{ltb-false}
 use lib.Bits.{bit_and}
@@ -19,10 +19,10 @@ use Rattle.pattern.specs.Windows.{windows_of, empty_window, size_fault as patter
 use Rattle.pattern.specs.declared.Reading.{Reading}
 use Rattle.pattern.specs.declared.bounds.Bounds.{Bounds}
 use Rattle.pattern.proofs.Answers.{accepted-tree, Accepted}
-use Rattle.plain.specs.Run.{Hit, closed, kept, Lent, lent}
-use Rattle.plain.specs.Answer.{Question, known_flags, has_single, has_leftmost, longest_log, least_space, verdict, rule_of, Reports, refusal, Answered, Matches}
+use Rattle.plain.specs.Run.{Hit, closed, kept, Lent}
+use Rattle.plain.specs.Answer.{Question, known_flags, has_single, has_leftmost, longest_log, least_space, verdict, rule_of, refusal, Answered, Matches}
 use Rattle.nodes.specs.Invariants.{form_at}
-use Rattle.plain.specs.Invariants.{choice_of, Slots, Asks, Delivered, flag_fault, size_fault, first_fault, Checked, wanted_by}
+use Rattle.plain.specs.Invariants.{choice_of, Asks, Delivered, flag_fault, size_fault, first_fault, Checked, wanted_by}
 use Rattle.plain.specs.declared.Matched.{Matched}
 use Rattle.plain.specs.declared.run.Wanted.{Wanted}
 use Rattle.plain.proofs.Listed.{the-list, is-ordered, its-offsets, its-starts, its-length}

@@ -5,21 +5,21 @@ use mathlib.Core.Logic.{◌⊎◌, inl, inr, ◌↔◌}
 use mathlib.Core.Bool.{Bool, true, false, cond, not, ◌&&◌}
 use mathlib.Core.List.Memᴰ
 use mathlib.Core.List.{List, [], ◌∷◌, ◌++◌, map, Memᴰ}
-use Prim.Native.Nat.{ℕ, zero, suc, ◌+◌, ◌-◌, ◌≤◌, ◌<◌}
+use Prim.Native.Nat.{ℕ, zero, suc, ◌≤◌, ◌<◌}
 use native.Mathlib.Omega.{arith}
-use native.Mathlib.Decide.{dec_lt, dec_le, ℕ_discrete}
+use native.Mathlib.Decide.{dec_lt, dec_le}
 use lib.Dec.{T}
 use lib.ListN.{length, take, drop, length-drop}
 use Rattle.meaning.specs.Form.{Form, write, positions}
 use Rattle.meaning.specs.Gap.{last_line}
 use Rattle.meaning.specs.Rule.{Rule, Assertion, ByteSet}
-use Rattle.meaning.specs.Ordered.{closing_moment, Settled, Falls, Earlier, Hides, Stays, StartIs, Entry, entry, Before, Rising, Owed, IsList, Report, report, Ordered}
-use Rattle.meaning.proofs.Logic.{and_T, dec-T}
+use Rattle.meaning.specs.Ordered.{Settled, Falls, Earlier, Stays, StartIs, Entry, entry, Before, Rising, Owed, IsList, Report, report, Ordered}
+use Rattle.meaning.proofs.Logic.{and_T}
 use Rattle.meaning.proofs.Base.{more_bytes}
 use Rattle.meaning.proofs.Enumerated.{Lists, append-rising, moment, offset, id, start}
 use Rattle.meaning.proofs.OneList.{one-start, some-start}
 use Rattle.meaning.proofs.Moments.{Moment, within, stays-settled, falls_at, falls-after, falls-when}
-use Rattle.plain.specs.Run.{own_at, late_at, line_at, end_at, Hit, shown, inside, Choice, pick, up_to, closed, kept}
+use Rattle.plain.specs.Run.{own_at, late_at, line_at, end_at, Hit, shown, inside, Choice, up_to, closed, kept}
 use Rattle.plain.proofs.Logs.{own-iff, own_is, late-iff, late_is, line-iff, line-is, end-iff, end_is}
 
 -- ---- lists of entries

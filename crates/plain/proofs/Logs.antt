@@ -3,26 +3,24 @@
 -- specs/Run.antt are those of the text that is seen at a moment, since what is known at the gaps
 -- before is the same. Assumes nothing.
 use mathlib.Core.Path.{◌≡◌, refl, sym, subst, subst₂, ap, ap₂, ◌∙◌, fun_ext}
-use mathlib.Core.Logic.{◌⊎◌, inl, inr, ◌↔◌}
+use mathlib.Core.Logic.{◌↔◌}
 use mathlib.Core.Bool.{Bool, true, false, cond, ◌&&◌}
 use mathlib.Core.List.{List, [], ◌∷◌}
-use Prim.Native.Nat.{ℕ, zero, suc, ◌+◌, ◌-◌, ◌≤◌, ◌<◌}
+use Prim.Native.Nat.{ℕ, zero, suc, ◌+◌, ◌≤◌, ◌<◌}
 use native.Mathlib.Omega.{arith}
-use native.Mathlib.Decide.{dec_lt}
 use borrow.Author.Tests.{lt-ltb}
-use lib.Dec.{T, eqb, ltb, leb, leb→le, le→leb}
-use lib.ListN.{length, get_or, take, drop, replicate, length-replicate, get_or-replicate, length-drop, drop_of_length-le}
-use lib.Seq.{length-take-le, take_all, take-take, drop-cons, drop-length, get_or-take}
+use lib.Dec.{T, eqb, leb, leb→le, le→leb}
+use lib.ListN.{length, get_or, take, drop, length-replicate, get_or-replicate, length-drop, drop_of_length-le}
+use lib.Seq.{length-take-le, take_all, take-take, drop-cons, get_or-take}
 use Rattle.sets.specs.Set.{has}
 use Rattle.kinds.specs.Side.{side_of}
 use Rattle.meaning.specs.Tree.{Text, Means}
-use Rattle.meaning.specs.Form.{Form, Match, write, positions}
+use Rattle.meaning.specs.Form.{Form, write, positions}
 use Rattle.meaning.specs.Gap.{last_line, Known, byte, edge, unknown, known_before, known_after}
-use Rattle.meaning.specs.Rule.{Rule, Assertion, world, holds, ByteSet, stream}
+use Rattle.meaning.specs.Rule.{Rule, Assertion, world, ByteSet, stream}
 use Rattle.meaning.specs.Ordered.{closing_moment, end_known, seen, SettledFrom, Settled, StartIs}
 use Rattle.meaning.proofs.Local.{reach-up}
 use Rattle.meaning.proofs.Logic.{and_T}
-use Rattle.meaning.proofs.Range.{Inside}
 use Rattle.meaning.proofs.Written.{written, unwritten}
 use Rattle.meaning.proofs.Base.{more_bytes, next_known}
 use Rattle.meaning.proofs.Moments.{before-closing}

@@ -3,14 +3,14 @@
 use mathlib.Core.Path.{◌≡◌, refl, sym, ap, ap₂, ◌∙◌}
 use mathlib.Core.Bool.{Bool, true, false, true≢false, cond, not, ◌&&◌}
 use mathlib.Core.List.{List, [], ◌∷◌, ◌++◌, append-nil, map}
-use Prim.Native.Nat.{ℕ, zero, suc, ◌+◌, ◌≤◌, ◌<◌}
+use Prim.Native.Nat.{ℕ, suc, ◌+◌, ◌≤◌, ◌<◌}
 use native.Mathlib.Omega.{arith}
 use lib.Dec.{ltb}
-use lib.ListN.{length, set, take, drop, length-append, length-set, length-drop, length-map}
+use lib.ListN.{length, set, drop, length-append, length-set, length-drop, length-map}
 use Rattle.sets.specs.Set.{as_one}
 use Rattle.plain.specs.Run.{Hit, pick, shown, inside, kept, Lent, lent, filled}
 use Rattle.pattern.specs.Windows.{windows_of}
-use Rattle.plain.specs.Invariants.{choice_of, due, writes, put, Slots, Alike, Reported, Delivered, Goes, Both}
+use Rattle.plain.specs.Invariants.{choice_of, due, writes, put, Slots, Alike, Reported, Delivered, Both}
 use Rattle.plain.specs.declared.run.Wanted.{Wanted}
 
 -- the next slot of one list is written

@@ -1,18 +1,17 @@
 -- A log, byte by byte: what the code keeps is what the definitions of specs/Run.antt say; and there
 -- are never more reports than offsets.
-use mathlib.Core.Path.{◌≡◌, refl, sym, ap, ap₂, ◌∙◌}
+use mathlib.Core.Path.{◌≡◌, refl, ap, ap₂, ◌∙◌}
 use mathlib.Core.Bool.{Bool, true, false, cond, not, ◌&&◌}
 use mathlib.Core.List.{List, [], ◌∷◌, ◌++◌}
-use Prim.Native.Nat.{ℕ, zero, suc, ◌+◌, min, ◌≤◌, ◌<◌}
+use Prim.Native.Nat.{ℕ, zero, suc, ◌+◌, ◌≤◌, ◌<◌}
 use native.Mathlib.Omega.{arith}
 use lib.Dec.{eqb}
 use lib.ListN.{length, get_or, replicate, length-append}
 use Rattle.sets.specs.Set.{as_one}
-use Rattle.meaning.specs.Form.{Form, eps, take, check, seq, alt, plus, opt, positions}
-use Rattle.meaning.specs.Gap.{byte, edge, unknown, known_before}
-use Rattle.meaning.specs.Rule.{Assertion, world, ByteSet}
+use Rattle.meaning.specs.Form.{eps, take, check, seq, alt, plus, opt, positions}
+use Rattle.meaning.specs.Rule.{Assertion, world}
 use Rattle.meaning.specs.Automaton.{null}
-use Rattle.marks.specs.Marks.{none, when, ends, moved}
+use Rattle.marks.specs.Marks.{none, ends, moved}
 use Rattle.marks.specs.Gaps.{inner_world, outer_world, taken}
 use Rattle.plain.specs.Run.{before, after, marks_at, own_at, late_at, line_at, end_at, Hit, shown, inside, Choice, pick, up_to, closed, Lent}
 use Rattle.pattern.specs.Windows.{windows_of}

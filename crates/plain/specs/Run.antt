@@ -1,7 +1,7 @@
 -- A log, byte by byte: the marks after each byte, the least starts with which the rule can end at a
 -- gap as more is known of it, and what is reported. Answer gives the reports by meaning; this is
 -- how they are worked out. Assumes nothing: these are definitions.
-use Rattle.std.specs.Prelude.{Bool, true, false, cond, not, ◌&&◌, ◌||◌, List, [], ◌∷◌, ◌++◌, map, ℕ, zero, suc, ◌+◌, ◌*◌, ◌-◌, eqb, ltb, leb, length, get_or, take, drop, replicate}
+use Rattle.std.specs.Prelude.{Bool, true, false, cond, not, ◌&&◌, List, [], ◌∷◌, ◌++◌, map, ℕ, zero, suc, ◌+◌, eqb, leb, length, get_or, take, drop, replicate}
 use Rattle.meaning.specs.Form.{Form}
 use Rattle.meaning.specs.Gap.{Known, edge, unknown}
 use Rattle.meaning.specs.Rule.{Assertion, world, ByteSet, Windows}

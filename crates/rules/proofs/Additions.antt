@@ -26,7 +26,7 @@ use Rattle.automaton.specs.Parts.{form_parts}
 use Rattle.automaton.specs.declared.Parts.{Parts}
 use Rattle.automaton.proofs.Padded.{parts_whole}
 use Rattle.rules.specs.Gaps.{holding_at, parts_at}
-use Rattle.rules.specs.Words.{place_of, needs_start, with_window, added, added_in}
+use Rattle.rules.specs.Words.{place_of, needs_start, with_window, added_in}
 use Rattle.rules.specs.Add.{Addition, reading_of, answer, has_id, add_answer, with_rule, add_words}
 use Rattle.rules.specs.Additions.{Narrow, Accepted, size, used, taken, next_answer, accepted_of, with_new, after_next, accepted_after}
 use Rattle.rules.specs.Encoded.{add_all, encode}

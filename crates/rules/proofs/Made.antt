@@ -7,10 +7,10 @@ use mathlib.Core.List.{List, [], ◌∷◌}
 use Prim.Native.Nat.{ℕ, zero, suc, ◌+◌, ◌-◌, ◌*◌, ◌/◌, ◌%◌, ◌≤◌, ◌<◌}
 use native.Mathlib.Decide.{dec_lt}
 use native.Mathlib.Omega.{arith}
-use lib.Dec.{eqb, ltb}
+use lib.Dec.{ltb}
 use lib.ListN.{length, get_or}
 use lib.Seq.{ext_get_or}
-use borrow.Author.Tests.{lt-ltb, le-ltb, le-leb, lt-leb, eq-eqb, ne_eqb}
+use borrow.Author.Tests.{lt-ltb, le-ltb, ne_eqb}
 use Rattle.sets.specs.Set.{has, set_of, empty_set, any, as_one}
 use Rattle.sets.proofs.Laws.{set_of-ext, any-ext}
 use Rattle.table.specs.Layout.{table_words, max_rules, max_positions, bytes, rules_of, positions_of, leftmosts_at, keepers_at, first_at, id_at, opener_at, owner_at, last_at, lates_at, follow_at, takers_at, row_has}

@@ -1,8 +1,8 @@
 -- The table with the new rule's windows put in, and no rule yet: five regions of words change,
 -- which nothing but the windows is read from. So it passes the test alike, and describes the same
 -- automaton but for windows.
-use mathlib.Core.Path.{◌≡◌, refl, sym, ap, ap₂, ◌∙◌}
-use mathlib.Core.Bool.{Bool, true, false, cond, not, ◌&&◌, ◌||◌}
+use mathlib.Core.Path.{◌≡◌, sym, ap, ap₂, ◌∙◌}
+use mathlib.Core.Bool.{Bool, cond, not, ◌&&◌, ◌||◌}
 use mathlib.Core.List.{List, [], ◌∷◌}
 use Prim.Native.Nat.{ℕ, ◌+◌, ◌-◌, ◌^◌, ◌≤◌, ◌<◌}
 use native.Mathlib.Decide.{dec_lt, ℕ_discrete}
@@ -14,7 +14,7 @@ use Rattle.sets.specs.Set.{on, any, count}
 use Rattle.sets.proofs.Laws.{any-ext, count-ext}
 use Rattle.sets.proofs.Digits.{on-word_of}
 use Rattle.table.specs.Layout.{table_words, max_rules, max_positions, rules_of, positions_of, id_at, id_word, windowed_at, windowed_of, lowest_at, highest_at, lengths_at, lengths_of, shortest_at}
-use Rattle.table.specs.Automaton.{Automaton, automaton}
+use Rattle.table.specs.Automaton.{automaton}
 use Rattle.table.proofs.Over.{length_over, over-in, drop-over, over-ext}
 use Rattle.table.proofs.Local.{NoWindow, with_windows, but-windows, kept}
 use Rattle.table.proofs.Test.{Passes}

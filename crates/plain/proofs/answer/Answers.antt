@@ -7,23 +7,12 @@ use Rattle.plain.proofs.answer.Goals as goal
 
 pub returns-then-reading-ne0 : goal.returns-then-reading-ne0
 returns-then-reading-ne0 c =
-    let at-if1 = c.before in
-    let at_read = at-if1.before.before in
-    let start = at_read.before.before.before.before.before in
-    unread-answer (question start.args.pattern.now start.args.flags start.args.bounds start.args.log.now) (lent start.args.offsets.now start.args.starts.now) start.requires at_read.read-reading.result at_read.read-reading.ensures at-if1.if-reading-ne0.true c.refused.ensures
+    unread-answer (question c.args.pattern.now c.args.flags c.args.bounds c.args.log.now) (lent c.args.offsets.now c.args.starts.now) c.requires c.read-reading.result c.read-reading.ensures c.if-reading-ne0.true c.refused.ensures
 
 pub whole-count-requires : goal.whole-count-requires
 whole-count-requires c =
-    let at-if1 = c.before.before.before.before.before in
-    let at_read = at-if1.before.before in
-    let start = at_read.before.before.before.before.before in
-    asks (question start.args.pattern.now start.args.flags start.args.bounds start.args.log.now) (lent start.args.offsets.now start.args.starts.now) start.requires at_read.read-reading.result at_read.read-reading.ensures at-if1.if-reading-ne0.false
+    asks (question c.args.pattern.now c.args.flags c.args.bounds c.args.log.now) (lent c.args.offsets.now c.args.starts.now) c.requires c.read-reading.result c.read-reading.ensures c.if-reading-ne0.false
 
 pub returns : goal.returns
 returns c =
-    let at-whole = c.before.before.before.before in
-    let at-wanted = at-whole.before.before.before.before in
-    let at-if1 = at-wanted.before.before in
-    let at_read = at-if1.before.before in
-    let start = at_read.before.before.before.before.before in
-    run-answer (question start.args.pattern.now start.args.flags start.args.bounds start.args.log.now) (lent start.args.offsets.now start.args.starts.now) start.requires at_read.read-reading.result at_read.read-reading.ensures at-if1.if-reading-ne0.false (asked refl at-wanted.wanted-wanted.ensures) at-whole.whole-count.ensures refl
+    run-answer (question c.args.pattern.now c.args.flags c.args.bounds c.args.log.now) (lent c.args.offsets.now c.args.starts.now) c.requires c.read-reading.result c.read-reading.ensures c.if-reading-ne0.false (asked refl c.wanted-wanted.ensures) c.whole-count.ensures refl

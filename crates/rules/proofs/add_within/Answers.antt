@@ -7,7 +7,6 @@ use Prim.Native.Nat.{ℕ, ◌+◌, ◌≤◌, ◌<◌}
 use native.Mathlib.Omega.{arith}
 use lib.ListN.{length}
 use Rattle.table.specs.Layout.{table_words, max_rules, max_positions, rules_of, positions_of}
-use Rattle.table.proofs.Test.{Passes}
 use Rattle.meaning.specs.Form.{write, positions}
 use Rattle.nodes.specs.Nodes.{tree_at}
 use Rattle.pattern.specs.declared.Reading.{Reading}
@@ -18,7 +17,6 @@ use Rattle.automaton.specs.Parts.{parts_of}
 use Rattle.rules.specs.Gaps.{parts_at}
 use Rattle.rules.specs.Words.{added}
 use Rattle.rules.specs.Add.{Addition, addition_in}
-use Rattle.rules.specs.Invariants.{first_fault}
 use Rattle.rules.proofs.Answer.{early, unfit, passed-table, passed-few, unread, too_many, long-room, few-room, fits-room, same-positions, accepted}
 use Rattle.rules.proofs.add_within.Goals as goal
 
@@ -117,4 +115,4 @@ returns c =
     accepted a.words.now (new a.id a.flags a.bounds a.pattern.now) checked sized r c.read-reading.ensures c.if-reading-ne0.false
     c.if-words-reading-gt-MAX_POSITIONS.false c.add_rule.new.words
     (c.add_rule.ensures ∙ ap₂ (λ (s : List ℕ) (k : Bool). added s a.id a.flags k (parts_at (tree_at r.nodes r.root) (positions_of s)))
-        c.put_window.ensures c.needs_start-keeping.ensures)
+    c.put_window.ensures c.needs_start-keeping.ensures)

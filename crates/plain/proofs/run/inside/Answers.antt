@@ -7,19 +7,16 @@ use Rattle.plain.proofs.run.inside.Goals as goal
 
 pub returns-then-end-bounds : goal.returns-then-end-bounds
 returns-then-end-bounds c =
-    let c-start = c.before.before.before in
     let c-if1 = c.if-end-bounds in
-    out-of-bounds (windows_of c-start.args.bounds) c-start.args.e c-start.args.x c-if1.true
+    out-of-bounds (windows_of c.args.bounds) c.args.e c.args.x c-if1.true
 
 pub returns-then-x-end : goal.returns-then-x-end
 returns-then-x-end c =
-    let c-start = c.before.before.before.before in
     let c-if2 = c.if-x-end in
-    sym (outside (windows_of c-start.args.bounds) c-start.args.e c-start.args.x (omega (arith, c-if2.true)))
+    sym (outside (windows_of c.args.bounds) c.args.e c.args.x (omega (arith, c-if2.true)))
 
 pub returns : goal.returns
 returns c =
-    let c-start = c.before.before.before.before.before in
     let c-if1 = c.if-end-bounds in
     let c-if2 = c.if-x-end in
-    in_bounds (windows_of c-start.args.bounds) c-start.args.e c-start.args.x c-if1.false (omega (arith, c-if2.false))
+    in_bounds (windows_of c.args.bounds) c.args.e c.args.x c-if1.false (omega (arith, c-if2.false))

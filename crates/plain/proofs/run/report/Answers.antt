@@ -7,29 +7,25 @@ use Rattle.plain.proofs.run.report.Goals as goal
 
 pub bounds-offsets-count : goal.bounds-offsets-count
 bounds-offsets-count c =
-    let c-start = c.before.before.before.before.before in
     let c-inside = c.inside in
     let c-if1 = c.if-due-wanted in
-    omega (arith, (report-room c-start.args.wanted c-start.args.new c-start.args.e c-start.args.x c-start.args.count (lent c-start.args.offsets.now c-start.args.starts.now) c-inside.ensures c-if1.true c-start.requires).offsets)
+    omega (arith, (report-room c.args.wanted c.args.new c.args.e c.args.x c.args.count (lent c.args.offsets.now c.args.starts.now) c-inside.ensures c-if1.true c.requires).offsets)
 
 pub bounds-starts-count : goal.bounds-starts-count
 bounds-starts-count c =
-    let c-start = c.before.before.before.before.before.before in
     let c-inside = c.inside in
     let c-if1 = c.if-due-wanted in
-    omega (arith, (report-room c-start.args.wanted c-start.args.new c-start.args.e c-start.args.x c-start.args.count (lent c-start.args.offsets.now c-start.args.starts.now) c-inside.ensures c-if1.true c-start.requires).starts)
+    omega (arith, (report-room c.args.wanted c.args.new c.args.e c.args.x c.args.count (lent c.args.offsets.now c.args.starts.now) c-inside.ensures c-if1.true c.requires).starts)
 
 pub returns-then-due-wanted : goal.returns-then-due-wanted
 returns-then-due-wanted c =
-    let c-start = c.before.before.before.before.before.before in
     let c-inside = c.inside in
     let c-if1 = c.if-due-wanted in
-    let c-start-of = c.start_of_lem in
-    report-made c-start.args.wanted c-start.args.new c-start.args.e c-start.args.x c-start.args.count (lent c-start.args.offsets.now c-start.args.starts.now) c-inside.ensures c-if1.true c-start-of.ensures (omega arith)
+    let c-start-of = c.start_of in
+    report-made c.args.wanted c.args.new c.args.e c.args.x c.args.count (lent c.args.offsets.now c.args.starts.now) c-inside.ensures c-if1.true c-start-of.ensures (omega arith)
 
 pub returns : goal.returns
 returns c =
-    let c-start = c.before.before.before.before.before in
     let c-inside = c.inside in
     let c-if1 = c.if-due-wanted in
-    report-not c-start.args.wanted c-start.args.new c-start.args.e c-start.args.x c-start.args.count (lent c-start.args.offsets.now c-start.args.starts.now) c-inside.ensures c-if1.false
+    report-not c.args.wanted c.args.new c.args.e c.args.x c.args.count (lent c.args.offsets.now c.args.starts.now) c-inside.ensures c-if1.false

@@ -13,38 +13,30 @@ use Rattle.plain.proofs.run.run.Goals as goal
 pub loop-k-init : goal.loop-k-init
 unfolding own_at up_to
 loop-k-init c =
-    let c-start = c.before.before.before.before.before in
-    (omega arith, c-start.requires.1, refl, record { offsets = refl; starts = refl }, delivered-none c-start.args.wanted (lent c-start.args.offsets.now c-start.args.starts.now))
+    (omega arith, c.requires.1, refl, record { offsets = refl; starts = refl }, delivered-none c.args.wanted (lent c.args.offsets.now c.args.starts.now))
 
 pub step-t-requires : goal.step-t-requires
 step-t-requires c =
-    let at-loop = c.before.before.before.before in
-    let start = at-loop.before.before.before.before.before.before in
-    let inv = at-loop.loop-k.invariant in
-    (runs_on start.requires.0 (omega (arith, start.requires.0.within)) inv.3, record { marks = inv.1; own = inv.2; few = delivered-few inv.4 })
+    let inv = c.loop-k.invariant in
+    (runs_on c.requires.0 (omega (arith, c.requires.0.within)) inv.3, record { marks = inv.1; own = inv.2; few = delivered-few inv.4 })
 
 pub loop-k-preserved : goal.loop-k-preserved
 loop-k-preserved c =
-    let at-step = c.before.before.before.before in
-    let at-loop = at-step.before.before.before.before.before in
-    let start = at-loop.before.before.before.before.before.before in
-    let inv = at-loop.loop-k.invariant in
-    let e : suc at-loop.loop-k.k ≡ at-loop.loop-k.k + 1 = omega arith in
-    let f = form_at start.args.a.now start.args.root in
-    let log = start.args.log.now in
-    let d = delivered-as (ap (up_to (choice_of start.args.wanted) log f) e) (at-step.step-t.ensures.reports (lent start.args.offsets.now start.args.starts.now) (alike-back inv.3) inv.4) in
-    (omega arith, at-step.step-t.ensures.marks ∙ ap (marks_at log f) e, at-step.step-t.ensures.own ∙ ap (own_at log f) e, up-alike start.requires.0 (omega (arith, start.requires.0.within)) d, d)
+    let inv = c.loop-k.invariant in
+    let e : suc c.loop-k.k ≡ c.loop-k.k + 1 = omega arith in
+    let f = form_at c.args.a.now c.args.root in
+    let log = c.args.log.now in
+    let d = delivered-as (ap (up_to (choice_of c.args.wanted) log f) e) (c.step-t.ensures.reports (lent c.args.offsets.now c.args.starts.now) (alike-back inv.3) inv.4) in
+    (omega arith, c.step-t.ensures.marks ∙ ap (marks_at log f) e, c.step-t.ensures.own ∙ ap (own_at log f) e, up-alike c.requires.0 (omega (arith, c.requires.0.within)) d, d)
 
 pub returns : goal.returns
 returns c =
-    let at-loop = c.before in
-    let start = at-loop.before.before.before.before.before.before in
-    let inv = at-loop.loop-k.invariant in
-    let e : at-loop.loop-k.k ≡ start.args.n = omega arith in
-    let f = form_at start.args.a.now start.args.root in
-    let log = start.args.log.now in
+    let inv = c.loop-k.invariant in
+    let e : c.loop-k.k ≡ c.args.n = omega arith in
+    let f = form_at c.args.a.now c.args.root in
+    let log = c.args.log.now in
     record {
       marks = inv.1 ∙ ap (marks_at log f) e;
       own = inv.2 ∙ ap (own_at log f) e;
-      reports = delivered-as (ap (up_to (choice_of start.args.wanted) log f) e) inv.4;
+      reports = delivered-as (ap (up_to (choice_of c.args.wanted) log f) e) inv.4;
     }

@@ -28,8 +28,8 @@ loop-a-preserved c =
     let f = digit a.k a.new a.old in
     let asked = c.digit_at in
     elim c.if-digit_at.branch [
-      then-digit_at w ↦ (omega arith, w.found-is ∙ ap₂ bit_or l.invariant.1 (shl_one l.a (omega arith)) ∙ places-hit f l.a (omega arith) (sym asked.ensures ∙ w.if-digit_at.true))
-    | else-digit_at w ↦ (omega arith, w.found-is ∙ l.invariant.1 ∙ places-miss f l.a (sym asked.ensures ∙ w.if-digit_at.false))
+      | then-digit_at w ↦ (omega arith, w.found-is ∙ ap₂ bit_or l.invariant.1 (shl_one l.a (omega arith)) ∙ places-hit f l.a (omega arith) (sym asked.ensures ∙ w.if-digit_at.true))
+      | else-digit_at w ↦ (omega arith, w.found-is ∙ l.invariant.1 ∙ places-miss f l.a (sym asked.ensures ∙ w.if-digit_at.false))
     ]
 
 pub returns : goal.returns

@@ -19,8 +19,8 @@ loop-a-preserved c =
     let c-start = c.before.before.before.before in
     let c-loop = c.loop-a in
     elim c.if-words-a.branch [
-      then-words-a w ↦ (omega arith, omega arith, w.k-is ∙ place-hit c-start.args.words.now c-start.args.id c-loop.a c-loop.k c-loop.invariant.2 w.if-words-a.true)
-    | else-words-a w ↦ (omega arith, omega arith, w.k-is ∙ place-miss c-start.args.words.now c-start.args.id c-loop.a c-loop.k c-loop.invariant.2 w.if-words-a.false)
+      | then-words-a w ↦ (omega arith, omega arith, w.k-is ∙ place-hit c-start.args.words.now c-start.args.id c-loop.a c-loop.k c-loop.invariant.2 w.if-words-a.true)
+      | else-words-a w ↦ (omega arith, omega arith, w.k-is ∙ place-miss c-start.args.words.now c-start.args.id c-loop.a c-loop.k c-loop.invariant.2 w.if-words-a.false)
     ]
 
 pub returns : goal.returns

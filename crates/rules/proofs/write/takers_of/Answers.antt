@@ -30,8 +30,8 @@ loop-i-preserved c =
     let i = c-loop.i in
     let test = sym (c-contains.ensures ∙ ap (λ (l : List ℕ). has l x) c-row.ensures ∙ has-set_of (row_has takes (i * 4)) x (omega arith)) in
     elim c.if-contains.branch [
-      then-contains w ↦ (omega arith, w.s-is ∙ w.insert-r.ensures ∙ ap (λ (r : List ℕ). inserted r (n + i)) c-loop.invariant.1 ∙ takers-hit takes n x i (test ∙ w.if-contains.true))
-    | else-contains w ↦ (omega arith, w.s-is ∙ c-loop.invariant.1 ∙ takers-miss takes n x i (test ∙ w.if-contains.false))
+      | then-contains w ↦ (omega arith, w.s-is ∙ w.insert-r.ensures ∙ ap (λ (r : List ℕ). inserted r (n + i)) c-loop.invariant.1 ∙ takers-hit takes n x i (test ∙ w.if-contains.true))
+      | else-contains w ↦ (omega arith, w.s-is ∙ c-loop.invariant.1 ∙ takers-miss takes n x i (test ∙ w.if-contains.false))
     ]
 
 pub returns : goal.returns
