@@ -7,13 +7,12 @@ use Prim.Native.Nat.{ℕ, ◌+◌, ◌*◌, ◌<◌, ◌≤◌}
 use native.Mathlib.Omega.{arith}
 use lib.Dec.{ltb}
 use lib.ListN.{length, get_or}
-use borrow.Author.Tests.{lt-ltb, le-ltb, ltb-false, le-leb, eqb-true, not-true, not-false}
+use borrow.Author.Tests.{lt-ltb, le-ltb, ltb-false, eqb-true, not-true, not-false}
 use Rattle.sets.specs.Set.{on, has, any}
 use Rattle.sets.proofs.Laws.{any_none}
-use Rattle.table.specs.Layout.{table_words, max_rules, max_positions, rules_of}
+use Rattle.table.specs.Layout.{max_rules, max_positions, rules_of}
 use Rattle.table.specs.Table.{is_table}
 use Rattle.table.specs.Automaton.{Automaton, automaton}
-use Rattle.table.proofs.Test.{passes}
 use Rattle.stream.specs.declared.Stream.{Stream}
 use Rattle.stream.specs.Valid.{stream_limit, sound}
 use Rattle.stream.specs.Calls.{space_number}

@@ -2,14 +2,13 @@
 use mathlib.Core.Path.{◌≡◌, refl, sym, ap, ap₂, ◌∙◌}
 use mathlib.Core.Bool.{Bool, true, false, true≢false, cond, not, ◌&&◌, ◌||◌}
 use mathlib.Core.List.{List}
-use Prim.Native.Nat.{ℕ, ◌<◌, ◌≤◌}
+use Prim.Native.Nat.{ℕ, ◌<◌}
 use native.Mathlib.Nat.{zero-add}
-use native.Mathlib.Omega.{arith}
 use lib.Bits.{bit_and}
 use lib.Dec.{eqb, ltb}
-use lib.ListN.{length, get_or, replicate}
+use lib.ListN.{length, replicate}
 use borrow.Author.Tests.{eqb-true, not-true}
-use Rattle.sets.specs.Set.{on, has, any, is_empty, word_of}
+use Rattle.sets.specs.Set.{on, has, any, is_empty}
 use Rattle.sets.proofs.Digits.{on_and, on-zero, on-word_of}
 use Rattle.sets.proofs.Laws.{any_none, has-intersection}
 use Rattle.kinds.specs.declared.Side.{Side}
@@ -25,7 +24,7 @@ use Rattle.stream.specs.Byte.{next_live, next_pending}
 use Rattle.traced.specs.declared.Starts.{Starts}
 use Rattle.traced.specs.declared.Traced.{Traced}
 use Rattle.traced.specs.Byte.{keeping, counted, pending_long, pairs_next, next_starts}
-use Rattle.traced.specs.Invariants.{at, zeros, RuleStarts, InOrder}
+use Rattle.traced.specs.Invariants.{zeros, RuleStarts, InOrder}
 
 -- lists of which each number is the same
 pub list_ext : (n : ℕ) (f g : ℕ → ℕ) → ((q : ℕ) → q < n → f q ≡ g q) → list_from 0 n f ≡ list_from 0 n g

@@ -1,32 +1,28 @@
 -- The reports of a closing, and what an accepted call gives.
-use mathlib.Core.Path.{◌≡◌, refl, sym, ap, ap₂, subst, ◌∙◌}
-use mathlib.Core.Bool.{Bool, true, false, cond, not, ◌&&◌, ◌||◌, and-eq-true_iff}
+use mathlib.Core.Path.{◌≡◌, refl, sym, ap, subst, ◌∙◌}
+use mathlib.Core.Bool.{Bool, true, false, cond, not, and-eq-true_iff}
 use mathlib.Core.List.{List}
 use Prim.Native.Nat.{ℕ, ◌+◌, ◌*◌, ◌-◌, ◌^◌, ◌<◌, ◌≤◌}
-use native.Mathlib.Nat.{zero-add, lt_of_le_of_lt, le_trans}
+use native.Mathlib.Nat.{zero-add, le_trans}
 use native.Mathlib.Omega.{arith}
 use lib.Bits.{bit_and}
-use lib.Dec.{eqb, ltb}
 use lib.ListN.{length, get_or}
 use borrow.Author.Tests.{eq-eqb, ne_eqb, ltb-true, eqb-true, not-true}
 use Rattle.sets.specs.Set.{on, has, any}
 use Rattle.sets.proofs.Laws.{any_none}
-use Rattle.table.specs.Layout.{max_rules, max_positions, rules_of}
+use Rattle.table.specs.Layout.{max_rules, max_positions}
 use Rattle.table.specs.Gaps.{at_the_end}
 use Rattle.table.specs.Automaton.{Automaton, automaton}
 use Rattle.table.proofs.Members.{on-places}
-use Rattle.steps.specs.Step.{list_from, rules_where, start_at, starts_at}
+use Rattle.steps.specs.Step.{rules_where, start_at, starts_at}
 use Rattle.steps.proofs.Carrying.{list_length, list_at}
 use Rattle.stream.specs.declared.Stream.{Stream}
-use Rattle.stream.specs.Valid.{stream_limit}
 use Rattle.stream.specs.Byte.{after, reports_by, cost_by, two_reports, held_test}
 use Rattle.stream.specs.Calls.{shut}
 use Rattle.stream.proofs.Machines.{fits-is}
 use Rattle.stream.proofs.TwoRuns.{two-ext, two-few}
 use Rattle.traced.specs.declared.Starts.{Starts}
 use Rattle.traced.specs.declared.Traced.{Traced}
-use Rattle.traced.specs.declared.Scanned.{Scanned}
-use Rattle.traced.specs.declared.Closed.{Closed}
 use Rattle.traced.specs.declared.scan.Turn.{Turn}
 use Rattle.traced.specs.Byte.{Report, given, end_long, end_start, close_reports, traced}
 use Rattle.starts.specs.Order.{start_ok, starts_ok}

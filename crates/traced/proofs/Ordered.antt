@@ -6,10 +6,9 @@ use mathlib.Core.List.{List}
 use Prim.Native.Nat.{ℕ, zero, suc, ◌≤◌, ◌<◌}
 use native.Mathlib.Nat.{zero-add}
 use native.Mathlib.Omega.{arith}
-use lib.Dec.{eqb, ltb}
 use lib.ListN.{get_or}
 use borrow.Author.Tests.{lt-ltb, eq-eqb}
-use Rattle.sets.specs.Set.{on, has, any, empty_set}
+use Rattle.sets.specs.Set.{on, has, empty_set}
 use Rattle.sets.proofs.Laws.{any-never, has-empty, has-intersection, on-zero}
 use Rattle.sets.proofs.Smallest.{smallest-under}
 use Rattle.table.specs.Layout.{max_rules, max_positions}

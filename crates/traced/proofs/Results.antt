@@ -1,12 +1,11 @@
 -- What the calls on a stream with starts give: an accepted scan and a closing, a refused one; a
 -- valid state stays valid, and a scan of a block with a byte takes one.
 use mathlib.Core.Path.{◌≡◌, refl, sym, subst, ap, ◌∙◌}
-use mathlib.Core.Bool.{Bool, true, false, cond}
+use mathlib.Core.Bool.{true, false}
 use mathlib.Core.List.{List}
 use Prim.Native.Nat.{ℕ, zero, suc, ◌+◌, ◌*◌, ◌≤◌, ◌<◌}
 use native.Mathlib.Omega.{arith}
 use native.Mathlib.Decide.{ℕ_discrete}
-use lib.Dec.{eqb}
 use lib.ListN.{length, get_or}
 use borrow.Author.Tests.{eq-eqb, ne_eqb}
 use Rattle.sets.specs.Set.{has, size_of}
@@ -15,7 +14,7 @@ use Rattle.table.specs.Layout.{max_positions, rules_of, positions_of}
 use Rattle.table.specs.Table.{is_table}
 use Rattle.table.specs.Automaton.{Automaton, automaton}
 use Rattle.stream.specs.declared.Stream.{Stream}
-use Rattle.stream.specs.Byte.{Machine, after, reports_by, cost_by, state_after}
+use Rattle.stream.specs.Byte.{Machine, after, reports_by, cost_by}
 use Rattle.stream.specs.Valid.{stream_limit, sound, same_counts, live_inside, marks_single, under_limit, held_inside, pending_inside, pending_late, begun}
 use Rattle.stream.specs.Calls.{shut, fresh}
 use Rattle.stream.proofs.Accepting.{Fitting, fitted}

@@ -1,14 +1,13 @@
 -- Runs of reports with starts. They are written as those of a stream are, from the lowest digit on:
 -- what is left to report loses its first report, and the word that digit.
-use mathlib.Core.Path.{◌≡◌, refl, sym, ap, ap₂, ◌∙◌}
-use mathlib.Core.Bool.{Bool, true, false, true≢false, cond, not, ◌&&◌, and-true}
+use mathlib.Core.Path.{◌≡◌, sym, ap, ap₂, ◌∙◌}
+use mathlib.Core.Bool.{Bool, true, false, true≢false, not, ◌&&◌, and-true}
 use mathlib.Core.List.{List, [], ◌∷◌, ◌++◌, append-nil, append_assoc}
-use Prim.Native.Nat.{ℕ, suc, ◌+◌, ◌-◌, ◌*◌, ◌^◌, ◌<◌, ◌≤◌, min}
+use Prim.Native.Nat.{ℕ, suc, ◌+◌, ◌-◌, ◌^◌, ◌<◌, ◌≤◌}
 use native.Mathlib.Nat.{add-zero, lt_of_le_of_lt}
 use native.Mathlib.Decide.{dec_lt}
 use native.Mathlib.Omega.{arith}
-use lib.Bits.{bit_and, bit_or, and_le_l}
-use lib.IntN.{ℤ}
+use lib.Bits.{bit_and, and_le_l}
 use lib.ListN.{length, set, length-append}
 use Rattle.sets.specs.Set.{on}
 use Rattle.sets.proofs.Digits.{on-zero}
@@ -19,7 +18,7 @@ use Rattle.stream.specs.Byte.{due, run_reports, run_marks, two_reports, two_mark
 use Rattle.stream.proofs.Runs.{run_none, run-same, reports_in, lowest, without, lowest-on, lowest-first, without-same, without-less}
 use Rattle.stream.proofs.TwoRuns.{two-count}
 use Rattle.traced.specs.Byte.{Report}
-use Rattle.traced.specs.Calls.{Lists, lists, space, in_stream, from_offset, written}
+use Rattle.traced.specs.Calls.{Lists, lists, space, in_stream, from_offset}
 use Rattle.traced.specs.Invariants.{written_at, AsLong, Wrote, WroteTwo}
 use Rattle.traced.proofs.Lists.{written-at-none, written-store, written-front, written-more, long-written, long-space}
 

@@ -1,7 +1,7 @@
 -- A byte that is offered: it is taken, or the turn stops before it, by what the parts of the code
 -- promise. Some bytes: `Running` says what holds once they are taken, and where the loop stops one
 -- more byte would not fit.
-use mathlib.Core.Path.{◌≡◌, refl, sym, ap, ap₂, subst, ◌∙◌}
+use mathlib.Core.Path.{◌≡◌, refl, sym, ap, subst, ◌∙◌}
 use mathlib.Core.Bool.{Bool, true, false, true≢false, cond, not}
 use mathlib.Core.Logic.{◌⊎◌, inl, inr}
 use mathlib.Core.List.{List, [], ◌++◌}
@@ -9,13 +9,10 @@ use Prim.Native.Nat.{ℕ, zero, suc, ◌+◌, ◌-◌, ◌<◌, ◌≤◌, zero-
 use native.Mathlib.Nat.{add-zero, add-suc}
 use native.Mathlib.Numerals.{add-one}
 use native.Mathlib.Omega.{arith}
-use lib.Dec.{ltb}
 use lib.ListN.{length, get_or, length-append}
 use borrow.Author.Tests.{ltb-true, ltb-false}
 use Rattle.sets.specs.Set.{is_empty}
-use Rattle.kinds.specs.declared.Side.{Side}
 use Rattle.kinds.specs.Side.{side_of}
-use Rattle.table.specs.Layout.{max_rules, max_positions}
 use Rattle.table.specs.Automaton.{Automaton}
 use Rattle.steps.specs.Step.{OnlyIn}
 use Rattle.stream.specs.declared.Stream.{Stream}
@@ -25,9 +22,9 @@ use Rattle.stream.proofs.Machines.{after_more, reports-more, cost-more}
 use Rattle.traced.specs.declared.Starts.{Starts}
 use Rattle.traced.specs.declared.Traced.{Traced}
 use Rattle.traced.specs.declared.scan.Turn.{Turn}
-use Rattle.traced.specs.Byte.{Report, pending_long, stream_next, next_starts, next_state, byte_reports, traced}
-use Rattle.traced.specs.Calls.{Lists, space, written}
-use Rattle.traced.specs.Invariants.{InOrder, written_at, free, back, stop_at, Filled, Gone, Delivered, Stops, Takes, Offered, Running, Ran}
+use Rattle.traced.specs.Byte.{pending_long, stream_next, next_starts, next_state, byte_reports, traced}
+use Rattle.traced.specs.Calls.{Lists, space}
+use Rattle.traced.specs.Invariants.{InOrder, free, back, stop_at, Filled, Gone, Delivered, Stops, Takes, Offered, Running, Ran}
 use Rattle.traced.proofs.Carrying.{only_next, none_only, none-pairs}
 use Rattle.traced.proofs.Lists.{written_none, written-part, written-at-none, free-space, filled-start, filled-space, filled_more, filled-same}
 

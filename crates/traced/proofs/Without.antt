@@ -2,14 +2,14 @@
 -- byte its starts are 0, and every report has none.
 use mathlib.Core.Path.{◌≡◌, refl, sym, ap, ap₂, ◌∙◌}
 use mathlib.Core.Bool.{Bool, true, false, true≢false, cond, not, ◌&&◌, ◌||◌, and-true, and-false}
-use mathlib.Core.List.{List, [], ◌++◌, map}
+use mathlib.Core.List.{List, ◌++◌, map}
 use Prim.Native.Nat.{ℕ, zero, suc, ◌-◌, ◌<◌, ◌≤◌}
 use native.Mathlib.Omega.{arith}
 use lib.Dec.{eqb, leb, ltb}
 use lib.ListN.{length, get_or, length-map}
 use native.Mathlib.Decide.{dec_lt}
 use borrow.Author.Tests.{lt-ltb, le-leb, not-true}
-use Rattle.sets.specs.Set.{on, has, any, empty_set, union_of, intersection_of, is_empty}
+use Rattle.sets.specs.Set.{on, has, any, empty_set, union_of, is_empty}
 use Rattle.sets.proofs.Laws.{has-set_of, has-empty, has-union, has-intersection, any-ext, any_none, any-never}
 use Rattle.sets.proofs.Digits.{word_of-ext}
 use Rattle.kinds.specs.declared.Side.TheVariants.{Newline}
@@ -29,9 +29,8 @@ use Rattle.stream.proofs.Results.{inside-next}
 use Rattle.stream.specs.Byte as stream
 use Rattle.stream.specs.Byte.{fits as fits-of}
 use Rattle.stream.specs.Byte.{after, reports_by, fits_by, byte_state, run_reports, run_marks, two_reports, next_live, next_held, next_pending, late_test, own_test, held_test, end_test, state_after, reports_of}
-use Rattle.traced.specs.declared.Starts.{Starts}
 use Rattle.traced.specs.declared.Traced.{Traced}
-use Rattle.traced.specs.Byte.{Start, Report, none, from, given, keeping, counted, live_next, late_long, own_long, pending_long, end_long, stream_next, late_start, own_start, end_start, next_starts, next_state, byte_reports, close_reports, traced}
+use Rattle.traced.specs.Byte.{Report, none, from, given, keeping, counted, live_next, late_long, own_long, pending_long, end_long, stream_next, late_start, own_start, end_start, next_starts, next_state, byte_reports, close_reports, traced}
 use Rattle.traced.specs.Calls.{no_starts}
 use Rattle.traced.proofs.Carrying.{stepped-none, list_ext, pending-ruled}
 use Rattle.traced.proofs.Delivering.{two-give}

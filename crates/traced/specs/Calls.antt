@@ -1,11 +1,10 @@
 -- The calls on a stream with starts: the answer and the four lent lists afterwards, for any words,
 -- any state and any inputs. Assumes nothing: these are definitions.
-use Rattle.std.specs.Prelude.{Bool, cond, List, ℕ, min, eqb, ℤ, pos, ◌-ℤ◌, length}
+use Rattle.std.specs.Prelude.{cond, List, ℕ, min, eqb, ℤ, pos, ◌-ℤ◌, length}
 use Rattle.table.specs.Layout.{max_rules, max_positions}
 use Rattle.table.specs.Table.{is_table}
 use Rattle.table.specs.Automaton.{automaton}
 use Rattle.steps.specs.Step.{list_from}
-use Rattle.stream.specs.declared.Stream.{Stream}
 use Rattle.stream.specs.Byte.{after, reports_by, cost_by, fits_by}
 use Rattle.stream.specs.Calls as stream
 use Rattle.stream.specs.Calls.{column, over_limit, space_number, shut}

@@ -1,8 +1,8 @@
 -- What the private functions promise, where that is not an equation with a definition that a reader
 -- must believe. Assumes nothing: these are definitions.
-use Rattle.std.specs.Prelude.{◌≡◌, Bool, true, false, cond, not, ◌&&◌, ◌⊎◌, List, ℕ, suc, ◌+◌, ◌-◌, ◌^◌, ◌<◌, ◌≤◌, min, ltb, length, get_or}
+use Rattle.std.specs.Prelude.{◌≡◌, Bool, true, false, cond, ◌⊎◌, List, ℕ, suc, ◌+◌, ◌-◌, ◌^◌, ◌<◌, ◌≤◌, min, ltb, length, get_or}
 use borrow.Rule.Slice.PartMut.{put_mid}
-use Rattle.sets.specs.Set.{on, any, empty_set, full_set, kept_below}
+use Rattle.sets.specs.Set.{on, empty_set, full_set, kept_below}
 use Rattle.table.specs.Layout.{positions_of, max_rules, max_positions}
 use Rattle.table.specs.Table.{is_table}
 use Rattle.table.specs.Automaton.{Automaton, automaton, single}

@@ -11,7 +11,7 @@ use Rattle.traced.proofs.reports.end_starts.Goals as goal
 
 pub starts_of-first-requires : goal.starts_of-first-requires
 starts_of-first-requires c =
-    let c-start = c.before.before.before.before in
+    let c-start = c in
     c-start.requires
 
 pub returns : goal.returns
@@ -19,7 +19,7 @@ returns c =
     let c-rule-starts = c.rule_starts in
     let c-starts-of = c.starts_of-first in
     let c-at-end = c.at_end-gap in
-    let back = c.before.before.before.before.before.before in
+    let back = c in
     let c-start = back.before in
     let a = c-start.args in
     let t = a.words.now in

@@ -29,14 +29,14 @@ fits a b la lb = subst (SFits w64) (sym (read a b la lb)) (difference-fits a b l
 
 pub overflow_sub-result : goal.overflow_sub-result
 overflow_sub-result c =
-    let c-start = c.before in
+    let c-start = c in
     let a = c-start.args in
     fits a.start a.first c-start.requires.0 c-start.requires.1
 
 pub returns-then-leftmost : goal.returns-then-leftmost
 returns-then-leftmost c =
     let c-if1 = c.if-leftmost in
-    let c-start = c.before in
+    let c-start = c in
     let a = c-start.args in
     let p = c-start.requires in
     to_z-of_z w64 (to_z w64 a.start -ℤ to_z w64 a.first) (fits a.start a.first p.0 p.1)
@@ -46,6 +46,6 @@ returns-then-leftmost c =
 pub returns-else-leftmost : goal.returns-else-leftmost
 returns-else-leftmost c =
     let c-if1 = c.if-leftmost in
-    let c-start = c.before in
+    let c-start = c in
     let a = c-start.args in
     sym (ap (λ (b : Bool). from_offset a.first (cond b (from a.start) none)) c-if1.false)

@@ -28,7 +28,7 @@ given-each w rules gap set starts d r e = record {
 pub returns : goal.returns
 returns c =
     let c-rule-starts = c.rule_starts in
-    let c-start = c.before.before.before in
+    let c-start = c in
     let a = c-start.args in
     let t = a.words.now in
     given-each (automaton t) a.rules a.gap a.set a.starts.now a.least c-rule-starts.result

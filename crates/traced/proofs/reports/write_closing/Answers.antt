@@ -5,11 +5,11 @@ use mathlib.Core.Bool.{Bool}
 use mathlib.Core.List.{List}
 use Prim.Native.Nat.{ℕ, ◌*◌, ◌^◌, ◌<◌, ◌≤◌}
 use borrow.Author.Rules.{rules}
-use lib.ListN.{length}
 use Rattle.sets.specs.Set.{on, union_of}
-use Rattle.table.specs.Layout.{table_words}
+use Rattle.kinds.specs.declared.Side.{Side}
+use Rattle.table.specs.Layout.{rules_of}
 use Rattle.table.specs.Gaps.{unsettled, at_the_end}
-use Rattle.table.specs.Automaton.{automaton, single}
+use Rattle.table.specs.Automaton.{Automaton, automaton, single}
 use Rattle.table.proofs.Test.{passes}
 use Rattle.steps.specs.Step.{ends_newly, rules_where, windowed}
 use Rattle.steps.proofs.TableSets.{set_on_lem, number-on}
@@ -19,7 +19,6 @@ use Rattle.stream.specs.Byte.{held_test}
 use Rattle.stream.proofs.Bounds.{rules-few}
 use Rattle.stream.proofs.Accepting.{pending-rules}
 use Rattle.stream.proofs.Runs.{alone}
-use Rattle.traced.specs.declared.Traced.{Traced}
 use Rattle.traced.specs.Byte.{end_long}
 use Rattle.traced.specs.Calls.{lists, space}
 use Rattle.traced.specs.Invariants.{state_of}
@@ -27,97 +26,69 @@ use Rattle.traced.proofs.Delivering.{starts-small}
 use Rattle.traced.proofs.Closing.{end-under, closing-room, ended}
 use Rattle.traced.proofs.reports.write_closing.Goals as goal
 
-abbrev state : goal.Start → Traced
-state c = state_of c.args.s c.args.live.now c.args.held.now c.args.pairs.now
+abbrev ends-late : Automaton → Side → (live held : List ℕ) → ℕ → Bool
+ends-late w last live held = ends_newly w (at_the_end last) (union_of live held) unsettled live
 
-small : (c : goal.Start) → c.args.s.pending < 2 ^ 64
-small c = search rules
-
--- what is known once the rules of both runs are found
-module _ (c : goal.After-in_window-found) where
-  abbrev start : goal.Start
-  start =
-      let i = c.before.before.before.before.before.before in
-      i.before.before.before.before.before.before
-
-  abbrev table : List ℕ
-  table = start.args.words.now
-
-  long : table_words ≤ length table
-  long = (passes table start.requires.0).long
-
-  -- the positions that count
-  abbrev counts : List ℕ
-  counts = let a = start.args in long_in (automaton table) a.s.live a.live.now a.s.taken
-
-  abbrev waits : List ℕ
-  waits = let a = start.args in long_in (automaton table) a.s.held a.held.now a.s.taken
-
-  abbrev ends-late : (live held : List ℕ) → ℕ → Bool
-  ends-late live held = ends_newly (automaton table) (at_the_end start.args.s.last) (union_of live held) unsettled live
-
-  found-is : c.in_window-found.result ≡ rules_where (automaton table) (end_long (automaton table) (state start))
-  found-is =
-      let live = c.long_in-counts in
-      let held = c.long_in-waits in
-      window-is table (ends-late counts waits) start.args.s.taken long
-      (c.closing.ensures ∙ number-on table (rules_where (automaton table) (ends-late live.result held.result)) long
-      ∙ ap₂ (λ (l h : List ℕ). rules_where (automaton table) (ends-late l h)) (live.ensures ∙ set_on_lem table counts long) (held.ensures ∙ set_on_lem table waits long)) c.in_window-found.ensures
-
-  abbrev earlier-window : goal.After-in_window-held_pairs
-  earlier-window = c.before.before.before.before
-
-  abbrev earlier : goal.After-before_last-earlier
-  earlier = earlier-window.before
-
-  kept-is : earlier-window.in_window-held_pairs.result ≡ rules_where (automaton table) (held_test (automaton table) start.args.s)
-  kept-is =
-      let w = automaton table in
-      let s = start.args.s in
-      window-is table (on s.pending) earlier.before_last-earlier.result long (pending-rules w s start.requires.1 (small start)) earlier-window.in_window-held_pairs.ensures
-      ∙ ap (λ (e : ℕ). rules_where w (windowed w (on s.pending) e)) earlier.before_last-earlier.ensures
-
-  few : (automaton table).rules ≤ 64
-  few = rules-few table (passes table start.requires.0).rules
-
-flags : (c : goal.After-leftmosts-leftmost) → c.leftmosts-leftmost.result ≡ rules_where (automaton (table c.before)) (automaton (table c.before)).leftmost
-flags c = let t = table c.before in c.leftmosts-leftmost.ensures ∙ number-on t (rules_where (automaton t) (automaton t).leftmost) (long c.before)
-
-abbrev found : goal.After-write_two-arg-4-1 → goal.After-end_starts-ends
-found c = c.before.before.before.before.before.before
-
-twice : (c : goal.Start) → 2 * (automaton c.args.words.now).rules ≤ space (lists c.args.ids.now c.args.offsets.now c.args.starts.now c.args.relatives.now)
+twice : (t : List ℕ) (n : ℕ) → 2 * rules_of t ≤ n → 2 * (automaton t).rules ≤ n
 unfolding automaton
-twice c = c.requires.4
+twice t n h = h
 
 pub end_starts-ends-requires : goal.end_starts-ends-requires
-end_starts-ends-requires c = long c.before
+end_starts-ends-requires c = (passes c.args.words.now c.requires.0).long
 
 pub write_two-run-requires : goal.write_two-run-requires
 write_two-run-requires c =
-    let k = found c in
-    let o = k.before.before in
-    let s = start o in
-    let a = s.args in
-    let t = table o in
+    let a = c.args in
+    let s = a.s in
+    let t = a.words.now in
     let w = automaton t in
-    let before = (earlier o).before_last-earlier in (
-      s.requires.0,
-      record { single_is = c.singles.ensures ∙ number-on t (rules_where w (single w)) (long o); leftmost_is = flags k.before; first_small = s.requires.2 },
-      s.requires.3,
-      starts-small a.s.taken k.end_starts-ends.ensures (end-under w (state s)) s.requires.2,
-      alone w (held_test w a.s) (kept-is o),
-      alone w (end_long w (state s)) (found-is o),
-      closing-room w (few o) (state s) (earlier-window o).in_window-held_pairs.result o.in_window-found.result k.leftmosts-leftmost.result (kept-is o) (found-is o) (flags k.before)
-          before.result before.ensures k.end_starts-ends.result k.end_starts-ends.ensures _ (twice s),
+    let p = c.requires in
+    let long = (passes t p.0).long in
+    let few = rules-few t (passes t p.0).rules in
+    let state = state_of s a.live.now a.held.now a.pairs.now in
+    let counts = long_in w s.live a.live.now s.taken in
+    let waits = long_in w s.held a.held.now s.taken in
+    let found-is : c.in_window-found.result ≡ rules_where w (end_long w state) =
+    window-is t (ends-late w s.last counts waits) s.taken long
+    (c.closing.ensures ∙ number-on t (rules_where w (ends-late w s.last c.long_in-counts.result c.long_in-waits.result)) long
+    ∙ ap₂ (λ (l h : List ℕ). rules_where w (ends-late w s.last l h)) (c.long_in-counts.ensures ∙ set_on_lem t counts long) (c.long_in-waits.ensures ∙ set_on_lem t waits long)) c.in_window-found.ensures in
+    let small : s.pending < 2 ^ 64 = search rules in
+    let kept-is : c.in_window-held_pairs.result ≡ rules_where w (held_test w s) =
+    window-is t (on s.pending) c.before_last-earlier.result long (pending-rules w s p.1 small) c.in_window-held_pairs.ensures
+    ∙ ap (λ (e : ℕ). rules_where w (windowed w (on s.pending) e)) c.before_last-earlier.ensures in
+    let flags : c.leftmosts-leftmost.result ≡ rules_where w w.leftmost = c.leftmosts-leftmost.ensures ∙ number-on t (rules_where w w.leftmost) long in
+    let before = c.before_last-earlier in (
+      p.0,
+      record { single_is = c.singles.ensures ∙ number-on t (rules_where w (single w)) long; leftmost_is = flags; first_small = p.2 },
+      p.3,
+      starts-small s.taken c.end_starts-ends.ensures (end-under w state) p.2,
+      alone w (held_test w s) kept-is,
+      alone w (end_long w state) found-is,
+      closing-room w few state c.in_window-held_pairs.result c.in_window-found.result c.leftmosts-leftmost.result kept-is found-is flags
+          before.result before.ensures c.end_starts-ends.result c.end_starts-ends.ensures _ (twice t (space (lists a.ids.now a.offsets.now a.starts.now a.relatives.now)) p.4),
     )
 
 pub returns : goal.returns
 returns c =
-    let back = c.before.before.before.before.before.before in
-    let k = found back.before.before in
-    let o = k.before.before in
-    let s = start o in
-    let before = (earlier o).before_last-earlier in
-    ended (automaton (table o)) (few o) (state s) (earlier-window o).in_window-held_pairs.result o.in_window-found.result k.leftmosts-leftmost.result (kept-is o) (found-is o) (flags k.before)
-    before.result before.ensures k.end_starts-ends.result k.end_starts-ends.ensures back.write_two-run.ensures
+    let a = c.args in
+    let s = a.s in
+    let t = a.words.now in
+    let w = automaton t in
+    let p = c.requires in
+    let long = (passes t p.0).long in
+    let few = rules-few t (passes t p.0).rules in
+    let state = state_of s a.live.now a.held.now a.pairs.now in
+    let counts = long_in w s.live a.live.now s.taken in
+    let waits = long_in w s.held a.held.now s.taken in
+    let found-is : c.in_window-found.result ≡ rules_where w (end_long w state) =
+    window-is t (ends-late w s.last counts waits) s.taken long
+    (c.closing.ensures ∙ number-on t (rules_where w (ends-late w s.last c.long_in-counts.result c.long_in-waits.result)) long
+    ∙ ap₂ (λ (l h : List ℕ). rules_where w (ends-late w s.last l h)) (c.long_in-counts.ensures ∙ set_on_lem t counts long) (c.long_in-waits.ensures ∙ set_on_lem t waits long)) c.in_window-found.ensures in
+    let small : s.pending < 2 ^ 64 = search rules in
+    let kept-is : c.in_window-held_pairs.result ≡ rules_where w (held_test w s) =
+    window-is t (on s.pending) c.before_last-earlier.result long (pending-rules w s p.1 small) c.in_window-held_pairs.ensures
+    ∙ ap (λ (e : ℕ). rules_where w (windowed w (on s.pending) e)) c.before_last-earlier.ensures in
+    let flags : c.leftmosts-leftmost.result ≡ rules_where w w.leftmost = c.leftmosts-leftmost.ensures ∙ number-on t (rules_where w w.leftmost) long in
+    let before = c.before_last-earlier in
+    ended w few state c.in_window-held_pairs.result c.in_window-found.result c.leftmosts-leftmost.result kept-is found-is flags
+    before.result before.ensures c.end_starts-ends.result c.end_starts-ends.ensures c.write_two-run.ensures

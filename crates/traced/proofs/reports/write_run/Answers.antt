@@ -3,8 +3,9 @@
 -- ---- the start, seen from a turn, and what a turn's writes need
 -- ---- the needs
 use mathlib.Core.Path.{◌≡◌, sym, ap, ◌∙◌, subst}
+use mathlib.Core.List.{List}
 use mathlib.Core.Bool.{Bool, cond}
-use Prim.Native.Nat.{ℕ, ◌*◌, ◌^◌, ◌<◌}
+use Prim.Native.Nat.{ℕ, ◌^◌, ◌<◌}
 use native.Mathlib.Omega.{arith}
 use lib.Bits.{bit_and, bit_or}
 use mir.Syntax.{w64}
@@ -14,161 +15,111 @@ use Rattle.sets.specs.Set.{on}
 use Rattle.table.specs.Automaton.{automaton}
 use Rattle.table.proofs.Test.{Passes, passes}
 use Rattle.table.proofs.Members.{on-places}
+use Rattle.steps.specs.Step.{rules_where}
 use Rattle.steps.proofs.TableSets.{id-word}
 use Rattle.stream.proofs.Bounds.{rules-few}
 use Rattle.stream.proofs.Runs.{lowest, without-less, marks-words}
-use Rattle.traced.specs.Byte.{Start, none, from, given}
-use Rattle.traced.specs.Calls.{Lists, lists, in_stream, from_offset}
-use Rattle.traced.specs.Invariants.{AsLong, at}
+use Rattle.traced.specs.Byte.{none, from, given}
+use Rattle.traced.specs.Calls.{lists, in_stream, from_offset}
+use Rattle.traced.specs.Invariants.{at}
 use Rattle.traced.proofs.Bounds.{digit-fits, eight-fit, place-fits-4, place-fits-8, next_place}
 use Rattle.traced.proofs.Lists.{place-ids, place-offsets, place-starts, place-relatives, room-ids, room-offsets, room-starts, room-relatives}
-use Rattle.traced.proofs.Runs.{Turn, writing_start, writing-long, writing-turn, writing-again, writing-done}
+use Rattle.traced.proofs.Runs.{writing_start, writing-long, writing-turn, writing-again, writing-done}
 use Rattle.traced.proofs.reports.write_run.Goals as goal
 
-abbrev Begun : Type 0
-Begun = goal.Start
-
-abbrev start : goal.At-loop-due → Begun
-start c = c.before.before.before.before.before
-
-table : (c : Begun) → Passes c.args.words.now
-table c = passes c.args.words.now c.requires.0
-
-abbrev lent : Begun → Lists
-lent c = lists c.args.ids.now c.args.offsets.now c.args.starts.now c.args.relatives.now
-
-long : (c : goal.At-loop-due)
-    → AsLong (lists c.loop-due.ids c.loop-due.offsets c.loop-due.starts c.loop-due.relatives) (lent (start c))
-long c = writing-long c.loop-due.invariant (start c).requires.4
-
-turn : (c : goal.In-loop-due)
-    → Turn (automaton (start c.before).args.words.now) (lent (start c.before))
-    c.loop-due.due c.loop-due.n
-turn c = writing-turn c.loop-due.invariant (start c.before).requires.4 c.loop-due-test.true
-
-abbrev a0 : goal.In-loop-due → ℕ
-a0 c = lowest c.loop-due.due
-
--- the lengths of the lists
-abbrev sizes : (c : goal.In-loop-due) → (length (start c.before).args.ids.now * 4 < 2 ^ 63)
-    × (length (start c.before).args.offsets.now * 8 < 2 ^ 63) × (length (start c.before).args.starts.now * 8 < 2 ^ 63)
-    × (length (start c.before).args.relatives.now * 8 < 2 ^ 63)
-sizes c =
-    let g = (start c.before).good.1.1.1.1.1.1.1 in
-    (g.0.1, g.1.0.1, g.1.1.0.1, g.1.1.1.0.1)
-
 -- whether the rule reports starts
-flag_is : (c : goal.In-loop-due) → on (start c.before).args.marks.leftmost (a0 c) ≡ (automaton (start c.before).args.words.now).leftmost (a0 c)
-flag_is c =
-    let s = start c.before in
-    let w = automaton s.args.words.now in
-    ap (λ (x : ℕ). on x (a0 c)) s.requires.1.leftmost_is
-    ∙ on-places w.leftmost w.rules (a0 c) (turn c).ruled (rules-few s.args.words.now (table s).rules)
+flag_is : (t : List ℕ) (leftmost a : ℕ) → Passes t → leftmost ≡ rules_where (automaton t) (automaton t).leftmost → a < (automaton t).rules → on leftmost a ≡ (automaton t).leftmost a
+flag_is t leftmost a p e h =
+    let w = automaton t in
+    ap (λ (x : ℕ). on x a) e
+    ∙ on-places w.leftmost w.rules a h (rules-few t p.rules)
 
 pub loop-due-init : goal.loop-due-init
 loop-due-init c =
-    let c-start = c.before.before.before.before in
-    let a = c-start.args in
+    let a = c.args in
     let w = automaton a.words.now in
-    writing_start w a.ending a.reported (given w a.end (at a.froms.now)) a.marks.first a.place (lent c-start)
-    c-start.ranges.ending.fits c-start.ranges.reported.fits c-start.requires.3
-    (rules-few a.words.now (table c-start).rules)
+    writing_start w a.ending a.reported (given w a.end (at a.froms.now)) a.marks.first a.place (lists c.args.ids.now c.args.offsets.now c.args.starts.now c.args.relatives.now)
+    c.ranges.ending.fits c.ranges.reported.fits c.requires.3
+    (rules-few a.words.now (passes a.words.now c.requires.0).rules)
 
 pub overflow_cast-leftmost : goal.overflow_cast-leftmost
-overflow_cast-leftmost c = omega (arith, (turn c).digit)
+overflow_cast-leftmost c = omega (arith, (writing-turn c.loop-due.invariant c.requires.4 c.loop-due-test.true).digit)
 
 pub overflow_shr-leftmost : goal.overflow_shr-leftmost
-overflow_shr-leftmost c = omega (arith, (turn c.before).digit)
+overflow_shr-leftmost c = omega (arith, (writing-turn c.loop-due.invariant c.requires.4 c.loop-due-test.true).digit)
 
 pub overflow_cast-start : goal.overflow_cast-start
-overflow_cast-start c = digit-fits (a0 c.before) (turn c.before).digit
+overflow_cast-start c = digit-fits (lowest c.loop-due.due) (writing-turn c.loop-due.invariant c.requires.4 c.loop-due-test.true).digit
 
 pub offset_bounds-froms-a : goal.offset_bounds-froms-a
-offset_bounds-froms-a c = eight-fit (a0 c.before) (turn c.before).digit
+offset_bounds-froms-a c = eight-fit (lowest c.loop-due.due) (writing-turn c.loop-due.invariant c.requires.4 c.loop-due-test.true).digit
 
 pub bounds-froms-a : goal.bounds-froms-a
-bounds-froms-a c = (turn c.before).digit
+bounds-froms-a c = (writing-turn c.loop-due.invariant c.requires.4 c.loop-due-test.true).digit
 
 pub overflow_cast-a : goal.overflow_cast-a
-overflow_cast-a c = digit-fits (a0 c.before.before) (turn c.before.before).digit
+overflow_cast-a c = digit-fits (lowest c.loop-due.due) (writing-turn c.loop-due.invariant c.requires.4 c.loop-due-test.true).digit
 
 pub overflow_cast-ids : goal.overflow_cast-ids
 unfolding automaton
 overflow_cast-ids c =
-    let o = c.before.before.before in
-    let s = start o.before in
-    let id = c.rule_id.ensures ∙ sym (id-word s.args.words.now (a0 o) (turn o).digit) in
-    record { fits = subst (λ (x : ℕ). x < 2 ^ 32) (sym id) ((table s).small (a0 o) (turn o).ruled) }
+    let t = c.args.words.now in
+    let u = (writing-turn c.loop-due.invariant c.requires.4 c.loop-due-test.true) in
+    let id = c.rule_id.ensures ∙ sym (id-word t (lowest c.loop-due.due) u.digit) in
+    record { fits = subst (λ (x : ℕ). x < 2 ^ 32) (sym id) ((passes t c.requires.0).small (lowest c.loop-due.due) u.ruled) }
 
 pub offset_bounds-ids-n : goal.offset_bounds-ids-n
-offset_bounds-ids-n c =
-    let o = c.before.before.before in
-    place-fits-4 o.loop-due.n (length (start o.before).args.ids.now) (room-ids (lent (start o.before)) (turn o).room) (sizes o).0
+offset_bounds-ids-n c = place-fits-4 c.loop-due.n (length c.args.ids.now) (room-ids (lists c.args.ids.now c.args.offsets.now c.args.starts.now c.args.relatives.now) (writing-turn c.loop-due.invariant c.requires.4 c.loop-due-test.true).room) c.well_formed.1.1.1.1.1.1.1.0.1
 
 pub bounds-ids-n : goal.bounds-ids-n
-bounds-ids-n c = let o = c.before.before.before in place-ids (long o.before) (turn o).room
+bounds-ids-n c = place-ids (writing-long c.loop-due.invariant c.requires.4) (writing-turn c.loop-due.invariant c.requires.4 c.loop-due-test.true).room
 
 pub offset_bounds-offsets-n : goal.offset_bounds-offsets-n
-offset_bounds-offsets-n c =
-    let o = c.before.before.before in
-    place-fits-8 o.loop-due.n (length (start o.before).args.offsets.now) (room-offsets (lent (start o.before)) (turn o).room) (sizes o).1
+offset_bounds-offsets-n c = place-fits-8 c.loop-due.n (length c.args.offsets.now) (room-offsets (lists c.args.ids.now c.args.offsets.now c.args.starts.now c.args.relatives.now) (writing-turn c.loop-due.invariant c.requires.4 c.loop-due-test.true).room) c.well_formed.1.1.1.1.1.1.1.1.0.1
 
 pub bounds-offsets-n : goal.bounds-offsets-n
-bounds-offsets-n c = let o = c.before.before.before in place-offsets (long o.before) (turn o).room
+bounds-offsets-n c = place-offsets (writing-long c.loop-due.invariant c.requires.4) (writing-turn c.loop-due.invariant c.requires.4 c.loop-due-test.true).room
 
 pub offset_bounds-starts-n : goal.offset_bounds-starts-n
-offset_bounds-starts-n c =
-    let o = c.before.before.before.before in
-    place-fits-8 o.loop-due.n (length (start o.before).args.starts.now) (room-starts (lent (start o.before)) (turn o).room) (sizes o).2
+offset_bounds-starts-n c = place-fits-8 c.loop-due.n (length c.args.starts.now) (room-starts (lists c.args.ids.now c.args.offsets.now c.args.starts.now c.args.relatives.now) (writing-turn c.loop-due.invariant c.requires.4 c.loop-due-test.true).room) c.well_formed.1.1.1.1.1.1.1.1.1.0.1
 
 pub bounds-starts-n : goal.bounds-starts-n
-bounds-starts-n c = let o = c.before.before.before.before in place-starts (long o.before) (turn o).room
+bounds-starts-n c = place-starts (writing-long c.loop-due.invariant c.requires.4) (writing-turn c.loop-due.invariant c.requires.4 c.loop-due-test.true).room
 
 pub relative-requires : goal.relative-requires
-relative-requires c =
-    let o = c.before.before.before.before in
-    ((start o.before).requires.2 (a0 o) (turn o).digit, (start o.before).requires.1.first_small)
+relative-requires c = (c.requires.2 (lowest c.loop-due.due) (writing-turn c.loop-due.invariant c.requires.4 c.loop-due-test.true).digit, c.requires.1.first_small)
 
 pub offset_bounds-relatives-n : goal.offset_bounds-relatives-n
-offset_bounds-relatives-n c =
-    let o = c.before.before.before.before.before in
-    place-fits-8 o.loop-due.n (length (start o.before).args.relatives.now) (room-relatives (lent (start o.before)) (turn o).room) (sizes o).3
+offset_bounds-relatives-n c = place-fits-8 c.loop-due.n (length c.args.relatives.now) (room-relatives (lists c.args.ids.now c.args.offsets.now c.args.starts.now c.args.relatives.now) (writing-turn c.loop-due.invariant c.requires.4 c.loop-due-test.true).room) c.well_formed.1.1.1.1.1.1.1.1.1.1.0.1
 
 pub bounds-relatives-n : goal.bounds-relatives-n
-bounds-relatives-n c = let o = c.before.before.before.before.before in place-relatives (long o.before) (turn o).room
+bounds-relatives-n c = place-relatives (writing-long c.loop-due.invariant c.requires.4) (writing-turn c.loop-due.invariant c.requires.4 c.loop-due-test.true).room
 
 pub overflow_add-n : goal.overflow_add-n
-overflow_add-n c =
-    let o = c.before.before.before.before.before in
-    next_place o.loop-due.n (length (start o.before).args.ids.now) (room-ids (lent (start o.before)) (turn o).room) (sizes o).0
+overflow_add-n c = next_place c.loop-due.n (length c.args.ids.now) (room-ids (lists c.args.ids.now c.args.offsets.now c.args.starts.now c.args.relatives.now) (writing-turn c.loop-due.invariant c.requires.4 c.loop-due-test.true).room) c.well_formed.1.1.1.1.1.1.1.0.1
 
 pub overflow_sub-due : goal.overflow_sub-due
-overflow_sub-due c = let o = c.before.before.before.before.before in (turn o).some
+overflow_sub-due c = (writing-turn c.loop-due.invariant c.requires.4 c.loop-due-test.true).some
 
 pub loop-due-smaller : goal.loop-due-smaller
-loop-due-smaller c =
-    let o = c.before.before.before.before.before in
-    without-less o.loop-due.due o.loop-due.invariant.small o.loop-due-test.true
+loop-due-smaller c = without-less c.loop-due.due c.loop-due.invariant.small c.loop-due-test.true
 
 pub loop-due-preserved : goal.loop-due-preserved
 unfolding on
 loop-due-preserved c =
-    let o = c.before.before.before.before.before in
-    let l = o.loop-due in
-    let s = start o.before in
-    let w = automaton s.args.words.now in
-    let v = get_or s.args.froms.now (a0 o) 0 in
-    writing-again l.invariant s.requires.4 o.loop-due-test.true
-    (λ i. lists (set l.ids l.n (c.rule_id.ensures i)) (set l.offsets l.n s.args.end)
-    (set l.starts l.n ((c.start_of_lem.ensures ∙ ap (λ (b : Bool). in_stream (cond b (from v) none)) (flag_is o)) i))
-    (set l.relatives l.n ((to_z-of_z w64 c.relative.result (record { sfits = c.relative.type-inv }) ∙ c.relative.ensures ∙ ap (λ (b : Bool). from_offset s.args.marks.first (cond b (from v) none)) (flag_is o)) i)))
+    let l = c.loop-due in
+    let a = c.args in
+    let v = get_or a.froms.now (lowest c.loop-due.due) 0 in
+    let flag = flag_is a.words.now a.marks.leftmost (lowest c.loop-due.due) (passes a.words.now c.requires.0) c.requires.1.leftmost_is (writing-turn c.loop-due.invariant c.requires.4 c.loop-due-test.true).ruled in
+    writing-again l.invariant c.requires.4 c.loop-due-test.true
+    (λ i. lists (set l.ids l.n (c.rule_id.ensures i)) (set l.offsets l.n a.end)
+    (set l.starts l.n ((c.start_of.ensures ∙ ap (λ (b : Bool). in_stream (cond b (from v) none)) flag) i))
+    (set l.relatives l.n ((to_z-of_z w64 c.relative.result (record { sfits = c.relative.type_inv }) ∙ c.relative.ensures ∙ ap (λ (b : Bool). from_offset a.marks.first (cond b (from v) none)) flag) i)))
 
 pub returns : goal.returns
 returns c =
-    let o = c.before.before in
-    let s = start o in
-    let a = s.args in
+    let a = c.args in
     let w = automaton a.words.now in
-    writing-done o.loop-due.invariant s.requires.4 c.loop-due-test.false
-    (ap (λ (x : ℕ). bit_or a.reported (bit_and a.ending x)) s.requires.1.single_is
-    ∙ marks-words w a.ending a.reported s.fits.reported.fits)
+    writing-done c.loop-due.invariant c.requires.4 c.loop-due-test.false
+    (ap (λ (x : ℕ). bit_or a.reported (bit_and a.ending x)) c.requires.1.single_is
+    ∙ marks-words w a.ending a.reported c.ranges.reported.fits)

@@ -11,7 +11,7 @@ carry_waiting-behind-requires c =
 
 pub carry_live-ahead-requires : goal.carry_live-ahead-requires
 carry_live-ahead-requires c =
-    let start = let i = c.before.before.before in i.before.before.before.before in
+    let start = c in
     let p = start.requires.0 in
     (p.table, p.gates_are, p.next_is, p.live_none, p.only, start.requires.1)
 
@@ -21,6 +21,6 @@ returns c =
     let ahead = c.carry_live-ahead.ensures in
     let behind = c.carry_waiting-behind.ensures in
     record {
-      spare = ahead.1.1;
-      starts = carried (λ i. starts_of (ahead.0 i) (behind.0 i) (behind.1.0 i)) ahead.1.0 behind.1.1;
+      spare = ahead.spare;
+      starts = carried (λ i. starts_of (ahead.is i) (behind.held i) (behind.pairs i)) ahead.none behind.none;
     }

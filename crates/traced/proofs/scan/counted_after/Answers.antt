@@ -23,12 +23,6 @@ use Rattle.stream.specs.declared.Stream.{Stream}
 use Rattle.traced.specs.Byte.{live_next}
 use Rattle.traced.proofs.scan.counted_after.Goals as goal
 
-abbrev table : goal.Start → List ℕ
-table c = c.args.words.now
-
-long : (c : goal.Start) → table_words ≤ length (table c)
-long c = (passes (table c) c.requires.0).long
-
 word-there : (n : ℕ) → table_words ≤ n → lengths_at < n
 word-there n h = omega arith
 
@@ -40,31 +34,27 @@ by_parts : (w : Automaton) (s : Stream) (next live : List ℕ) (x : ℕ) {was re
 by_parts w s next live x e f g h = cc
 
 pub bounds-words-707 : goal.bounds-words-707
-bounds-words-707 c = let s = c.before.before in word-there (length (table s)) (long s)
+bounds-words-707 c = let t = c.args.words.now in word-there (length t) (passes t c.requires.0).long
 
 pub returns-then-words-eq0 : goal.returns-then-words-eq0
 returns-then-words-eq0 c =
-    let s = c.before.before.before in
-    let a = s.args in
-    all-long (table s) a.next (live_next (automaton (table s)) a.s a.live.now a.byte) (suc a.s.taken) (words-good a.next _ s.well-formed.1.1.0) c.if-words-eq0.true
-
-abbrev begun : goal.After-step_starts-stepped → goal.Start
-begun c = let back = c.before.before.before.before.before.before in back.before.before.before
+    let a = c.args in
+    let t = a.words.now in
+    all-long t a.next (live_next (automaton t) a.s a.live.now a.byte) (suc a.s.taken) (words-good a.next _ c.well_formed.1.1.0) c.if-words-eq0.true
 
 pub overflow_add-s : goal.overflow_add-s
-overflow_add-s c = omega (arith, (begun c.before.before).requires.3)
+overflow_add-s c = omega (arith, c.requires.3)
 
 pub returns : goal.returns
 returns c =
-    let o = c.before.before.before in
-    let s = begun o in
-    let a = s.args in
-    let t = table s in
+    let a = c.args in
+    let t = a.words.now in
+    let long = (passes t c.requires.0).long in
     let w = automaton t in
     let starts =
-    o.step_starts-stepped.ensures
-    ∙ sym (list_on_lem t max_positions (stepped_starts w false a.s.last o.side_of.result o.intersection-was.result a.live.now o.intersection-reached.result a.s.taken) (long s))
-    ∙ by_parts w a.s a.next a.live.now a.byte s.requires.1.keepers_are o.intersection-was.ensures o.intersection-reached.ensures o.side_of.ensures
-    ∙ ap (λ (n : List ℕ). stepped_starts w false a.s.last (side_of a.byte) (intersection_of a.s.live (keepers_of w)) a.live.now (intersection_of n (keepers_of w)) a.s.taken) s.requires.2 in
-    c.long_in.ensures ∙ set_on_lem t (long_in w a.next o.step_starts-stepped.result (a.s.taken + 1)) (long s)
+    c.step_starts-stepped.ensures
+    ∙ sym (list_on_lem t max_positions (stepped_starts w false a.s.last c.side_of.result c.intersection-was.result a.live.now c.intersection-reached.result a.s.taken) long)
+    ∙ by_parts w a.s a.next a.live.now a.byte c.requires.1.keepers_are c.intersection-was.ensures c.intersection-reached.ensures c.side_of.ensures
+    ∙ ap (λ (n : List ℕ). stepped_starts w false a.s.last (side_of a.byte) (intersection_of a.s.live (keepers_of w)) a.live.now (intersection_of n (keepers_of w)) a.s.taken) c.requires.2 in
+    c.long_in.ensures ∙ set_on_lem t (long_in w a.next c.step_starts-stepped.result (a.s.taken + 1)) long
     ∙ ap₂ (λ (l : List ℕ) (n : ℕ). long_in w a.next l n) starts (add-one a.s.taken)

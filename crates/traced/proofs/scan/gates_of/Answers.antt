@@ -14,7 +14,7 @@ use Rattle.traced.proofs.scan.gates_of.Goals as goal
 
 pub bounds-words-2 : goal.bounds-words-2
 bounds-words-2 c =
-    let c-start = c.before.before.before in
+    let c-start = c in
     positions-word (length c-start.args.words.now) c-start.requires
 
 pub returns : goal.returns
@@ -25,7 +25,7 @@ returns c =
     let c-lates = c.lates-late in
     let c-lasts = c.lasts-last in
     let c-below = c.below-positions in
-    let back = c.before.before.before.before.before.before in
+    let back = c in
     let c-full = back.full in
     let c-start = back.before.before.before in
     let t = c-start.args.words.now in

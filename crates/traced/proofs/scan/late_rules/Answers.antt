@@ -35,7 +35,7 @@ returns-then-meets c =
     let c-late-ending = c.late_ending in
     let c-side-of = c.side_of in
     let c-long-in = c.long_in-counts in
-    let back = c.before.before.before.before.before.before in
+    let back = c in
     let c-start = back.before.before.before in
     let a = c-start.args in
     let s = a.s in
@@ -53,6 +53,6 @@ pub returns-else-meets : goal.returns-else-meets
 returns-else-meets c =
     let c-if1 = c.if-meets in
     let c-meets = c.meets in
-    let c-start = c.before.before.before.before.before in
+    let c-start = c in
     let a = c-start.args in
     late-none (automaton a.words.now) a.s a.live.now a.byte a.gates.late c-start.requires.1.late_is (sym c-meets.ensures ∙ c-if1.false)

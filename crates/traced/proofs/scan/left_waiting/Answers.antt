@@ -16,25 +16,21 @@ use Rattle.stream.proofs.Answers.{none-held, none-pending, line-held, start-pend
 use Rattle.traced.specs.Byte.{counted}
 use Rattle.traced.proofs.scan.left_waiting.Goals as goal
 
--- the stream of which the pairs are asked
-abbrev asked : goal.Start → Stream
-asked c = let a = c.args in counted (automaton a.words.now) a.s a.live.now
-
 pub returns-then-byte-ne-NEWLINE : goal.returns-then-byte-ne-NEWLINE
 returns-then-byte-ne-NEWLINE c =
     let c-empty = c.empty-held in
     let c-if1 = c.if-byte-ne-NEWLINE in
-    let c-start = c.before.before.before in
+    let c-start = c in
     let a = c-start.args in
     let w = automaton a.words.now in
     record {
       held = none-held w a.s a.byte c-if1.true c-empty.result c-empty.ensures;
-      pending = none-pending w (asked c-start) a.byte c-if1.true;
+      pending = none-pending w (counted w a.s a.live.now) a.byte c-if1.true;
     }
 
 pub bounds-words-2 : goal.bounds-words-2
 bounds-words-2 c =
-    let c-start = c.before.before.before in
+    let c-start = c in
     positions-word (length c-start.args.words.now) c-start.requires
 
 pub returns-then-s-eq0 : goal.returns-then-s-eq0
@@ -43,12 +39,13 @@ returns-then-s-eq0 c =
     let c-line-step = c.line_step-held in
     let c-side-of = c.side_of in
     let c-if1 = c.if-byte-ne-NEWLINE in
-    let back = c.before.before.before.before.before.before in
-    let c-start = back.before.before in
+    let back = c in
+    let c-start = c in
     let a = c-start.args in
-    let t = a.words.now in record {
+    let t = a.words.now in
+    let w = automaton t in record {
       held = line-held t c-start.requires a.s a.byte c-if1.false c-side-of.result c-side-of.ensures c-line-step.result c-line-step.ensures;
-      pending = start-pending t c-start.requires (asked c-start) a.byte c-if1.false c-if2.true;
+      pending = start-pending t c-start.requires (counted w a.s a.live.now) a.byte c-if1.false c-if2.true;
     }
 
 -- the rules that end before a newline that is the last byte
@@ -62,14 +59,14 @@ returns c =
     let c-if2 = c.if-s-eq0 in
     let c-line-step = c.line_step-held in
     let c-side-of = c.side_of in
-    let back = c.before.before.before.before.before.before in
+    let back = c in
     let c-if1 = back.if-byte-ne-NEWLINE in
-    let c-start = back.before.before.before.before in
+    let c-start = c in
     let a = c-start.args in
     let t = a.words.now in
     let w = automaton t in
     let counts = long_in w a.s.live a.live.now a.s.taken in record {
       held = line-held t c-start.requires a.s a.byte c-if1.false c-side-of.result c-side-of.ensures c-line-step.result c-line-step.ensures;
-      pending = line-pending t c-start.requires (asked c-start) a.byte c-if1.false c-if2.false c-line-ending.result
+      pending = line-pending t c-start.requires (counted w a.s a.live.now) a.byte c-if1.false c-if2.false c-line-ending.result
           (c-line-ending.ensures ∙ ap (λ (l : List ℕ). number_on t (line_rules w a.s l)) (c-long-in.ensures ∙ set_on_lem t counts c-start.requires));
     }

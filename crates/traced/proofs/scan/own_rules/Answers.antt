@@ -37,13 +37,13 @@ pub counted_after-counts-requires : goal.counted_after-counts-requires
 counted_after-counts-requires c = c.requires
 
 pub overflow_add-s : goal.overflow_add-s
-overflow_add-s c = let back = c.before.before.before.before.before.before in omega (arith, back.requires.3)
+overflow_add-s c = let back = c in omega (arith, back.requires.3)
 
 pub returns-then-meets : goal.returns-then-meets
 returns-then-meets c =
     let c-counted = c.counted_after-counts in
-    let back = c.before.before.before.before.before.before in
-    let c-start = back.before.before in
+    let back = c in
+    let c-start = c in
     let a = c-start.args in
     let s = a.s in
     let t = a.words.now in
@@ -60,7 +60,7 @@ pub returns-else-meets : goal.returns-else-meets
 returns-else-meets c =
     let c-if1 = c.if-meets in
     let c-meets = c.meets in
-    let c-start = c.before.before.before.before in
+    let c-start = c in
     let a = c-start.args in
     let s = a.s in
     let w = automaton a.words.now in
