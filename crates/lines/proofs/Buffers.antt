@@ -8,7 +8,7 @@ use native.Mathlib.Numerals.{add-one}
 use native.Mathlib.Omega.{arith}
 use native.Mathlib.Decide.{dec_lt}
 use borrow.Author.Tests.{le-leb, lt-leb}
-use lib.ListN.{length, get_or, take, drop, length-append, length-take, length-drop}
+use lib.ListN.{length, get_or, take, length-append, length-take, length-drop}
 use lib.Seq.{take_at}
 use Rattle.lines.specs.Output.{Buffer, buffer, placed, reports_placed, report_line}
 use Rattle.lines.proofs.Laws.{most-digits}

@@ -8,6 +8,7 @@ use native.Mathlib.Omega.{arith}
 use lib.Dec.{leb}
 use lib.IntN.{ℤ}
 use lib.ListN.{length, take, drop, length-drop}
+use lib.Seq.{length-take-le}
 use borrow.Author.Tests.{le-leb}
 use Rattle.lines.specs.Numbers.{askable}
 use Rattle.lines.proofs.Laws.{askable-limit}
@@ -111,29 +112,33 @@ module _ {S R : Type 0} (k : Way S R) where
               ∙ sym (after-later (k.machine (automaton t)) s block from taken);
         }
 
--- what is lent keeps its length
-pub record Lent (ids₀ offsets₀ out₀ ids offsets out : List ℕ) : Type 0 where
-  pub ids_same : length ids ≡ length ids₀
-  pub offsets_same : length offsets ≡ length offsets₀
-  pub out_same : length out ≡ length out₀
-
-pub record LentStarts (starts₀ : List ℕ) (relatives₀ : List ℤ) (starts : List ℕ) (relatives : List ℤ) : Type 0 where
-  pub starts_same : length starts ≡ length starts₀
-  pub relatives_same : length relatives ≡ length relatives₀
-
--- so there is room as before
-pub still-roomy : {ids₀ offsets₀ out₀ ids offsets out : List ℕ} → Lent ids₀ offsets₀ out₀ ids offsets out → Roomy ids₀ offsets₀ → Roomy ids offsets
-still-roomy l r = (omega (arith, l.ids_same, r.0), omega (arith, l.offsets_same, r.1))
-
-pub still-wide : {ids₀ offsets₀ out₀ ids offsets out starts₀ starts : List ℕ} {relatives₀ relatives : List ℤ} → Lent ids₀ offsets₀ out₀ ids offsets out
-    → LentStarts starts₀ relatives₀ starts relatives → Wide ids₀ offsets₀ starts₀ relatives₀ → Wide ids offsets starts relatives
-still-wide l m r = (still-roomy l r.0, (omega (arith, m.starts_same, r.1.0), omega (arith, m.relatives_same, r.1.1)))
-
--- the loop over the input: the stream runs on
-pub record Input {S R : Type 0} (k : Way S R) (t block₀ ids₀ offsets₀ out₀ block ids offsets out : List ℕ) (now : S) : Type 0 where
+-- the loop over the input: the stream runs on, and there is room for its reports
+pub record Input {S R : Type 0} (k : Way S R) (t ids offsets : List ℕ) (now : S) : Type 0 where
   pub runs : Running k t now
-  pub block_same : length block ≡ length block₀
-  pub lent : Lent ids₀ offsets₀ out₀ ids offsets out
+  pub room : Roomy ids offsets
+
+-- a block that was read, of which no more was asked for than the stream may still take
+module _ {S R : Type 0} (k : Way S R) (law : Lawful k) (t block : List ℕ) (s : S) (size : ℕ) (h : Running k t s) (within : size ≤ length block)
+    (most : size ≤ askable (k.stream s).taken (length block)) where
+  pub asked : (k.stream s).taken + length (take size block) ≤ stream_limit
+  asked = omega (arith, length-take-le size block within, asked-fits k law t s (length block) size h most)
+
+-- and the state after it
+pub record Grown {S R : Type 0} (k : Way S R) (t : List ℕ) (s next : S) (size : ℕ) : Type 0 where
+  pub runs : Running k t next
+  pub longer : (k.stream next).taken ≡ (k.stream s).taken + size
+  pub limited : (k.stream s).taken + size ≤ stream_limit
+
+pub grown : {S R : Type 0} (k : Way S R) → Lawful k → (t block : List ℕ) (s next : S) (size : ℕ) → Running k t s → size ≤ length block
+    → size ≤ askable (k.stream s).taken (length block) → next ≡ after (k.machine (automaton t)) s (take size block) (length (take size block)) → Grown k t s next size
+grown k law t block s next size h within most e =
+    let fit = asked k law t block s size h within most in
+    let long = length-take-le size block within in
+    record {
+      runs = runs_on k law t s next (take size block) e h fit;
+      longer = omega (arith, long, longer k law t s next (take size block) e);
+      limited = omega (arith, long, fit);
+    }
 
 -- ---- without starts
 
@@ -182,6 +187,13 @@ pair-scans t block now from ids offsets h short room r e =
     (ap (λ (rest : List ℕ). stream.scanned t now (unlimited rest ids offsets)) (sym (rest-is block from)) ∙ sym e)
     (scans t now (drop from block) ids offsets h short room)
 
+-- half way through a block
+pub pair-step : (t block : List ℕ) (s now : Stream) (from : ℕ) (ids offsets : List ℕ) → Running pairs t s → s.taken + length block ≤ stream_limit
+    → Half pairs t block s now from → Roomy ids offsets
+    → (r : Scanned) → r ≡ stream.scanned t now (unlimited (take (length block - from) (drop from block)) ids offsets) → Scans pairs t now (drop from block) r.taken r.stream
+pair-step t block s now from ids offsets h short half room =
+    pair-scans t block now from ids offsets (runs pairs pair-law t block s now from h short half) (fits pairs pair-law t block s now from h short half) room
+
 -- ---- with starts
 
 pub trace-law : Lawful traces
@@ -224,3 +236,11 @@ trace-scans t block now from ids offsets starts relatives h short room r e =
     subst (λ (r : Trace-scanned). Scans traces t now (drop from block) r.taken r.traced)
     (ap (λ (rest : List ℕ). traced.scanned t now (unlimited-trace rest ids offsets starts relatives)) (sym (rest-is block from)) ∙ sym e)
     (traced-scans t now (drop from block) ids offsets starts relatives h short room)
+
+-- half way through a block
+pub trace-step : (t block : List ℕ) (z now : Traced) (from : ℕ) (ids offsets starts : List ℕ) (relatives : List ℤ) → Running traces t z
+    → z.stream.taken + length block ≤ stream_limit → Half traces t block z now from → Wide ids offsets starts relatives
+    → (r : Trace-scanned) → r ≡ traced.scanned t now (unlimited-trace (take (length block - from) (drop from block)) ids offsets starts relatives)
+    → Scans traces t now (drop from block) r.taken r.traced
+trace-step t block z now from ids offsets starts relatives h short half room =
+    trace-scans t block now from ids offsets starts relatives (runs traces trace-law t block z now from h short half) (fits traces trace-law t block z now from h short half) room

@@ -8,11 +8,11 @@ mod rules_file;
 mod trace;
 mod watch;
 
-fn main() {
+fn main(rt: HostRuntime) {
     let mut words = [0u64; 16384];
     table::empty(&mut words);
-    let mut out = io::large_buffer();
-    if rules_file::add_rules(&mut words, &mut out) {
-        watch::watch(&words, &mut out);
+    let mut out = [0u8; 65536];
+    if rules_file::add_rules(&rt, rt.stdout(), &mut words, &mut out) {
+        watch::watch(rt.stdin(), rt.stdout(), &words, &mut out);
     }
 }

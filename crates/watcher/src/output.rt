@@ -2,7 +2,7 @@
 // fails ends the program.
 ghost use Rattle.std.specs.Prelude.{◌≤◌, length};
 
-use libc::STDOUT_FILENO;
+use std::io::Stdout;
 
 // What became of a line: whether nothing failed, and where the next line goes in the buffer.
 #[derive(Clone, Copy)]
@@ -12,20 +12,27 @@ pub struct Said {
 }
 
 // Writes the lines that wait in the buffer; whether all was written.
-pub fn flush(out: &[u8], size: usize) -> bool
+pub fn flush(stdout: Stdout, out: &[u8], size: usize) -> bool
     requires { size ≤ length out.now }
 {
-    io::write_all(STDOUT_FILENO, &out[..size])
+    stdout.write_all(&out[..size]).is_ok()
 }
 
 // Says that the rules file is too long.
-pub fn say_too_long() -> bool {
-    io::write_all(STDOUT_FILENO, b"rules too long\n")
+pub fn say_too_long(stdout: Stdout) -> bool {
+    stdout.write_all(b"rules too long\n").is_ok()
 }
 
 // Says that a rule was refused: the line goes behind those that wait, which are written first where
 // it does not fit. Of an accepted rule nothing is said.
-pub fn say_answer(out: &mut [u8], at: usize, line: u64, number: u32, place: usize) -> Said
+pub fn say_answer(
+    stdout: Stdout,
+    out: &mut [u8],
+    at: usize,
+    line: u64,
+    number: u32,
+    place: usize,
+) -> Said
     requires { at ≤ length out.old }
     ensures { result.next ≤ length out.new }
 {
@@ -39,7 +46,7 @@ pub fn say_answer(out: &mut [u8], at: usize, line: u64, number: u32, place: usiz
     if at < next {
         return Said { good: true, next };
     }
-    if !flush(out, at) {
+    if !flush(stdout, out, at) {
         return Said {
             good: false,
             next: 0,
@@ -50,14 +57,27 @@ pub fn say_answer(out: &mut [u8], at: usize, line: u64, number: u32, place: usiz
 }
 
 // Says the reports of a scan, all with one write; whether all was written.
-pub fn say_reports(out: &mut [u8], ids: &[u32], offsets: &[u64], count: usize) -> bool {
+pub fn say_reports(
+    stdout: Stdout,
+    out: &mut [u8],
+    ids: &[u32],
+    offsets: &[u64],
+    count: usize,
+) -> bool {
     let size = lines::put_reports(out, 0, ids, offsets, count);
-    flush(out, size)
+    flush(stdout, out, size)
 }
 
 // Says the reports of the closing and the end of the stream.
-pub fn say_end(out: &mut [u8], ids: &[u32], offsets: &[u64], count: usize, taken: u64) -> bool {
+pub fn say_end(
+    stdout: Stdout,
+    out: &mut [u8],
+    ids: &[u32],
+    offsets: &[u64],
+    count: usize,
+    taken: u64,
+) -> bool {
     let at = lines::put_reports(out, 0, ids, offsets, count);
     let size = lines::put_end(out, at, taken);
-    flush(out, size)
+    flush(stdout, out, size)
 }

@@ -1,26 +1,39 @@
 // The rules file: read whole, then added line by line.
-ghost use Rattle.std.specs.Prelude.{◌≡◌};
-ghost use Rattle.io.specs.Counts.{IsPrefixLen};
+ghost use Rattle.std.specs.Prelude.{◌≡◌, ◌≤◌, length};
 ghost use Rattle.watcher.specs.Lines.{line_answer, line_words};
 ghost use Rattle.watcher.specs.Invariants.{FromEmpty};
 
 use crate::output;
 use rules::Added;
+use std::fs;
+use std::io::{Read, Stdout};
+use std::rt::Files;
 
 // The most bytes of a rules file. One byte more is read, to see that there is no more.
 const MOST: usize = 16_384;
 
-// Reads the start of the rules file; how many bytes. A file that cannot be opened has none.
-fn read_rules(text: &mut [u8]) -> usize
-    ensures { IsPrefixLen result text.new }
+// Reads until the text is full, the file ends or a read fails; how many bytes.
+fn read_full(file: &mut impl Read, text: &mut [u8]) -> usize
+    ensures { result ≤ length text.new }
 {
-    let file = os::open_read(b"rules.txt");
-    if file < 0 {
-        return 0;
+    let mut size = 0;
+    while size < text.len() {
+        match file.read(&mut text[size..]) {
+            Ok(0) | Err(_) => break,
+            Ok(more) => size += more,
+        }
     }
-    let size = io::read_full(file, text);
-    libc::close(file);
     size
+}
+
+// Reads the start of the rules file; how many bytes. A file that cannot be opened has none.
+fn read_rules(rt: &impl Files, text: &mut [u8]) -> usize
+    ensures { result ≤ length text.new }
+{
+    match fs::open(rt, "rules.txt") {
+        Ok(mut file) => read_full(&mut file, text),
+        Err(_) => 0,
+    }
 }
 
 // Adds the rule of a line. A malformed line is refused with 22.
@@ -40,7 +53,7 @@ fn add_line(words: &mut [u64], line: &[u8]) -> Added
 }
 
 // Adds the rules of a text, line by line, and says which were refused; whether all was written.
-fn add_lines(words: &mut [u64], text: &[u8], out: &mut [u8]) -> bool
+fn add_lines(stdout: Stdout, words: &mut [u64], text: &[u8], out: &mut [u8]) -> bool
     requires { FromEmpty words.old }
     ensures { FromEmpty words.new }
 {
@@ -51,26 +64,26 @@ fn add_lines(words: &mut [u64], text: &[u8], out: &mut [u8]) -> bool
         let end = lines::line_end(text, from);
         line += 1;
         let added = add_line(words, &text[from..end]);
-        let said = output::say_answer(out, at, line, added.number, added.place);
+        let said = output::say_answer(stdout, out, at, line, added.number, added.place);
         if !said.good {
             return false;
         }
         at = said.next;
         from = end + 1;
     }
-    output::flush(out, at)
+    output::flush(stdout, out, at)
 }
 
 // Adds the rules of rules.txt; whether to go on.
-pub fn add_rules(words: &mut [u64], out: &mut [u8]) -> bool
+pub fn add_rules(rt: &impl Files, stdout: Stdout, words: &mut [u64], out: &mut [u8]) -> bool
     requires { FromEmpty words.old }
     ensures { FromEmpty words.new }
 {
     let mut text = [0u8; 16385];
-    let size = read_rules(&mut text);
+    let size = read_rules(rt, &mut text);
     if MOST < size {
-        output::say_too_long();
+        output::say_too_long(stdout);
         return false;
     }
-    add_lines(words, &text[..size], out)
+    add_lines(stdout, words, &text[..size], out)
 }

@@ -7,6 +7,7 @@ ghost use Rattle.watcher.specs.Invariants.{traces, Running, Roomy, Wide, AllTake
 
 use crate::output;
 use crate::watch::read_block;
+use std::io::{Stdin, Stdout};
 use stream::NO_LIMIT;
 use traced::Traced;
 
@@ -20,6 +21,7 @@ struct Traces {
 // Scans a block and writes its reports. What a scan leaves, because its reports would not have
 // fitted, is offered again.
 fn trace_block(
+    stdout: Stdout,
     traced: Traced,
     words: &[u64],
     block: &[u8],
@@ -45,7 +47,7 @@ fn trace_block(
             starts,
             relatives,
         );
-        if !output::say_reports(out, ids, offsets, scanned.reports) {
+        if !output::say_reports(stdout, out, ids, offsets, scanned.reports) {
             return Traces {
                 good: false,
                 traced,
@@ -60,6 +62,8 @@ fn trace_block(
 // Watches the input to its end, closes the stream and writes the last lines; a write that fails
 // ends it before. Whether all was written.
 pub fn trace_input(
+    stdin: Stdin,
+    stdout: Stdout,
     words: &[u64],
     block: &mut [u8],
     ids: &mut [u32],
@@ -73,11 +77,12 @@ pub fn trace_input(
     let opened = Traced::open(words);
     let mut traced = opened.traced;
     loop {
-        let size = read_block(block, traced.stream.taken);
+        let size = read_block(stdin, block, traced.stream.taken);
         if size == 0 {
             break;
         }
         let watched = trace_block(
+            stdout,
             traced,
             words,
             &block[..size],
@@ -94,5 +99,5 @@ pub fn trace_input(
     }
     let total = traced.stream.taken;
     let closed = traced.close(words, ids, offsets, &mut starts, &mut relatives);
-    output::say_end(out, ids, offsets, closed.reports, total)
+    output::say_end(stdout, out, ids, offsets, closed.reports, total)
 }

@@ -2,7 +2,6 @@
 // then the stream is closed. No call of the library is refused here: the lists have room for two
 // reports of each rule, and what is asked for stays within the stream's limit.
 ghost use Rattle.std.specs.Prelude.{◌≡◌, true, false, ◌+◌, ◌≤◌, length};
-ghost use Rattle.io.specs.Counts.{IsPrefixLen};
 ghost use Rattle.lines.specs.Numbers.{askable};
 ghost use Rattle.table.specs.Table.{is_table};
 ghost use Rattle.table.specs.Automaton.{automaton};
@@ -11,7 +10,7 @@ ghost use Rattle.watcher.specs.Invariants.{pairs, Running, Roomy, AllTaken};
 
 use crate::output;
 use crate::trace::trace_input;
-use libc::STDIN_FILENO;
+use std::io::{Read, Stdin, Stdout};
 use stream::{NO_LIMIT, Stream, needs_starts};
 
 // What became of a block: whether its reports were written, and the state after it.
@@ -23,25 +22,28 @@ struct Watched {
 
 // Reads some of the next bytes of the input; how many. There are none at its end, and none where a
 // read fails.
-fn read_some(part: &mut [u8]) -> usize
-    ensures { IsPrefixLen result part.new }
+fn read_some(mut stdin: Stdin, part: &mut [u8]) -> usize
+    ensures { result ≤ length part.new }
 {
-    let got = libc::read(STDIN_FILENO, part);
-    io::count(got, part)
+    match stdin.read(part) {
+        Ok(size) => size,
+        Err(_) => 0,
+    }
 }
 
 // The same, and no more than the stream may still take.
-pub(super) fn read_block(block: &mut [u8], taken: u64) -> usize
-    ensures prefix_len { IsPrefixLen result block.new }
+pub(super) fn read_block(stdin: Stdin, block: &mut [u8], taken: u64) -> usize
+    ensures within { result ≤ length block.new }
     ensures upper_bound { result ≤ askable taken (length block.old) }
 {
     let most = lines::askable(taken, block.len());
-    read_some(&mut block[..most])
+    read_some(stdin, &mut block[..most])
 }
 
 // Scans a block and writes its reports. What a scan leaves, because its reports would not have
 // fitted, is offered again.
 fn watch_block(
+    stdout: Stdout,
     stream: Stream,
     words: &[u64],
     block: &[u8],
@@ -56,7 +58,7 @@ fn watch_block(
     let mut from = 0;
     while from < block.len() {
         let scanned = stream.scan(words, NO_LIMIT, &block[from..], ids, offsets);
-        if !output::say_reports(out, ids, offsets, scanned.reports) {
+        if !output::say_reports(stdout, out, ids, offsets, scanned.reports) {
             return Watched {
                 good: false,
                 stream,
@@ -71,6 +73,8 @@ fn watch_block(
 // Watches the input to its end, closes the stream and writes the last lines; a write that fails
 // ends it before. Whether all was written.
 fn watch_input(
+    stdin: Stdin,
+    stdout: Stdout,
     words: &[u64],
     block: &mut [u8],
     ids: &mut [u32],
@@ -82,31 +86,47 @@ fn watch_input(
     let opened = Stream::open(words);
     let mut stream = opened.stream;
     loop {
-        let size = read_block(block, stream.taken);
+        let size = read_block(stdin, block, stream.taken);
         if size == 0 {
             break;
         }
-        let watched = watch_block(stream, words, &block[..size], ids, offsets, out);
+        let watched = watch_block(stdout, stream, words, &block[..size], ids, offsets, out);
         if !watched.good {
             return false;
         }
         stream = watched.stream;
     }
     let closed = stream.close(words, ids, offsets);
-    output::say_end(out, ids, offsets, closed.reports, stream.taken)
+    output::say_end(stdout, out, ids, offsets, closed.reports, stream.taken)
 }
 
 // Watches standard input under a table. The lines of all reports of a call fit in the output's
 // 65,536 bytes: 1,536 times at most 42 bytes.
-pub fn watch(words: &[u64], out: &mut [u8])
+pub fn watch(stdin: Stdin, stdout: Stdout, words: &[u64], out: &mut [u8])
     requires { is_table words.now ≡ true }
 {
-    let mut block = io::large_buffer();
+    let mut block = [0u8; 65536];
     let mut ids = [0u32; 1536];
     let mut offsets = [0u64; 1536];
     if needs_starts(words) {
-        trace_input(words, &mut block, &mut ids, &mut offsets, out);
+        trace_input(
+            stdin,
+            stdout,
+            words,
+            &mut block,
+            &mut ids,
+            &mut offsets,
+            out,
+        );
         return;
     }
-    watch_input(words, &mut block, &mut ids, &mut offsets, out);
+    watch_input(
+        stdin,
+        stdout,
+        words,
+        &mut block,
+        &mut ids,
+        &mut offsets,
+        out,
+    );
 }

@@ -1,7 +1,6 @@
 -- `lines::digits_at` meets its contract: the loop's invariant is `Reading`, which takes a step at
 -- each digit and gives the answer where the digits end.
 use mathlib.Core.Path.{sym, ◌∙◌}
-use Prim.Native.Nat.{ℕ, ◌≤◌}
 use native.Mathlib.Omega.{arith}
 use lib.ListN.{get_or}
 use borrow.Author.Tests.{not-true, not-false}

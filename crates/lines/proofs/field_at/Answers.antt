@@ -1,8 +1,6 @@
 -- `lines::field_at` meets its contract: its tests are the four properties of a field, and a field's
 -- number is below the cap and its space within the line.
 use mathlib.Core.Path.{◌≡◌, refl, sym}
-use mathlib.Core.List.{List}
-use Prim.Native.Nat.{ℕ}
 use native.Mathlib.Omega.{arith}
 use borrow.Author.Tests.{leb-true, leb-false, eqb-true, eqb-false}
 use lib.ListN.{get_or, drop}

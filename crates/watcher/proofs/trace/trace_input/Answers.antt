@@ -1,135 +1,34 @@
 -- `watcher::trace::trace_input` is safe and ends: a block is not empty and is taken whole, so the
 -- stream grows towards its limit.
-use mathlib.Core.Path.{◌≡◌, refl, sym, ap, subst, ◌∙◌}
-use mathlib.Core.List.{List}
-use Prim.Native.Nat.{ℕ, ◌+◌, ◌≤◌}
+use mathlib.Core.Path.{sym, ap, subst}
 use native.Mathlib.Omega.{arith}
 use borrow.Author.Tests.{not-false}
-use lib.ListN.{length, take}
-use lib.Seq.{length-take-le}
 use Rattle.traced.specs.declared.Opened.{Opened}
-use Rattle.stream.specs.Valid.{stream_limit}
 use Rattle.watcher.specs.Invariants.{traces, Running}
-use Rattle.watcher.proofs.Watching.{still-roomy, runs_on, longer, asked-fits, trace-law, opened-traces}
+use Rattle.watcher.proofs.Watching.{asked, grown, trace-law, opened-traces}
 use Rattle.watcher.proofs.trace.trace_input.Goals as goal
 
 pub loop-size-init : goal.loop-size-init
 loop-size-init c =
-    let opened = c.before in
-    let start = opened.before.before.before.before.before.before in
-    let runs = subst (Running traces _) (sym (ap (λ (o : Opened). o.traced) opened.«open».ensures)) (opened-traces _ start.requires.0) in
-    (record { runs = runs; block_same = refl; lent = record { ids_same = refl; offsets_same = refl; out_same = refl } }, refl, refl)
-
--- what is known once a block was read: the loop, the start of the call, and that the bytes fit
-module _ (r : goal.After-read_block-size) where
-  abbrev loop-at : goal.At-loop-size
-  loop-at = r.before.before
-
-  abbrev begun : goal.Start
-  begun = let opened = loop-at.before.before in opened.before.before.before.before.before.before
-
-  abbrev bytes : List ℕ
-  bytes = take r.read_block-size.result r.read_block-size.last.0
-
-  size : length bytes ≡ r.read_block-size.result
-  size = length-take-le _ _ r.read_block-size.ensures.prefix_len.0
-
-  fits : loop-at.loop-size.traced.stream.taken + length bytes ≤ stream_limit
-  fits =
-      omega (
-        arith,
-        size,
-        asked-fits traces trace-law begun.args.words.now loop-at.loop-size.traced (length loop-at.loop-size.block) r.read_block-size.result
-            loop-at.loop-size.inv.0.runs r.read_block-size.ensures.upper_bound,
-      )
-
-pub slice_bounds-trace_block-end : goal.slice_bounds-trace_block-end
-slice_bounds-trace_block-end c = c.read_block-size.ensures.prefix_len.0
-
-pub slice_bounds-trace_block-end-in-loop-size : goal.slice_bounds-trace_block-end-in-loop-size
-slice_bounds-trace_block-end-in-loop-size c = c.read_block-size.ensures.prefix_len.1
-
-pub slice_bounds-trace_block-end-in-loop-size-2 : goal.slice_bounds-trace_block-end-in-loop-size-2
-slice_bounds-trace_block-end-in-loop-size-2 c =
-    let some = c.before.before.before.before in
-    sym (loop-at some.before.before.before).loop-size.inv.1
-
-pub slice_bounds-trace_block-end-in-loop-size-3 : goal.slice_bounds-trace_block-end-in-loop-size-3
-slice_bounds-trace_block-end-in-loop-size-3 c =
-    let some = c.before.before.before.before.before in
-    sym (loop-at some.before.before.before).loop-size.inv.2
+    let runs = subst (Running traces _) (sym (ap (λ (o : Opened). o.traced) c.«open».ensures)) (opened-traces _ c.requires.0) in
+    record { runs = runs; room = c.requires.1 }
 
 pub trace_block-watched-requires : goal.trace_block-watched-requires
 trace_block-watched-requires c =
-    let some = c.before.before.before.before.before.before in
-    let r = some.before.before.before in
-    let k = (loop-at r).loop-size.invariant in
-    (k.0.runs, fits r, (still-roomy k.0.lent (begun r).requires.1, (omega (arith, k.1), omega (arith, k.2))))
-
--- what is known once its reports were written
-module _ (o : goal.After-out-1) where
-  abbrev offsets-at : goal.After-offsets-1
-  offsets-at = o.before.before.before.before
-
-  abbrev ids_at : goal.After-ids-1
-  ids_at = offsets-at.before.before
-
-  abbrev called : goal.After-trace_block-watched
-  called = ids_at.before
-
-  abbrev some : goal.Else-size-eq0
-  some = let lent = called.before.before.before in lent.before.before.before.before
-
-  abbrev block_at : goal.After-block-1
-  block_at = some.before.before
-
-  abbrev read : goal.After-read_block-size
-  read = block_at.before
+    let l = c.loop-size in
+    let r = c.read_block-size in
+    (l.invariant.runs, asked traces trace-law _ _ _ _ l.invariant.runs r.ensures.within r.ensures.upper_bound, (l.invariant.room, (omega arith, omega arith)))
 
 pub loop-size-smaller : goal.loop-size-smaller
 loop-size-smaller c =
-    let o = c.before.before.before.before in
-    let r = read o in
-    let e = (called o).trace_block-watched.ensures (not-false _ c.if-not-watched.false) in
-    omega (arith, size r, fits r, (some o).if-size-eq0.false, longer traces trace-law (begun r).args.words.now (loop-at r).loop-size.traced (called o).trace_block-watched.result.traced (bytes r) e)
+    let l = c.loop-size in
+    let r = c.read_block-size in
+    let e = c.trace_block-watched.ensures (not-false _ c.if-not-watched.false) in
+    omega (arith, c.if-size-eq0.false, grown traces trace-law _ _ _ _ _ l.invariant.runs r.ensures.within r.ensures.upper_bound e)
 
 pub loop-size-preserved : goal.loop-size-preserved
 loop-size-preserved c =
-    let o = c.before.before.before.before in
-    let r = read o in
-    let k = (loop-at r).loop-size.inv.0 in
-    let e = (called o).trace_block-watched.ensures (not-false _ c.if-not-watched.false) in (
-      record {
-        runs = runs_on traces trace-law (begun r).args.words.now (loop-at r).loop-size.traced (called o).trace_block-watched.result.traced (bytes r) e k.runs (fits r);
-        block_same = (block_at o).block-1.given ∙ k.block_same;
-        lent = record {
-          ids_same = (ids_at o).ids-1.given ∙ k.lent.ids_same;
-          offsets_same = (offsets-at o).offsets-1.given ∙ k.lent.offsets_same;
-          out_same = o.out-1.given ∙ k.lent.out_same;
-        };
-      },
-      o.starts-in-loop-size-1.given,
-      o.relatives-in-loop-size-1.given,
-    )
-
-pub slice_bounds-close-end : goal.slice_bounds-close-end
-slice_bounds-close-end c = let r = c.before.before.before.before.before.before in sym (loop-at r).loop-size.invariant.1
-
-pub slice_bounds-close-end-2 : goal.slice_bounds-close-end-2
-slice_bounds-close-end-2 c =
-    let none = c.before.before.before.before in
-    sym (loop-at none.before.before.before).loop-size.inv.2
-
--- what is known once the last lines were written
-module _ (o : goal.After-out-2-1) where
-  abbrev last-offsets : goal.After-offsets-2-1
-  last-offsets = let said = o.before in let lists = said.before.before.before.before in lists.before.before.before
-
-  abbrev last-ids : goal.After-ids-2-1
-  last-ids = last-offsets.before.before
-
-  abbrev none : goal.Then-size-eq0
-  none = last-ids.before.before.before.before.before.before
-
-  abbrev last_block : goal.After-block-1
-  last_block = none.before.before
+    let l = c.loop-size in
+    let r = c.read_block-size in
+    let e = c.trace_block-watched.ensures (not-false _ c.if-not-watched.false) in
+    record { runs = (grown traces trace-law _ _ _ _ _ l.invariant.runs r.ensures.within r.ensures.upper_bound e).runs; room = (omega arith, omega arith) }

@@ -6,8 +6,5 @@ use Rattle.watcher.proofs.watch.watch.Goals as goal
 
 pub watch_input-requires : goal.watch_input-requires
 watch_input-requires c =
-    let other = c.before.before.before.before in
-    let asked = other.before in
-    let start = asked.before.before.before.before in
-    let t = start.args.words.now in
-    (start.requires, startless t start.requires asked.needs_starts.result asked.needs_starts.ensures other.if-needs_starts.false, (omega arith, omega arith))
+    let t = c.args.words.now in
+    (c.requires, startless t c.requires c.needs_starts.result c.needs_starts.ensures c.if-needs_starts.false, (omega arith, omega arith))

@@ -7,8 +7,7 @@ use Rattle.watcher.proofs.Watching.{Input}
 use Rattle.watcher.proofs.watch.watch_input.Given as goal
 
 abbrev pub invariant-loop-size : goal.invariant-loop-size
-invariant-loop-size l =
-    Input pairs l.words l.initial.block l.initial.ids l.initial.offsets l.initial.out l.block l.ids l.offsets l.out l.stream
+invariant-loop-size l = Input pairs l.words l.ids l.offsets l.stream
 
 abbrev pub decreases-loop-size : goal.decreases-loop-size
 decreases-loop-size l = stream_limit - l.stream.taken

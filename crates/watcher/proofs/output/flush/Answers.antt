@@ -1,7 +1,0 @@
--- `watcher::output::flush` is safe: the bytes lent are the first ones of the buffer.
-use mathlib.Core.Path.{sym}
-use lib.Seq.{length-take-le}
-use Rattle.watcher.proofs.output.flush.Goals as goal
-
-pub slice_bounds-write_all-end : goal.slice_bounds-write_all-end
-slice_bounds-write_all-end c = sym (length-take-le _ _ c.requires)
