@@ -10,7 +10,7 @@ use native.Mathlib.Numerals.{add-one}
 use native.Mathlib.Omega.{arith}
 use lib.Dec.{eqb, leb, ltb}
 use lib.ListN.{length, get_or, replicate, length-append, get_or-append}
-use borrow.Author.Tests.{lt-ltb, le-ltb, ltb-true, ltb-false}
+use borrow.Author.Tests.{lt-ltb, le-ltb, ltb-true}
 use Rattle.sets.specs.Set.{is_empty}
 use Rattle.kinds.specs.declared.Side.{Side}
 use Rattle.kinds.specs.declared.Side.TheVariants.{Other, Word, Newline}
@@ -19,11 +19,11 @@ use Rattle.table.specs.Automaton.{Automaton}
 use Rattle.table.specs.Invariants.{over, copied}
 use Rattle.table.proofs.Over.{Written, written_none, written-block, written_below, over-join}
 use Rattle.second.specs.declared.Key.{Key}
-use Rattle.second.specs.Layout.{second_words, max_entries, record_at, row_at, no_entry, entry_live, entry_last, entry_own, entry_late, second_format}
-use Rattle.second.specs.Entries.{same_key, first_of, start_key, next_key, needs_old, place_of, with_key, found, entries, own_of, late_of, record_of, key_at, entry_record, leads_to, is_quiet, target_of, rests_at, resting_word, header_word, records_word, rows_word, second_word}
+use Rattle.second.specs.Layout.{second_words, max_entries, record_at, row_at, no_entry, second_format}
+use Rattle.second.specs.Entries.{same_key, first_of, start_key, next_key, needs_old, place_of, with_key, found, entries, record_of, key_at, entry_record, leads_to, is_quiet, target_of, rests_at, resting_word, header_word, records_word, rows_word, second_word}
 use Rattle.second.specs.Invariants.{key_in, has_key, rests, resting_in, quiet_at, key_after, place_in, grows, target_in, Recorded}
 use Rattle.second.proofs.Searching.{first-ext}
-use Rattle.second.proofs.Found.{Good, found-good, found-few}
+use Rattle.second.proofs.Found.{found-good, found-few}
 use Rattle.second.proofs.Words.{written_in, second-record, live-words-in, held-words-in, pending-word-in, last-side-in, own-word-in, late-word-in}
 
 zeros-tail : (n i : ℕ) → ◌≡◌ {A = ℕ} (get_or (replicate n 0) i 0) 0

@@ -1,10 +1,9 @@
 -- What one byte of one entry leads to, in words: the key, the record of an entry, whether there is
 -- one entry more, and the word of the byte.
-use mathlib.Core.Path.{◌≡◌, refl, sym, ap, ap₂, ◌∙◌}
+use mathlib.Core.Path.{◌≡◌, sym, ap, ap₂, ◌∙◌}
 use mathlib.Core.Bool.{Bool, true, false, cond, not, ◌&&◌, ◌||◌, or-true, and-false}
 use mathlib.Core.List.{List, [], ◌∷◌}
-use Prim.Native.Nat.{ℕ, zero, suc, ◌+◌, ◌*◌, ◌/◌, ◌%◌, ◌<◌, ◌≤◌}
-use native.Mathlib.Nat.{add-zero}
+use Prim.Native.Nat.{ℕ, ◌+◌, ◌/◌, ◌%◌, ◌<◌, ◌≤◌}
 use native.Mathlib.Omega.{arith}
 use lib.Bits.{bit_and}
 use lib.Dec.{eqb, leb, ltb}
@@ -20,10 +19,10 @@ use Rattle.table.specs.Automaton.{Automaton, automaton}
 use Rattle.steps.specs.Step.{set_on, number_on, stepped, ends, ends_newly, late_in, keepers_of, rules_where}
 use Rattle.steps.proofs.Steps.{stepped-among}
 use Rattle.steps.proofs.TableSets.{set_on_lem, number-on}
-use Rattle.stream.specs.Byte.{next_live, next_held, next_pending}
+use Rattle.stream.specs.Byte.{next_held, next_pending}
 use Rattle.second.specs.declared.Key.{Key}
 use Rattle.second.specs.Layout.{max_entries, row_at, no_entry}
-use Rattle.second.specs.Entries.{first_of, state_at, next_key, reached, apart, startless, record_of, own_of, late_of, tells_start, keeps_start, needs_old}
+use Rattle.second.specs.Entries.{first_of, state_at, next_key, reached, startless, record_of, own_of, late_of, tells_start, keeps_start, needs_old}
 use Rattle.second.specs.Invariants.{key_in, rests, resting_in, place_in, quiet_at, grows, target_in}
 
 module _ (t : List ℕ) (long : table_words ≤ length t) where

@@ -12,7 +12,6 @@ use lib.ListN.{length, get_or}
 use lib.Seq.{ext_get_or}
 use borrow.Author.Tests.{lt-ltb, le-ltb, ltb-true, eqb-true}
 use Rattle.sets.proofs.Laws.{below-four}
-use Rattle.kinds.specs.Side.{side_word}
 use Rattle.kinds.proofs.Sides.{side_same}
 use Rattle.second.specs.declared.Key.{Key}
 use Rattle.second.specs.Layout.{words_at}

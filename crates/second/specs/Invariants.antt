@@ -1,6 +1,6 @@
 -- What the private functions promise, where that is not an equation with a definition that a reader
 -- must believe. Assumes nothing: these are definitions.
-use Rattle.std.specs.Prelude.{◌≡◌, Bool, true, cond, not, ◌&&◌, ◌||◌, List, [], ◌∷◌, ℕ, zero, suc, ◌+◌, ◌*◌, ◌/◌, ◌%◌, ◌<◌, ◌≤◌, eqb, leb, ltb, length, get_or}
+use Rattle.std.specs.Prelude.{◌≡◌, Bool, true, cond, not, ◌&&◌, ◌||◌, List, ℕ, zero, suc, ◌+◌, ◌*◌, ◌/◌, ◌%◌, ◌<◌, ◌≤◌, eqb, leb, ltb, length, get_or}
 use Rattle.std.specs.Int.Bits.{bit_or}
 use Rattle.sets.specs.Set.{empty_set, is_empty, union_of, size_of}
 use Rattle.kinds.specs.declared.Side.{Side}
@@ -10,7 +10,7 @@ use Rattle.table.specs.Automaton.{Automaton}
 use Rattle.second.specs.declared.Key.{Key}
 use Rattle.second.specs.declared.test.Named.{Named}
 use Rattle.second.specs.Layout.{max_entries, no_entry, row_at, entry_live, entry_held, entry_pending, entry_last, entry_own, entry_late, entry_busy}
-use Rattle.second.specs.Entries.{same_key, first_of, next_key, tells_start, keeps_start, needs_old, entries, second_word}
+use Rattle.second.specs.Entries.{same_key, first_of, next_key, needs_old, entries, second_word}
 
 -- ---- the test
 

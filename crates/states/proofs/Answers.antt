@@ -7,7 +7,6 @@ use Prim.Native.Nat.{ℕ, ◌≤◌, ◌<◌}
 use lib.Dec.{eqb}
 use lib.ListN.{length}
 use borrow.Author.Tests.{lt-ltb, le-ltb, eq-eqb, ne_eqb}
-use Rattle.stream.specs.declared.Stream.{Stream}
 use Rattle.stream.specs.Byte.{busy_of}
 use Rattle.states.specs.State.{state_of, stored, Form}
 use Rattle.states.specs.Call.{short_state, short, state_in, stored_in, open_number, busy_figure, Given, Call, Left, left, on_state}

@@ -1,7 +1,7 @@
 -- A stored state is read back as the same state: each field comes from the words that it was put
 -- in, so the next call on the words goes on from the state that the last one handed back.
 use mathlib.Core.Path.{◌≡◌, refl, sym, ap, subst, ◌∙◌}
-use mathlib.Core.Bool.{Bool, true, false, cond, not, true≢false}
+use mathlib.Core.Bool.{Bool, true, false, cond, not}
 use mathlib.Core.List.{List, [], ◌∷◌, ◌++◌}
 use Prim.Native.Nat.{ℕ, zero, suc, ◌+◌, ◌<◌, ◌≤◌}
 use native.Mathlib.Omega.{arith}
@@ -13,10 +13,10 @@ use Rattle.sets.proofs.Laws.{words-set_of, below-four}
 use Rattle.kinds.specs.declared.Side.{Side}
 use Rattle.kinds.specs.declared.Side.TheVariants.{Other, Word, Newline}
 use Rattle.kinds.specs.Side.{side_of}
-use Rattle.table.specs.Layout.{max_rules, max_positions, rules_of, positions_of}
+use Rattle.table.specs.Layout.{max_rules, max_positions}
 use Rattle.table.specs.Table.{is_table}
-use Rattle.table.specs.Automaton.{Automaton, automaton}
-use Rattle.steps.specs.Step.{list_from, stepped, stepped_starts}
+use Rattle.table.specs.Automaton.{Automaton}
+use Rattle.steps.specs.Step.{stepped, stepped_starts}
 use Rattle.steps.proofs.Carrying.{list_length, list_at, list-is}
 use Rattle.stream.specs.declared.Stream.{Stream}
 use Rattle.stream.specs.declared.Opened.{Opened}
@@ -26,7 +26,7 @@ use Rattle.stream.specs.Calls.{fresh}
 use Rattle.traced.specs.declared.Traced.{Traced}
 use Rattle.traced.specs.Byte.{traced, next_state, next_starts}
 use Rattle.traced.specs.Calls as trace
-use Rattle.states.specs.State.{live_at, held_at, pairs_at, trace_words, side_in, side_word, state_of, trace_of, part, stream_words, live_words, held_words, traced_words, stored, Form, stream_form, traced_form}
+use Rattle.states.specs.State.{live_at, held_at, pairs_at, trace_words, side_in, side_word, state_of, trace_of, part, stream_words, live_words, held_words, traced_words, stored, Form}
 use Rattle.states.specs.Call.{short, stored_in, Given, Call, left, on_state}
 use Rattle.traced.proofs.Carrying.{list_ext}
 use Rattle.traced.proofs.Same.{stream_after}

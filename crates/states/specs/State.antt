@@ -3,7 +3,7 @@
 -- closed word. A state with starts has the starts of the live positions, of the held ones and of
 -- the held pairs after them, 591 words in all. Every so many words are some state. Assumes nothing:
 -- these are definitions.
-use Rattle.std.specs.Prelude.{Bool, cond, not, List, [], ◌∷◌, ◌++◌, ℕ, ◌+◌, eqb, length, get_or, drop}
+use Rattle.std.specs.Prelude.{cond, not, List, [], ◌∷◌, ◌++◌, ℕ, ◌+◌, eqb, length, get_or, drop}
 use Rattle.kinds.specs.declared.Side.{Side}
 use Rattle.kinds.specs.declared.Side.TheVariants.{Other, Word, Newline}
 use Rattle.table.specs.Layout.{max_rules, max_positions}

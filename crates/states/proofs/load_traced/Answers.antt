@@ -1,6 +1,7 @@
 -- `states::load_traced` meets its contract: each part is copied from its place; too few words are
 -- read as none, whose words and starts are zeros.
 use mathlib.Core.Path.{refl, ◌∙◌}
+use mathlib.Core.List.{[]}
 use Rattle.table.specs.Layout.{max_rules, max_positions}
 use Rattle.steps.specs.Step.{list_from}
 use Rattle.states.specs.State.{live_at, held_at, pairs_at, traced_form}
@@ -10,7 +11,7 @@ use Rattle.states.proofs.load_traced.Goals as goal
 
 pub returns-then-words-ge-TRACE_WORDS : goal.returns-then-words-ge-TRACE_WORDS
 returns-then-words-ge-TRACE_WORDS c =
-    let at-pairs = c.before in
+    let at-pairs = c in
     let at_held = at-pairs.before.before.before in
     let at-live = at_held.before.before.before in
     let at-state = at-live.before.before in

@@ -8,7 +8,7 @@ use Rattle.states.proofs.put_state.Goals as goal
 
 pub returns : goal.returns
 returns c =
-    let at_copy = c.before.before in
+    let at_copy = c in
     let at_Side = at_copy.before.before.before.before in
     let at_start = at_Side.before.before.before.before in
     let a = at_start.args in

@@ -4,6 +4,6 @@ use Rattle.states.proofs.state_in.Goals as goal
 
 pub returns : goal.returns
 returns c =
-    let c-start = c.before.before.before.before.before.before.before.before.before.before.before.before.before.before.before.before.before in
+    let c-start = c in
     let c-side-in = c.side_in-last in
     loaded c-start.args.words.now c-side-in.result c-side-in.ensures

@@ -6,7 +6,7 @@ use Rattle.states.proofs.store.Goals as goal
 
 pub returns-then-words-ge-STATE_WORDS : goal.returns-then-words-ge-STATE_WORDS
 returns-then-words-ge-STATE_WORDS c =
-    let at-put = c.before.before in
+    let at-put = c in
     let at-if = at-put.before.before in
     let a = at-if.args in
     at-put.put_state.ensures ∙ store_long stream_form a.words.now a.s at-if.if-words-ge-STATE_WORDS.true

@@ -11,7 +11,7 @@ use Rattle.states.proofs.store_live.Goals as goal
 
 pub returns : goal.returns
 returns c =
-    let at_copy = c.before.before in
+    let at_copy = c in
     let at_call = at_copy.before.before.before.before.before in
     let at_start = at_call.before.before.before in
     let a = at_start.args in

@@ -6,7 +6,7 @@ use Rattle.states.proofs.store_traced.Goals as goal
 
 pub returns-then-words-ge-TRACE_WORDS : goal.returns-then-words-ge-TRACE_WORDS
 returns-then-words-ge-TRACE_WORDS c =
-    let at-put = c.before.before in
+    let at-put = c in
     let at-if = at-put.before.before in
     let a = at-if.args in
     at-put.put_traced.ensures ∙ store_long traced_form a.words.now a.z at-if.if-words-ge-TRACE_WORDS.true

@@ -10,8 +10,7 @@ use Rattle.second.proofs.builder.at_rest.Goals as goal
 
 pub key_at-k-requires : goal.key_at-k-requires
 key_at-k-requires c =
-    let c-start = c.before in
-    c-start.requires
+    c.requires
 
 pub returns : goal.returns
 unfolding rests
@@ -19,9 +18,8 @@ returns c =
     let c-key-at = c.key_at-k in
     let c-is-empty = c.is_empty in
     let c-side-word = c.side_word in
-    let c-start = c.before.before.before.before.before.before in
     let c-side-word2 = c.side_word-2 in
     let k = c-key-at.ensures in
     let live = c-is-empty.ensures ∙ ap (λ (j : Key). is_empty j.live) k in
     let last = c-side-word.ensures ∙ ap (λ (j : Key). side_word j.last) k in
-    λ i. not (eqb c-start.args.e 0) && (live i && eqb (last i) (c-side-word2.ensures i))
+    λ i. not (eqb c.args.e 0) && (live i && eqb (last i) (c-side-word2.ensures i))

@@ -2,7 +2,6 @@
 use mathlib.Core.Path.{refl, sym, ◌∙◌}
 use Prim.Native.Nat.{◌≤◌}
 use native.Mathlib.Omega.{arith}
-use borrow.Author.Tests.{not-true, not-false}
 use lib.ListN.{length}
 use Rattle.table.specs.Automaton.{automaton}
 use Rattle.table.proofs.Test.{passes}
@@ -13,48 +12,43 @@ use Rattle.second.proofs.builder.build.Goals as goal
 pub returns-then-not-is_table : goal.returns-then-not-is_table
 returns-then-not-is_table c =
     let both =
-    let c-start = c.before.before.before.before in
     let c-is-table = c.is_table in
     let c-if1 = c.if-not-is_table in
-    no_table c-start.args.words.now c-start.args.second.now (sym c-is-table.ensures ∙ not-true c-is-table.result c-if1.true) in
+    no_table c.args.words.now c.args.second.now (sym c-is-table.ensures ∙ c-if1.true) in
     record { number = both.0; words = both.1 }
 
 pub returns-then-second-lt-SECOND_WORDS : goal.returns-then-second-lt-SECOND_WORDS
 returns-then-second-lt-SECOND_WORDS c =
     let both =
-    let c-start = c.before.before.before.before.before in
     let c-is-table = c.is_table in
     let c-if1 = c.if-not-is_table in
     let c-if2 = c.if-second-lt-SECOND_WORDS in
-    let t = c-start.args.words.now in
-    let b = c-start.args.second.now in
-    let table = sym c-is-table.ensures ∙ not-false c-is-table.result c-if1.false in
+    let t = c.args.words.now in
+    let b = c.args.second.now in
+    let table = sym c-is-table.ensures ∙ c-if1.false in
     too_short t b table c-if2.true in
     record { number = both.0; words = both.1 }
 
 pub gather-count-requires : goal.gather-count-requires
 gather-count-requires c =
-    let c-start = c.before.before.before.before.before.before in
     let c-is-table = c.is_table in
     let c-if1 = c.if-not-is_table in
     let c-if2 = c.if-second-lt-SECOND_WORDS in
-    let t = c-start.args.words.now in
-    let b = c-start.args.second.now in
-    let table = sym c-is-table.ensures ∙ not-false c-is-table.result c-if1.false in
+    let t = c.args.words.now in
+    let b = c.args.second.now in
+    let table = sym c-is-table.ensures ∙ c-if1.false in
     let long : second_words ≤ length b = omega (arith, c-if2.false) in
     (table, long)
 
 pub overflow_mul-count : goal.overflow_mul-count
 overflow_mul-count c =
-    let six = c.before.before.before.before.before.before in
-    let c-start = six.before.before.before.before in
-    let c-is-table = six.is_table in
+    let c-is-table = c.is_table in
     let c-if1 = c.if-not-is_table in
     let c-if2 = c.if-second-lt-SECOND_WORDS in
     let c-gather = c.gather-count in
-    let t = c-start.args.words.now in
-    let b = c-start.args.second.now in
-    let table = sym c-is-table.ensures ∙ not-false c-is-table.result c-if1.false in
+    let t = c.args.words.now in
+    let b = c.args.second.now in
+    let table = sym c-is-table.ensures ∙ c-if1.false in
     let long : second_words ≤ length b = omega (arith, c-if2.false) in
     let w = automaton t in
     let few = some w b long c-gather.result c-gather.ensures.count c-gather.new.second c-gather.ensures.words in
@@ -62,15 +56,13 @@ overflow_mul-count c =
 
 pub overflow_add-count : goal.overflow_add-count
 overflow_add-count c =
-    let six = c.before.before.before.before.before.before in
-    let c-start = six.before.before.before.before in
-    let c-is-table = six.is_table in
+    let c-is-table = c.is_table in
     let c-if1 = c.if-not-is_table in
     let c-if2 = c.if-second-lt-SECOND_WORDS in
     let c-gather = c.gather-count in
-    let t = c-start.args.words.now in
-    let b = c-start.args.second.now in
-    let table = sym c-is-table.ensures ∙ not-false c-is-table.result c-if1.false in
+    let t = c.args.words.now in
+    let b = c.args.second.now in
+    let table = sym c-is-table.ensures ∙ c-if1.false in
     let long : second_words ≤ length b = omega (arith, c-if2.false) in
     let w = automaton t in
     let few = some w b long c-gather.result c-gather.ensures.count c-gather.new.second c-gather.ensures.words in
@@ -78,15 +70,13 @@ overflow_add-count c =
 
 pub clear-requires : goal.clear-requires
 clear-requires c =
-    let six = c.before.before.before.before.before.before in
-    let c-start = six.before.before.before.before in
-    let c-is-table = six.is_table in
+    let c-is-table = c.is_table in
     let c-if1 = c.if-not-is_table in
     let c-if2 = c.if-second-lt-SECOND_WORDS in
     let c-gather = c.gather-count in
-    let t = c-start.args.words.now in
-    let b = c-start.args.second.now in
-    let table = sym c-is-table.ensures ∙ not-false c-is-table.result c-if1.false in
+    let t = c.args.words.now in
+    let b = c.args.second.now in
+    let table = sym c-is-table.ensures ∙ c-if1.false in
     let long : second_words ≤ length b = omega (arith, c-if2.false) in
     let w = automaton t in
     let few = some w b long c-gather.result c-gather.ensures.count c-gather.new.second c-gather.ensures.words in
@@ -94,17 +84,14 @@ clear-requires c =
 
 pub fill-requires : goal.fill-requires
 fill-requires c =
-    let six = c.before.before.before.before.before.before in
-    let twelve = six.before.before.before.before.before.before in
-    let c-start = twelve.before.before in
-    let c-is-table = six.is_table in
-    let c-if1 = six.if-not-is_table in
-    let c-if2 = six.if-second-lt-SECOND_WORDS in
-    let c-gather = six.gather-count in
+    let c-is-table = c.is_table in
+    let c-if1 = c.if-not-is_table in
+    let c-if2 = c.if-second-lt-SECOND_WORDS in
+    let c-gather = c.gather-count in
     let c-clear = c.clear in
-    let t = c-start.args.words.now in
-    let b = c-start.args.second.now in
-    let table = sym c-is-table.ensures ∙ not-false c-is-table.result c-if1.false in
+    let t = c.args.words.now in
+    let b = c.args.second.now in
+    let table = sym c-is-table.ensures ∙ c-if1.false in
     let long : second_words ≤ length b = omega (arith, c-if2.false) in
     let w = automaton t in
     let few = some w b long c-gather.result c-gather.ensures.count c-gather.new.second c-gather.ensures.words in
@@ -112,16 +99,13 @@ fill-requires c =
 
 pub overflow_mul-count-2 : goal.overflow_mul-count-2
 overflow_mul-count-2 c =
-    let six = c.before.before.before.before.before.before in
-    let twelve = six.before.before.before.before.before.before in
-    let c-start = twelve.before.before.before.before.before.before in
-    let c-is-table = twelve.is_table in
-    let c-if1 = twelve.if-not-is_table in
-    let c-if2 = twelve.if-second-lt-SECOND_WORDS in
-    let c-gather = six.gather-count in
-    let t = c-start.args.words.now in
-    let b = c-start.args.second.now in
-    let table = sym c-is-table.ensures ∙ not-false c-is-table.result c-if1.false in
+    let c-is-table = c.is_table in
+    let c-if1 = c.if-not-is_table in
+    let c-if2 = c.if-second-lt-SECOND_WORDS in
+    let c-gather = c.gather-count in
+    let t = c.args.words.now in
+    let b = c.args.second.now in
+    let table = sym c-is-table.ensures ∙ c-if1.false in
     let long : second_words ≤ length b = omega (arith, c-if2.false) in
     let w = automaton t in
     let few = some w b long c-gather.result c-gather.ensures.count c-gather.new.second c-gather.ensures.words in
@@ -129,16 +113,13 @@ overflow_mul-count-2 c =
 
 pub overflow_add-count-2 : goal.overflow_add-count-2
 overflow_add-count-2 c =
-    let six = c.before.before.before.before.before.before in
-    let twelve = six.before.before.before.before.before.before in
-    let c-start = twelve.before.before.before.before.before.before in
-    let c-is-table = twelve.is_table in
-    let c-if1 = twelve.if-not-is_table in
-    let c-if2 = twelve.if-second-lt-SECOND_WORDS in
-    let c-gather = six.gather-count in
-    let t = c-start.args.words.now in
-    let b = c-start.args.second.now in
-    let table = sym c-is-table.ensures ∙ not-false c-is-table.result c-if1.false in
+    let c-is-table = c.is_table in
+    let c-if1 = c.if-not-is_table in
+    let c-if2 = c.if-second-lt-SECOND_WORDS in
+    let c-gather = c.gather-count in
+    let t = c.args.words.now in
+    let b = c.args.second.now in
+    let table = sym c-is-table.ensures ∙ c-if1.false in
     let long : second_words ≤ length b = omega (arith, c-if2.false) in
     let w = automaton t in
     let few = some w b long c-gather.result c-gather.ensures.count c-gather.new.second c-gather.ensures.words in
@@ -146,18 +127,15 @@ overflow_add-count-2 c =
 
 pub clear-requires-2 : goal.clear-requires-2
 clear-requires-2 c =
-    let six = c.before.before.before.before.before.before in
-    let twelve = six.before.before.before.before.before.before in
-    let c-start = twelve.before.before.before.before.before.before in
-    let c-is-table = twelve.is_table in
-    let c-if1 = twelve.if-not-is_table in
-    let c-if2 = twelve.if-second-lt-SECOND_WORDS in
-    let c-gather = six.gather-count in
-    let c-clear = six.clear in
+    let c-is-table = c.is_table in
+    let c-if1 = c.if-not-is_table in
+    let c-if2 = c.if-second-lt-SECOND_WORDS in
+    let c-gather = c.gather-count in
+    let c-clear = c.clear in
     let c-fill = c.fill in
-    let t = c-start.args.words.now in
-    let b = c-start.args.second.now in
-    let table = sym c-is-table.ensures ∙ not-false c-is-table.result c-if1.false in
+    let t = c.args.words.now in
+    let b = c.args.second.now in
+    let table = sym c-is-table.ensures ∙ c-if1.false in
     let long : second_words ≤ length b = omega (arith, c-if2.false) in
     let w = automaton t in
     let few = some w b long c-gather.result c-gather.ensures.count c-gather.new.second c-gather.ensures.words in
@@ -165,20 +143,16 @@ clear-requires-2 c =
 
 pub resting_row-other-requires : goal.resting_row-other-requires
 resting_row-other-requires c =
-    let six = c.before.before.before.before.before.before in
-    let twelve = six.before.before.before.before.before.before in
-    let eighteen = twelve.before.before.before.before.before.before in
-    let c-start = eighteen.before.before.before.before in
-    let c-is-table = eighteen.is_table in
-    let c-if1 = eighteen.if-not-is_table in
-    let c-if2 = twelve.if-second-lt-SECOND_WORDS in
-    let c-gather = twelve.gather-count in
-    let c-clear = six.clear in
-    let c-fill = six.fill in
+    let c-is-table = c.is_table in
+    let c-if1 = c.if-not-is_table in
+    let c-if2 = c.if-second-lt-SECOND_WORDS in
+    let c-gather = c.gather-count in
+    let c-clear = c.clear in
+    let c-fill = c.fill in
     let c-clear2 = c.clear-2 in
-    let t = c-start.args.words.now in
-    let b = c-start.args.second.now in
-    let table = sym c-is-table.ensures ∙ not-false c-is-table.result c-if1.false in
+    let t = c.args.words.now in
+    let b = c.args.second.now in
+    let table = sym c-is-table.ensures ∙ c-if1.false in
     let long : second_words ≤ length b = omega (arith, c-if2.false) in
     let w = automaton t in
     let few = some w b long c-gather.result c-gather.ensures.count c-gather.new.second c-gather.ensures.words in
@@ -186,20 +160,16 @@ resting_row-other-requires c =
 
 pub resting_row-word-requires : goal.resting_row-word-requires
 resting_row-word-requires c =
-    let six = c.before.before.before.before.before.before in
-    let twelve = six.before.before.before.before.before.before in
-    let eighteen = twelve.before.before.before.before.before.before in
-    let c-start = eighteen.before.before.before.before.before.before in
-    let c-is-table = eighteen.is_table in
-    let c-if1 = eighteen.if-not-is_table in
-    let c-if2 = eighteen.if-second-lt-SECOND_WORDS in
-    let c-gather = twelve.gather-count in
-    let c-clear = twelve.clear in
-    let c-fill = six.fill in
+    let c-is-table = c.is_table in
+    let c-if1 = c.if-not-is_table in
+    let c-if2 = c.if-second-lt-SECOND_WORDS in
+    let c-gather = c.gather-count in
+    let c-clear = c.clear in
+    let c-fill = c.fill in
     let c-clear2 = c.clear-2 in
-    let t = c-start.args.words.now in
-    let b = c-start.args.second.now in
-    let table = sym c-is-table.ensures ∙ not-false c-is-table.result c-if1.false in
+    let t = c.args.words.now in
+    let b = c.args.second.now in
+    let table = sym c-is-table.ensures ∙ c-if1.false in
     let long : second_words ≤ length b = omega (arith, c-if2.false) in
     let w = automaton t in
     let few = some w b long c-gather.result c-gather.ensures.count c-gather.new.second c-gather.ensures.words in
@@ -207,21 +177,16 @@ resting_row-word-requires c =
 
 pub resting_row-newline-requires : goal.resting_row-newline-requires
 resting_row-newline-requires c =
-    let six = c.before.before.before.before.before.before in
-    let twelve = six.before.before.before.before.before.before in
-    let eighteen = twelve.before.before.before.before.before.before in
-    let twenty-four = eighteen.before.before.before.before.before.before in
-    let c-start = twenty-four.before.before in
-    let c-is-table = eighteen.is_table in
-    let c-if1 = eighteen.if-not-is_table in
-    let c-if2 = eighteen.if-second-lt-SECOND_WORDS in
-    let c-gather = eighteen.gather-count in
-    let c-clear = twelve.clear in
-    let c-fill = six.fill in
-    let c-clear2 = six.clear-2 in
-    let t = c-start.args.words.now in
-    let b = c-start.args.second.now in
-    let table = sym c-is-table.ensures ∙ not-false c-is-table.result c-if1.false in
+    let c-is-table = c.is_table in
+    let c-if1 = c.if-not-is_table in
+    let c-if2 = c.if-second-lt-SECOND_WORDS in
+    let c-gather = c.gather-count in
+    let c-clear = c.clear in
+    let c-fill = c.fill in
+    let c-clear2 = c.clear-2 in
+    let t = c.args.words.now in
+    let b = c.args.second.now in
+    let table = sym c-is-table.ensures ∙ c-if1.false in
     let long : second_words ≤ length b = omega (arith, c-if2.false) in
     let w = automaton t in
     let few = some w b long c-gather.result c-gather.ensures.count c-gather.new.second c-gather.ensures.words in
@@ -229,49 +194,34 @@ resting_row-newline-requires c =
 
 pub bounds-words-1 : goal.bounds-words-1
 bounds-words-1 c =
-    let six = c.before.before.before.before.before.before in
-    let twelve = six.before.before.before.before.before.before in
-    let eighteen = twelve.before.before.before.before.before.before in
-    let twenty-four = eighteen.before.before.before.before.before.before in
-    let c-start = twenty-four.before.before.before.before in
-    let c-is-table = twenty-four.is_table in
-    let c-if1 = twenty-four.if-not-is_table in
-    let t = c-start.args.words.now in
-    let b = c-start.args.second.now in
-    let table = sym c-is-table.ensures ∙ not-false c-is-table.result c-if1.false in
+    let c-is-table = c.is_table in
+    let c-if1 = c.if-not-is_table in
+    let t = c.args.words.now in
+    let b = c.args.second.now in
+    let table = sym c-is-table.ensures ∙ c-if1.false in
     omega (arith, (passes t table).long)
 
 pub bounds-words-2 : goal.bounds-words-2
 bounds-words-2 c =
-    let six = c.before.before.before.before.before.before in
-    let twelve = six.before.before.before.before.before.before in
-    let eighteen = twelve.before.before.before.before.before.before in
-    let twenty-four = eighteen.before.before.before.before.before.before in
-    let c-start = twenty-four.before.before.before.before.before in
-    let c-is-table = twenty-four.is_table in
-    let c-if1 = twenty-four.if-not-is_table in
-    let t = c-start.args.words.now in
-    let b = c-start.args.second.now in
-    let table = sym c-is-table.ensures ∙ not-false c-is-table.result c-if1.false in
+    let c-is-table = c.is_table in
+    let c-if1 = c.if-not-is_table in
+    let t = c.args.words.now in
+    let b = c.args.second.now in
+    let table = sym c-is-table.ensures ∙ c-if1.false in
     omega (arith, (passes t table).long)
 
 pub put_record-requires : goal.put_record-requires
 put_record-requires c =
-    let six = c.before.before.before.before.before.before in
-    let twelve = six.before.before.before.before.before.before in
-    let eighteen = twelve.before.before.before.before.before.before in
-    let twenty-four = eighteen.before.before.before.before.before.before in
-    let c-start = twenty-four.before.before.before.before.before.before in
-    let c-is-table = twenty-four.is_table in
-    let c-if1 = twenty-four.if-not-is_table in
-    let c-if2 = twenty-four.if-second-lt-SECOND_WORDS in
-    let c-gather = eighteen.gather-count in
-    let c-clear = eighteen.clear in
-    let c-fill = twelve.fill in
-    let c-clear2 = six.clear-2 in
-    let t = c-start.args.words.now in
-    let b = c-start.args.second.now in
-    let table = sym c-is-table.ensures ∙ not-false c-is-table.result c-if1.false in
+    let c-is-table = c.is_table in
+    let c-if1 = c.if-not-is_table in
+    let c-if2 = c.if-second-lt-SECOND_WORDS in
+    let c-gather = c.gather-count in
+    let c-clear = c.clear in
+    let c-fill = c.fill in
+    let c-clear2 = c.clear-2 in
+    let t = c.args.words.now in
+    let b = c.args.second.now in
+    let table = sym c-is-table.ensures ∙ c-if1.false in
     let long : second_words ≤ length b = omega (arith, c-if2.false) in
     let w = automaton t in
     let few = some w b long c-gather.result c-gather.ensures.count c-gather.new.second c-gather.ensures.words in
@@ -281,25 +231,20 @@ pub returns : goal.returns
 unfolding automaton
 returns c =
     let both =
-    let six = c.before.before.before.before.before.before in
-    let twelve = six.before.before.before.before.before.before in
-    let eighteen = twelve.before.before.before.before.before.before in
-    let twenty-four = eighteen.before.before.before.before.before.before in
-    let c-start = twenty-four.before.before.before.before.before.before.before.before.before in
-    let c-is-table = twenty-four.is_table in
-    let c-if1 = twenty-four.if-not-is_table in
-    let c-if2 = twenty-four.if-second-lt-SECOND_WORDS in
-    let c-gather = twenty-four.gather-count in
+    let c-is-table = c.is_table in
+    let c-if1 = c.if-not-is_table in
+    let c-if2 = c.if-second-lt-SECOND_WORDS in
+    let c-gather = c.gather-count in
     let c-put-record = c.put_record in
-    let c-clear = eighteen.clear in
-    let c-fill = eighteen.fill in
-    let c-clear2 = twelve.clear-2 in
-    let c-resting-row = six.resting_row-other in
-    let c-resting-row2 = six.resting_row-word in
+    let c-clear = c.clear in
+    let c-fill = c.fill in
+    let c-clear2 = c.clear-2 in
+    let c-resting-row = c.resting_row-other in
+    let c-resting-row2 = c.resting_row-word in
     let c-resting-row3 = c.resting_row-newline in
-    let t = c-start.args.words.now in
-    let b = c-start.args.second.now in
-    let table = sym c-is-table.ensures ∙ not-false c-is-table.result c-if1.false in
+    let t = c.args.words.now in
+    let b = c.args.second.now in
+    let table = sym c-is-table.ensures ∙ c-if1.false in
     let long : second_words ≤ length b = omega (arith, c-if2.false) in
     let w = automaton t in
     let few = some w b long c-gather.result c-gather.ensures.count c-gather.new.second c-gather.ensures.words in

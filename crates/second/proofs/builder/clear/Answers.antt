@@ -16,6 +16,5 @@ loop-i-preserved c =
 pub returns : goal.returns
 returns c =
     let c-loop = c.loop-i in
-    let c-start = c.before.before in
-    let e : c-loop.i ≡ c-start.args.to = omega arith in
+    let e : c-loop.i ≡ c.args.to = omega arith in
     written_all c-loop.invariant.2 e

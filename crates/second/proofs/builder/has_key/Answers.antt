@@ -9,13 +9,11 @@ use Rattle.second.proofs.builder.has_key.Goals as goal
 
 pub key_at-requires : goal.key_at-requires
 key_at-requires c =
-    let c-start = c.before in
-    c-start.requires
+    c.requires
 
 pub returns : goal.returns
 unfolding has_key
 returns c =
-    let c-start = c.before.before.before in
     let c-same-key = c.same_key in
     let c-key-at = c.key_at in
-    ap (λ (b : Bool). not (eqb c-start.args.e 0) && b) (c-same-key.ensures ∙ ap (λ (j : Key). same_key j c-start.args.k) c-key-at.ensures)
+    ap (λ (b : Bool). not (eqb c.args.e 0) && b) (c-same-key.ensures ∙ ap (λ (j : Key). same_key j c.args.k) c-key-at.ensures)

@@ -8,20 +8,17 @@ use Rattle.second.proofs.builder.held_after.Goals as goal
 
 pub returns-then-byte-ne-NEWLINE : goal.returns-then-byte-ne-NEWLINE
 returns-then-byte-ne-NEWLINE c =
-    let c-start = c.before.before.before in
     let c-if1 = c.if-byte-ne-NEWLINE in
     let c-empty = c.empty in
-    none-held (automaton c-start.args.words.now) (state_at c-start.args.e c-start.args.k) c-start.args.byte c-if1.true c-empty.result c-empty.ensures
+    none-held (automaton c.args.words.now) (state_at c.args.e c.args.k) c.args.byte c-if1.true c-empty.result c-empty.ensures
 
 pub bounds-words-2 : goal.bounds-words-2
 bounds-words-2 c =
-    let c-start = c.before.before.before.before in
-    omega (arith, (passes c-start.args.words.now c-start.requires).long)
+    omega (arith, (passes c.args.words.now c.requires).long)
 
 pub returns : goal.returns
 returns c =
-    let c-start = c.before.before.before.before.before.before in
     let c-if1 = c.if-byte-ne-NEWLINE in
     let c-side-of = c.side_of in
     let c-line-step = c.line_step in
-    line-held c-start.args.words.now (passes c-start.args.words.now c-start.requires).long (state_at c-start.args.e c-start.args.k) c-start.args.byte c-if1.false c-side-of.result c-side-of.ensures c-line-step.result c-line-step.ensures
+    line-held c.args.words.now (passes c.args.words.now c.requires).long (state_at c.args.e c.args.k) c.args.byte c-if1.false c-side-of.result c-side-of.ensures c-line-step.result c-line-step.ensures

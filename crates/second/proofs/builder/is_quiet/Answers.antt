@@ -16,35 +16,30 @@ pub overflow_add-silent-2 : goal.overflow_add-silent-2
 overflow_add-silent-2 c =
     let c-side-word = c.side_word-side in
     let c-side-of = c.side_of in
-    let c-start = c.before.before.before in
-    omega (arith, c-side-word.ensures, side-small c-side-of.result, c-start.requires.0, c-start.requires.1)
+    omega (arith, c-side-word.ensures, side-small c-side-of.result, c.requires.0, c.requires.1)
 
 pub offset_bounds-second-from : goal.offset_bounds-second-from
 offset_bounds-second-from c =
     let c-side-word = c.side_word-side in
     let c-side-of = c.side_of in
-    let c-start = c.before.before.before in
-    omega (arith, c-side-word.ensures, side-small c-side-of.result, c-start.requires.0, c-start.requires.1)
+    omega (arith, c-side-word.ensures, side-small c-side-of.result, c.requires.0, c.requires.1)
 
 pub bounds-second-from : goal.bounds-second-from
 bounds-second-from c =
     let c-side-word = c.side_word-side in
     let c-side-of = c.side_of in
-    let c-start = c.before.before.before.before in
-    omega (arith, c-side-word.ensures, side-small c-side-of.result, c-start.requires.0, c-start.requires.1)
+    omega (arith, c-side-word.ensures, side-small c-side-of.result, c.requires.0, c.requires.1)
 
 pub returns : goal.returns
 unfolding quiet_at
 returns c =
-    let six = c.before.before.before.before.before.before in
-    let c-start = six.before.before.before in
     let c-side-word = c.side_word-side in
-    let c-side-of = six.side_of in
+    let c-side-of = c.side_of in
     let c-is-empty = c.is_empty in
     let c-words-at = c.words_at-before in
     let c-is-empty2 = c.is_empty-2 in
     let c-words-at2 = c.words_at-after in
-    let a = c-start.args in
+    let a = c.args in
     let c₀ = a.second.now in
     let late = ap (λ (m : ℕ). get_or c₀ (record_at a.e + 11 + m) 0) (c-side-word.ensures ∙ ap side_word c-side-of.ensures) in
     let before = c-is-empty.ensures ∙ ap is_empty c-words-at.ensures in

@@ -6,6 +6,5 @@ pub returns : goal.returns
 returns c =
     let c-words-at = c.words_at-live in
     let c-words-at2 = c.words_at-held in
-    let c-start = c.before.before.before.before.before.before in
     let c-side-in = c.side_in-last in
-    λ i. record { live = c-words-at.ensures i; held = c-words-at2.ensures i; pending = entry_pending c-start.args.second.now c-start.args.e; last = c-side-in.ensures i }
+    λ i. record { live = c-words-at.ensures i; held = c-words-at2.ensures i; pending = entry_pending c.args.second.now c.args.e; last = c-side-in.ensures i }

@@ -12,16 +12,14 @@ loop-i-init c = (omega arith, written_none (omega arith))
 
 pub loop-i-preserved : goal.loop-i-preserved
 loop-i-preserved c =
-    let c-start = c.before.before in
     let c-loop = c.loop-i in
-    let at = c-start.args.at in
+    let at = c.args.at in
     let i = c-loop.i in
     let e : i ≡ at + i - at = omega arith in
-    (omega arith, written-up c-loop.invariant.1 (omega arith) (omega arith) (omega arith) (ap (λ (k : ℕ). get_or c-start.args.row k 0) e))
+    (omega arith, written-up c-loop.invariant.1 (omega arith) (omega arith) (omega arith) (ap (λ (k : ℕ). get_or c.args.row k 0) e))
 
 pub returns : goal.returns
 returns c =
-    let c-start = c.before.before in
     let c-loop = c.loop-i in
-    let e : c-start.args.at + c-loop.i ≡ c-start.args.at + 16 = omega arith in
+    let e : c.args.at + c-loop.i ≡ c.args.at + 16 = omega arith in
     written_all c-loop.invariant.1 e

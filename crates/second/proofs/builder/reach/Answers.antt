@@ -11,31 +11,24 @@ use Rattle.second.proofs.builder.reach.Goals as goal
 
 pub bounds-words-2 : goal.bounds-words-2
 bounds-words-2 c =
-    let c-start = c.before.before.before.before.before in
-    omega (arith, (passes c-start.args.words.now c-start.requires).long)
+    omega (arith, (passes c.args.words.now c.requires).long)
 
 pub held_after-held-requires : goal.held_after-held-requires
 held_after-held-requires c =
-    let six = c.before.before.before.before.before.before in
-    let c-start = six.before.before in
-    c-start.requires
+    c.requires
 
 pub pending_after-requires : goal.pending_after-requires
 pending_after-requires c =
-    let six = c.before.before.before.before.before.before in
-    let c-start = six.before.before.before in
-    c-start.requires
+    c.requires
 
 pub returns : goal.returns
 returns c =
-    let six = c.before.before.before.before.before.before in
-    let c-start = six.before.before.before.before in
-    let c-side-of = six.side_of-last in
+    let c-side-of = c.side_of-last in
     let c-below = c.below-among in
     let c-step = c.step-after in
     let c-full = c.full in
     let c-held-after = c.held_after-held in
     let c-pending-after = c.pending_after in
-    let a = c-start.args in
+    let a = c.args in
     let t = a.words.now in
-    reach-is t (passes t c-start.requires).long a.k a.e a.byte c-side-of.result c-side-of.ensures c-below.result c-step.result.live (c-below.ensures ∙ ap (λ (s : List ℕ). kept_below s (positions_of t)) c-full.ensures) c-step.ensures.live c-held-after.result c-held-after.ensures c-pending-after.result c-pending-after.ensures
+    reach-is t (passes t c.requires).long a.k a.e a.byte c-side-of.result c-side-of.ensures c-below.result c-step.result.live (c-below.ensures ∙ ap (λ (s : List ℕ). kept_below s (positions_of t)) c-full.ensures) c-step.ensures.live c-held-after.result c-held-after.ensures c-pending-after.result c-pending-after.ensures

@@ -13,21 +13,18 @@ use Rattle.second.proofs.builder.target_of.Goals as goal
 
 pub key_at-k-requires : goal.key_at-k-requires
 key_at-k-requires c =
-    let c-start = c.before.before in
-    (c-start.requires.1, omega (arith, c-start.requires.2, c-start.requires.3))
+    (c.requires.1, omega (arith, c.requires.2, c.requires.3))
 
 pub needs_old-requires : goal.needs_old-requires
 needs_old-requires c =
-    let c-start = c.before.before.before in
-    c-start.requires.0
+    c.requires.0
 
 pub returns-then-needs_old : goal.returns-then-needs_old
 returns-then-needs_old c =
-    let c-start = c.before.before.before.before.before in
     let c-needs-old = c.needs_old in
     let c-key-at = c.key_at-k in
     let c-if1 = c.if-needs_old in
-    let a = c-start.args in
+    let a = c.args in
     let w = automaton a.words.now in
     let b = a.second.now in
     let asks = c-needs-old.ensures ∙ ap (λ (k : Key). needs_old w (a.n / 256) k (a.n % 256)) c-key-at.ensures in
@@ -35,24 +32,18 @@ returns-then-needs_old c =
 
 pub reach-requires : goal.reach-requires
 reach-requires c =
-    let c-start = c.before.before.before.before.before in
-    c-start.requires.0
+    c.requires.0
 
 pub without_starts-requires : goal.without_starts-requires
 without_starts-requires c =
-    let c-start = c.before.before.before.before.before.before in
-    c-start.requires.0
+    c.requires.0
 
 pub place-next-requires : goal.place-next-requires
 place-next-requires c =
-    let six = c.before.before.before.before.before.before in
-    let c-start = six.before in
-    (c-start.requires.1, c-start.requires.2)
+    (c.requires.1, c.requires.2)
 
 pub returns-then-count-next : goal.returns-then-count-next
 returns-then-count-next c =
-    let six = c.before.before.before.before.before.before in
-    let c-start = six.before.before.before in
     let c-needs-old = c.needs_old in
     let c-key-at = c.key_at-k in
     let c-place = c.place-next in
@@ -60,7 +51,7 @@ returns-then-count-next c =
     let c-without-starts = c.without_starts in
     let c-if1 = c.if-needs_old in
     let c-if2 = c.if-count-next in
-    let a = c-start.args in
+    let a = c.args in
     let w = automaton a.words.now in
     let b = a.second.now in
     let asks = c-needs-old.ensures ∙ ap (λ (k : Key). needs_old w (a.n / 256) k (a.n % 256)) c-key-at.ensures in
@@ -70,38 +61,28 @@ returns-then-count-next c =
 
 pub overflow_mul-row : goal.overflow_mul-row
 overflow_mul-row c =
-    let six = c.before.before.before.before.before.before in
-    let c-start = six.before.before.before in
     let c-if2 = c.if-count-next in
-    omega (arith, c-start.requires.2, c-if2.false)
+    omega (arith, c.requires.2, c-if2.false)
 
 pub overflow_add-row : goal.overflow_add-row
 overflow_add-row c =
-    let six = c.before.before.before.before.before.before in
-    let c-start = six.before.before.before in
     let c-if2 = c.if-count-next in
-    omega (arith, c-start.requires.2, c-if2.false)
+    omega (arith, c.requires.2, c-if2.false)
 
 pub is_quiet-requires : goal.is_quiet-requires
 is_quiet-requires c =
-    let six = c.before.before.before.before.before.before in
-    let c-start = six.before.before.before in
     let c-if2 = c.if-count-next in
-    (c-start.requires.1, omega (arith, c-start.requires.2, c-start.requires.3), omega (arith, c-start.requires.2, c-if2.false))
+    (c.requires.1, omega (arith, c.requires.2, c.requires.3), omega (arith, c.requires.2, c-if2.false))
 
 pub overflow_add-result : goal.overflow_add-result
 overflow_add-result c =
-    let six = c.before.before.before.before.before.before in
-    let c-start = six.before.before.before.before.before in
     let c-if2 = c.if-count-next in
-    omega (arith, c-start.requires.2, c-if2.false)
+    omega (arith, c.requires.2, c-if2.false)
 
 pub returns-then-is_quiet : goal.returns-then-is_quiet
 returns-then-is_quiet c =
-    let six = c.before.before.before.before.before.before in
-    let c-start = six.before.before.before.before.before in
-    let c-needs-old = six.needs_old in
-    let c-key-at = six.key_at-k in
+    let c-needs-old = c.needs_old in
+    let c-key-at = c.key_at-k in
     let c-place = c.place-next in
     let c-reach = c.reach in
     let c-without-starts = c.without_starts in
@@ -109,7 +90,7 @@ returns-then-is_quiet c =
     let c-if2 = c.if-count-next in
     let c-is-quiet = c.is_quiet in
     let c-if3 = c.if-is_quiet in
-    let a = c-start.args in
+    let a = c.args in
     let w = automaton a.words.now in
     let b = a.second.now in
     let asks = c-needs-old.ensures ∙ ap (λ (k : Key). needs_old w (a.n / 256) k (a.n % 256)) c-key-at.ensures in
@@ -119,10 +100,8 @@ returns-then-is_quiet c =
 
 pub returns-else-is_quiet : goal.returns-else-is_quiet
 returns-else-is_quiet c =
-    let six = c.before.before.before.before.before.before in
-    let c-start = six.before.before.before.before.before in
-    let c-needs-old = six.needs_old in
-    let c-key-at = six.key_at-k in
+    let c-needs-old = c.needs_old in
+    let c-key-at = c.key_at-k in
     let c-place = c.place-next in
     let c-reach = c.reach in
     let c-without-starts = c.without_starts in
@@ -130,7 +109,7 @@ returns-else-is_quiet c =
     let c-if2 = c.if-count-next in
     let c-is-quiet = c.is_quiet in
     let c-if3 = c.if-is_quiet in
-    let a = c-start.args in
+    let a = c.args in
     let w = automaton a.words.now in
     let b = a.second.now in
     let asks = c-needs-old.ensures ∙ ap (λ (k : Key). needs_old w (a.n / 256) k (a.n % 256)) c-key-at.ensures in

@@ -15,9 +15,8 @@ use Rattle.second.proofs.builder.visit.Goals as goal
 
 pub returns-then-count-e : goal.returns-then-count-e
 returns-then-count-e c =
-    let c-start = c.before.before.before in
     let c-if1 = c.if-count-e in
-    let a = c-start.args in
+    let a = c.args in
     let w = automaton a.words.now in
     let b = a.second.now in
     let g = grows w b a.count a.n in
@@ -30,37 +29,30 @@ returns-then-count-e c =
 
 pub key_at-requires : goal.key_at-requires
 key_at-requires c =
-    let c-start = c.before.before.before.before in
     let c-if1 = c.if-count-e in
-    (c-start.requires.1, omega (arith, c-if1.false, c-start.requires.2))
+    (c.requires.1, omega (arith, c-if1.false, c.requires.2))
 
 pub reach-requires : goal.reach-requires
 reach-requires c =
-    let c-start = c.before.before.before.before.before in
-    c-start.requires.0
+    c.requires.0
 
 pub without_starts-k-requires : goal.without_starts-k-requires
 without_starts-k-requires c =
-    let c-start = c.before.before.before.before.before.before in
-    c-start.requires.0
+    c.requires.0
 
 pub place-requires : goal.place-requires
 place-requires c =
-    let six = c.before.before.before.before.before.before in
-    let c-start = six.before.before in
-    (c-start.requires.1, c-start.requires.2)
+    (c.requires.1, c.requires.2)
 
 pub returns-then-place-count : goal.returns-then-place-count
 returns-then-place-count c =
-    let six = c.before.before.before.before.before.before in
-    let c-start = six.before.before.before.before in
     let c-without-starts = c.without_starts-k in
     let c-key-at = c.key_at in
     let c-reach = c.reach in
     let c-place = c.place in
-    let c-if1 = six.if-count-e in
+    let c-if1 = c.if-count-e in
     let c-if2 = c.if-place-count in
-    let a = c-start.args in
+    let a = c.args in
     let w = automaton a.words.now in
     let b = a.second.now in
     let g = grows w b a.count a.n in
@@ -76,15 +68,13 @@ returns-then-place-count c =
 
 pub returns-then-count-ge-MAX_ENTRIES : goal.returns-then-count-ge-MAX_ENTRIES
 returns-then-count-ge-MAX_ENTRIES c =
-    let six = c.before.before.before.before.before.before in
-    let c-start = six.before.before.before.before.before in
     let c-without-starts = c.without_starts-k in
     let c-key-at = c.key_at in
     let c-reach = c.reach in
     let c-place = c.place in
-    let c-if1 = six.if-count-e in
+    let c-if1 = c.if-count-e in
     let c-if3 = c.if-count-ge-MAX_ENTRIES in
-    let a = c-start.args in
+    let a = c.args in
     let w = automaton a.words.now in
     let b = a.second.now in
     let g = grows w b a.count a.n in
@@ -100,25 +90,20 @@ returns-then-count-ge-MAX_ENTRIES c =
 
 pub put_entry-requires : goal.put_entry-requires
 put_entry-requires c =
-    let six = c.before.before.before.before.before.before in
-    let c-start = six.before.before.before.before.before.before in
     let c-if3 = c.if-count-ge-MAX_ENTRIES in
-    (c-start.requires.0, c-start.requires.1, omega (arith, c-if3.false))
+    (c.requires.0, c.requires.1, omega (arith, c-if3.false))
 
 pub returns : goal.returns
 returns c =
-    let six = c.before.before.before.before.before.before in
-    let twelve = six.before.before.before.before.before.before in
-    let c-start = twelve.before.before.before in
-    let c-without-starts = six.without_starts-k in
-    let c-key-at = six.key_at in
-    let c-reach = six.reach in
+    let c-without-starts = c.without_starts-k in
+    let c-key-at = c.key_at in
+    let c-reach = c.reach in
     let c-place = c.place in
-    let c-if1 = twelve.if-count-e in
+    let c-if1 = c.if-count-e in
     let c-if2 = c.if-place-count in
     let c-if3 = c.if-count-ge-MAX_ENTRIES in
     let c-put-entry = c.put_entry in
-    let a = c-start.args in
+    let a = c.args in
     let w = automaton a.words.now in
     let b = a.second.now in
     let g = grows w b a.count a.n in

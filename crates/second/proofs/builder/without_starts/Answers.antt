@@ -6,10 +6,8 @@ use Rattle.second.proofs.builder.without_starts.Goals as goal
 
 pub returns : goal.returns
 returns c =
-    let six = c.before.before.before.before.before.before in
-    let c-start = six.before in
     let c-keepers = c.keepers in
     let c-complement = c.complement-others in
     let c-intersection = c.intersection-lives in
     let c-intersection2 = c.intersection-holds in
-    startless-is c-start.args.words.now (passes c-start.args.words.now c-start.requires).long c-keepers.result c-keepers.ensures c-start.args.k c-complement.result c-intersection.result c-intersection2.result c-complement.ensures c-intersection.ensures c-intersection2.ensures
+    startless-is c.args.words.now (passes c.args.words.now c.requires).long c-keepers.result c-keepers.ensures c.args.k c-complement.result c-intersection.result c-intersection2.result c-complement.ensures c-intersection.ensures c-intersection2.ensures

@@ -15,14 +15,12 @@ use Rattle.second.proofs.test.named_by.Goals as goal
 pub returns : goal.returns
 unfolding named_by side_word
 returns c =
-    let six = c.before.before.before.before.before.before in
-    let c-start = six.before.before.before.before.before in
-    let c-union = six.union-set in
-    let c-words-at = six.words_at-live in
-    let c-words-at2 = six.words_at-held in
+    let c-union = c.union-set in
+    let c-words-at = c.words_at-live in
+    let c-words-at2 = c.words_at-held in
     let c-size = c.size in
-    let c₀ = c-start.args.second.now in
-    let e = c-start.args.e in
+    let c₀ = c.args.second.now in
+    let e = c.args.e in
     let other = ap (λ (j : ℕ). get_or c₀ j 0) (sym (add-zero (record_at e + 11))) in
     λ i. record {
       set = (c-union.ensures ∙ ap₂ union_of c-words-at.ensures c-words-at2.ensures) i;
