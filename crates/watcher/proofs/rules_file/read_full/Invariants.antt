@@ -5,7 +5,7 @@ use lib.ListN.{length}
 use Rattle.watcher.proofs.rules_file.read_full.Given as goal
 
 abbrev pub invariant-loop-size : goal.invariant-loop-size
-invariant-loop-size l = l.size ≤ length l.text
+invariant-loop-size g l = l.size ≤ length l.text
 
 abbrev pub decreases-loop-size : goal.decreases-loop-size
-decreases-loop-size l = length l.text - l.size
+decreases-loop-size g l = length l.text - l.size
