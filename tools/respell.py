@@ -121,7 +121,7 @@ def main(root):
                     to = word + "_lem"
             elif word in FACTS and short in FACTS[word][1]:
                 to = FACTS[word][0]
-            elif word in OTHERS and before != "." and after != "." and not (word == "at_start" and after == "("):
+            elif word in OTHERS and not (word == "at_start" and (before == "." or after in ".(")):
                 to = OTHERS[word]
             elif word in own:
                 to = snake(word.replace("-", "_"))

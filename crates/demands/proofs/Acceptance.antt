@@ -38,6 +38,7 @@ taken-by (r ∷ rs) id e = go (eqb r.id id) refl e (λ f. taken-by rs id f)
 
 taken_at : (rs : List Accepted) (id : ℕ) (r : Accepted) → Memᴰ r rs → r.id ≡ id → taken rs id ≡ true
 unfolding taken
+taken_at [] id r m e = elim m [ ]
 taken_at (x ∷ rs) id r (Memᴰ.head h) e =
     ap (λ (b : Bool). b || taken rs id) (eq-eqb x.id id (ap (λ (y : Accepted). y.id) (sym h) ∙ e))
 taken_at (x ∷ rs) id r (Memᴰ.tail m) e = go (eqb x.id id) (taken_at rs id r m e)

@@ -3,11 +3,11 @@
 use mathlib.Core.Path.{◌≡◌, refl, sym, ap, ap₂, ◌∙◌}
 use mathlib.Core.Bool.{Bool, true, false, true≢false, cond, not, ◌&&◌, ◌||◌, and-false}
 use mathlib.Core.List.{List, [], ◌∷◌, ◌++◌, map}
-use Prim.Native.Nat.{ℕ, zero, suc, ◌+◌, ◌-◌, ◌≤◌, ◌<◌}
+use Prim.Native.Nat.{ℕ, ◌≤◌, ◌<◌}
 use native.Mathlib.Omega.{arith}
 use lib.Dec.{eqb, ltb, leb}
-use lib.IntN.{ℤ, pos}
-use lib.ListN.{length, get_or, drop, length-map}
+use lib.IntN.{pos}
+use lib.ListN.{length, drop, length-map}
 use borrow.Author.Tests.{ltb-true, leb-true, eqb-true}
 use Rattle.sets.specs.Set.{on, has, is_empty}
 use Rattle.sets.proofs.Laws.{empty-none, on-zero}
@@ -27,10 +27,9 @@ use Rattle.stream.specs.Calls as stream-calls
 use Rattle.stream.specs.Calls.{column, over_limit, space_number, shut}
 use Rattle.stream.proofs.Accepting.{Fitting, fitting, Accepted, accepted}
 use Rattle.stream.proofs.Accepting as accepting
-use Rattle.traced.specs.declared.Traced.{Traced}
 use Rattle.traced.specs.declared.Scanned as of-scan
 use Rattle.traced.specs.declared.Closed as of-close
-use Rattle.traced.specs.Byte.{Report, traced, end_start, close_reports, given}
+use Rattle.traced.specs.Byte.{Report, traced, close_reports}
 use Rattle.traced.specs.Valid as traced-valid
 use Rattle.starts.specs.Order.{starts_ok}
 use Rattle.traced.specs.Calls as traced-calls
@@ -39,7 +38,7 @@ use Rattle.traced.proofs.Accepting.{in_order}
 use Rattle.traced.proofs.Same.{cost-after}
 use Rattle.traced.proofs.Without.{plainly, state-plain, reports-plain, fits-plain, close-plain}
 use Rattle.demands.proofs.Carried.{free-long}
-use Rattle.demands.specs.Alike.{bare, pair_lists, pair_call, Roomy, times, zeroed, OpensAlike, ScansAlike, ClosesAlike, Alike}
+use Rattle.demands.specs.Alike.{bare, pair_lists, pair_call, Roomy, times, zeroed, OpensAlike, Alike}
 use Rattle.traced.proofs.Ordered.{order-list}
 
 -- ---- the same states fit

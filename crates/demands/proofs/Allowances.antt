@@ -1,7 +1,7 @@
 -- The allowance of a scan: what is used is bounded, and more allowance carries the same lists
 -- further, since the reports of fewer bytes are the first of those of more. It is said of any kind
 -- of stream whose scans write what a machine reports. Assumes nothing.
-use mathlib.Core.Path.{◌≡◌, refl, sym, subst, ap, ap₂, ◌∙◌}
+use mathlib.Core.Path.{◌≡◌, sym, ap, ap₂, ◌∙◌}
 use mathlib.Core.List.{List, ◌++◌, map, map-append, append_assoc}
 use Prim.Native.Nat.{ℕ, ◌+◌, ◌-◌, ◌*◌, ◌≤◌}
 use native.Mathlib.Decide.{ℕ_discrete}
@@ -11,7 +11,7 @@ use lib.Seq.{take_at}
 use Rattle.stream.specs.Byte.{Machine, after, reports_by, cost_by, fits_by}
 use Rattle.stream.specs.Calls.{column}
 use Rattle.stream.proofs.Machines.{reports-grow, cost-grow, fits-within, fits-further, reports-later}
-use Rattle.demands.specs.Kinds.{Given, Kind}
+use Rattle.demands.specs.Kinds.{Kind}
 use Rattle.demands.specs.Demands.{Used, Further, MoreAllowance}
 
 -- what an accepted scan takes, uses and writes, and a refused one; the number does not depend on

@@ -1,7 +1,7 @@
 -- One rule does not disturb another. Both joined lists are the ordered lists of their rules (demand
 -- 3), the ordered list kept to one id is that of the rule alone, and there is only one. The rule
 -- alone is accepted, since what an addition needs is less in an emptied table.
-use mathlib.Core.Path.{◌≡◌, refl, sym, subst, ap, ◌∙◌}
+use mathlib.Core.Path.{◌≡◌, refl, subst, ap, ◌∙◌}
 use mathlib.Core.Logic.{inl, inr}
 use mathlib.Core.Bool.{Bool, cond}
 use mathlib.Core.List.Memᴰ
@@ -22,7 +22,7 @@ use Rattle.demands.specs.Chain.{additions_of}
 use Rattle.demands.specs.Demands.{table_in, accepted_in, rules_in, taken, joined, Demand3}
 use Rattle.demands.specs.Alone.{Undisturbed, AllUndisturbed, AcceptedAlone}
 use Rattle.demands.proofs.Others.{narrow-ids}
-use Rattle.demands.proofs.Origins.{Gives, came}
+use Rattle.demands.proofs.Origins.{came}
 use Rattle.demands.proofs.Theorems.{built, short-streams, traced_streams}
 
 undisturbed : {S L C S' L' C' : Type 0} (k : Kind S L C) (j : Kind S' L' C') → Demand3 k → Demand3 j → Undisturbed k j

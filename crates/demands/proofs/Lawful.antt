@@ -5,7 +5,7 @@
 -- nothing.
 use mathlib.Core.Path.{◌≡◌, refl, sym, subst, subst₂, ap, ap₂, ◌∙◌}
 use mathlib.Core.Logic.{◌⊎◌, inl, inr}
-use mathlib.Core.Bool.{Bool, true, false, true≢false}
+use mathlib.Core.Bool.{true, false, true≢false}
 use mathlib.Core.List.{List, [], ◌∷◌, ◌++◌, map, map-append, append-nil, append_assoc}
 use Prim.Native.Nat.{ℕ, zero, suc, ◌+◌, ◌*◌, ◌-◌, ◌≤◌, ◌<◌}
 use native.Mathlib.Omega.{arith}
@@ -233,7 +233,7 @@ module _ {S L C R : Type 0} (k : Kind S L C) (t : List ℕ) (m : Machine S R) (o
       go (yes ok) ih c =
           let is : (k.close t s slots).state ≡ ended s = law.close_state s slots ok in
           let quiet = silent l (ended s) (is-shut s) (subst (λ (x : S). OthersRefused k t x l) is h) in
-          subst₂ From (sym (law.close_reports s slots ok)) (sym is)
+          subst₂ From (sym (law.closed_reports s slots ok)) (sym is)
           (subst₂ (λ (b : List ℕ) (r : List Report). Goes s b (map out (final s) ++ r)) (sym quiet.bytes) (sym quiet.reports) (append-nil (map out (final s)) ∙ ends-here s))
       go (no bad) ih (inl ok) = absurd (bad ok)
       go (no bad) ih (inr shuts) =

@@ -5,7 +5,7 @@ use mathlib.Core.Path.{◌≡◌, refl, sym, subst, ap, ap₂, ◌∙◌}
 use mathlib.Core.Logic.{inl, inr}
 use mathlib.Core.Bool.{Bool, true, false, cond, true≢false}
 use mathlib.Core.List.{List, [], ◌∷◌, zip}
-use Prim.Native.Nat.{ℕ, ◌+◌, ◌*◌, ◌≤◌, ◌<◌}
+use Prim.Native.Nat.{ℕ, ◌+◌, ◌*◌, ◌≤◌}
 use native.Mathlib.Omega.{arith}
 use native.Mathlib.Decide.{ℕ_discrete}
 use lib.Dec.{ltb}
@@ -190,7 +190,7 @@ unfolding OthersRefused Closes
 closing-startless t [] s h shuts = absurd shuts
 closing-startless t (scan c ∷ l) s h shuts = closing-startless t l (scanned t s c).stream h shuts
 closing-startless t (close slots ∷ l) s h (inl ok) =
-    (accepted t s 0 (space slots) (close-number t s (space slots) ∙ sym (close-number-is t s slots) ∙ ok)).no_starts
+    (accepted t s 0 (space slots) (close-number t s (space slots) ∙ sym (close-number-is t s slots) ∙ ok)).none_has_starts
 closing-startless t (close slots ∷ l) s h (inr shuts) = closing-startless t l (closed t s slots).stream h shuts
 closing-startless t (other o ∷ l) s h shuts =
     let same : table_after t o ≡ t = kept t o h.0 in

@@ -12,7 +12,7 @@ use native.Mathlib.Nat.{lt_trans}
 use native.Mathlib.Omega.{arith}
 use native.Mathlib.Decide.{ℕ_discrete}
 use lib.Dec.{T, eqb, leb→le, le→leb, lit<}
-use lib.ListN.{length, get_or, take, drop}
+use lib.ListN.{length, get_or, take}
 use lib.Seq.{take-suc, take_all, length-take-le}
 use borrow.Author.Tests.{eq-eqb, eqb-true}
 use Rattle.sets.specs.Set.{on, has, smallest, union_of}
@@ -23,7 +23,7 @@ use Rattle.table.specs.Layout.{max_rules, max_positions}
 use Rattle.table.specs.Gaps.{between, before_last, unsettled, at_the_end, gap_of, last_gaps}
 use Rattle.table.specs.Automaton.{Automaton, last as last_in}
 use Rattle.table.proofs.GapBounds.{between-inner, before_last-follow, at_end-last}
-use Rattle.steps.specs.Step.{list_from, keepers_of, start_after, stepped_starts, start_at}
+use Rattle.steps.specs.Step.{keepers_of, start_after, stepped_starts, start_at}
 use Rattle.traced.proofs.Ordered.{list-entry}
 use Rattle.stream.specs.declared.Stream.{Stream}
 use Rattle.lengths.specs.Long.{long_in}

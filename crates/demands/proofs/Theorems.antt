@@ -3,7 +3,7 @@
 -- of calls on such a table applies, for each kind of stream. Assumes nothing.
 use mathlib.Core.Path.{◌≡◌, refl, sym, subst, ap, ◌∙◌}
 use mathlib.Core.Logic.{◌⊎◌, inl, inr}
-use mathlib.Core.Bool.{Bool, true, false}
+use mathlib.Core.Bool.{true, false}
 use mathlib.Core.List.Memᴰ
 use mathlib.Core.List.{List, map, Memᴰ}
 use Prim.Native.Nat.{ℕ, ◌+◌, ◌*◌, ◌^◌, ◌≤◌, ◌<◌}
@@ -11,7 +11,6 @@ use native.Mathlib.Nat.{zero-add}
 use native.Mathlib.Omega.{arith}
 use lib.Dec.{T}
 use lib.ListN.{length}
-use Rattle.sets.specs.Set.{empty_set, size_of}
 use Rattle.table.specs.Layout.{rules_of, positions_of}
 use Rattle.table.specs.Table.{is_table, emptied}
 use Rattle.table.specs.Automaton.{automaton}
@@ -33,13 +32,13 @@ use Rattle.rules.specs.declared.Added.{Added}
 use Rattle.rules.proofs.Encodes.{distinct}
 use Rattle.rules.proofs.Additions.{Built, words-built, answer-built}
 use Rattle.demands.specs.Kinds.{Kind, short, traces}
-use Rattle.demands.specs.Chain.{additions_of, Item, Roomy, offering, bytes_of, reports_of, state_of, OthersRefused, Closes, Blocks}
-use Rattle.demands.specs.Demands.{Setting, Between, table_in, accepted_in, rules_in, stream_in, Startless, Served, Calls, taken, joined, last, Acceptance, AcceptedExactly, Demand3, PairMeaning, Meaning, Total, BusyFigure, Validity, OfferedAgain, AdditionEndsStreams, ClosingEndsStream, AllHold, SameForCuttings, AllSame}
+use Rattle.demands.specs.Chain.{additions_of, Item, Roomy, offering, bytes_of, reports_of, OthersRefused, Closes, Blocks}
+use Rattle.demands.specs.Demands.{Setting, Between, table_in, accepted_in, rules_in, stream_in, Startless, Served, Calls, taken, joined, Acceptance, AcceptedExactly, Demand3, PairMeaning, Meaning, Total, BusyFigure, Validity, OfferedAgain, AdditionEndsStreams, ClosingEndsStream, AllHold, SameForCuttings, AllSame}
 use Rattle.demands.proofs.Acceptance.{accepted-if}
 use Rattle.demands.proofs.Others.{narrow-ids, additions-alone}
 use Rattle.demands.proofs.Carried.{Carried, carried, none_needed, none-reports, none-long}
 use Rattle.demands.proofs.Tracked.{opens as tracks, lives}
-use Rattle.demands.proofs.Lawful.{Lawful, Serves, joined_bytes, field_is, bytes_counted, within-limit, all_fit, Offered, offered}
+use Rattle.demands.proofs.Lawful.{Lawful, Serves, joined_bytes, field_is, bytes_counted, within-limit, all_fit, offered}
 use Rattle.demands.proofs.Busy.{busy-is}
 use Rattle.demands.proofs.Bytewise.{startless}
 use Rattle.demands.proofs.Short.{lawful, serves, closing-startless, writes}

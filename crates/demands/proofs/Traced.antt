@@ -2,36 +2,32 @@
 -- valid, and on any table it is not refused. So lists of calls on such a stream give the ordered
 -- list, starts included. Assumes nothing.
 use mathlib.Core.Path.{◌≡◌, refl, sym, subst, ap, ap₂, ◌∙◌}
-use mathlib.Core.Logic.{◌⊎◌, ◌↔◌}
+use mathlib.Core.Logic.{◌↔◌}
 use mathlib.Core.Bool.{Bool, true, false, cond}
 use mathlib.Core.List.{List, [], ◌∷◌, map, zip, Memᴰ}
-use Prim.Native.Nat.{ℕ, suc, ◌+◌, ◌-◌, ◌*◌, ◌^◌, ◌≤◌, ◌<◌}
+use Prim.Native.Nat.{ℕ, suc, ◌-◌, ◌*◌, ◌^◌, ◌≤◌, ◌<◌}
 use native.Mathlib.Omega.{arith}
 use native.Mathlib.Decide.{ℕ_discrete}
-use lib.Dec.{T, eqb}
-use lib.ListN.{length, get_or, take, drop, length-map}
+use lib.ListN.{length, get_or, drop, length-map}
 use lib.Seq.{take_at}
-use borrow.Author.Tests.{eq-eqb, ne_eqb}
-use Rattle.sets.specs.Set.{empty_set}
+use borrow.Author.Tests.{eq-eqb}
 use Rattle.table.specs.Layout.{rules_of, positions_of}
 use Rattle.table.specs.Table.{is_table}
 use Rattle.table.specs.Automaton.{Automaton, automaton}
 use Rattle.stream.specs.declared.Stream.{Stream}
-use Rattle.stream.specs.Byte.{Machine, after, reports_by, cost_by, two_reports, held_test, state_after}
-use Rattle.stream.specs.Valid.{stream_limit, sound, needs_starts, same_counts, live_inside, marks_single, under_limit, held_inside, pending_inside, pending_late, begun}
-use Rattle.stream.specs.Calls.{over_limit, shut, fresh}
-use Rattle.stream.proofs.Accepting.{Fitting, fitting, fitted}
-use Rattle.stream.proofs.Machines.{fits_le}
-use Rattle.stream.proofs.Blocks.{taken-after, cost-some, cost-few, one-fits}
-use Rattle.stream.proofs.Results.{opened-stream, opened-sound}
+use Rattle.stream.specs.Byte.{Machine, after, reports_by, cost_by, two_reports, held_test}
+use Rattle.stream.specs.Valid.{stream_limit}
+use Rattle.stream.specs.Calls.{over_limit, fresh}
+use Rattle.stream.proofs.Accepting.{fitting}
+use Rattle.stream.proofs.Blocks.{taken-after, cost-some, cost-few}
 use Rattle.traced.specs.declared.Traced.{Traced}
 use Rattle.traced.specs.declared.Scanned.{Scanned}
 use Rattle.traced.specs.declared.Closed.{Closed}
 use Rattle.traced.specs.Byte.{Start, none, Report as Trace, given, late_long, own_long, end_long, byte_reports, traced, late_start, own_start, end_start, close_reports}
 use Rattle.traced.specs.Byte as starts
 use Rattle.traced.specs.Valid.{valid}
-use Rattle.traced.specs.Calls.{Lists, lists, Call, no_starts, opened, space, in_stream, from_offset, written, scan_number, close_number, call_number, taken_by, scanned, scanned_lists, closed, closed_lists}
-use Rattle.traced.proofs.Accepting.{in_order, both, valid-parts, Accepted, accepted, close-number, not-refused}
+use Rattle.traced.specs.Calls.{Lists, lists, Call, space, in_stream, from_offset, written, scan_number, close_number, call_number, taken_by, scanned, scanned_lists, closed, closed_lists}
+use Rattle.traced.proofs.Accepting.{valid-parts, close-number, not-refused}
 use Rattle.traced.proofs.Same.{stream_after, cost-after}
 pub use Rattle.traced.proofs.Results.{ended, refused-scan, scan-number, refused-close, close-number-is, close-holds, close_state, close-valid, opened-is, opened-fits, progress}
 use Rattle.traced.proofs.Results.{accepted-scan, taken_is, scanned-lists, accepted-close, scan-holds, scan_state, taken-within, scan-valid, scan_limit}
@@ -41,8 +37,8 @@ use Rattle.demands.specs.Kinds.{with_start, traces_in, traces}
 use Rattle.demands.specs.Chain.{Item, Fit, bytes_of, reports_of, OthersRefused, Closes, Blocks}
 use Rattle.demands.proofs.Carried.{Carries}
 use Rattle.demands.proofs.TwoRuns.{Told, placed, two_runs}
-use Rattle.demands.proofs.Tracked.{Tracked, opens}
-use Rattle.demands.proofs.Starting.{told, told-last, Started, starts_none, byte-turn, closing-turn, started}
+use Rattle.demands.proofs.Tracked.{opens}
+use Rattle.demands.proofs.Starting.{told, told-last, starts_none, byte-turn, closing-turn, started}
 use Rattle.demands.proofs.Whole.{byte_entries, closing_of, whole}
 use Rattle.demands.proofs.Bytewise.{two-given}
 use Rattle.demands.proofs.Lawful.{given_by, Lawful, Serves, joined_bytes}

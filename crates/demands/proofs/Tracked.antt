@@ -30,7 +30,7 @@ use Rattle.steps.proofs.Late.{late-newly}
 use Rattle.stream.specs.declared.Stream.{Stream}
 use Rattle.stream.specs.Byte.{after, next_live, next_held, next_pending, state_by, late_test, own_test, held_test, end_test, byte_state, state_after}
 use Rattle.meaning.specs.Tree.{Text}
-use Rattle.meaning.specs.Form.{Form, Reach, positions}
+use Rattle.meaning.specs.Form.{Form, Reach}
 use Rattle.meaning.specs.Live.{Reached}
 use Rattle.meaning.specs.Gap.{last_line, Known, byte, edge, unknown, known_before, known_after}
 use Rattle.meaning.specs.Rule.{Rule, ByteSet, Assertion, world, holds, stream}

@@ -3,11 +3,11 @@
 -- the larger offset, both with their starts, and the marks which single-match rules have had a pair
 -- before, then the two runs report exactly the pairs of this moment that stay, in their order, and
 -- the marks afterwards say the same of the next moment. Assumes nothing.
-use mathlib.Core.Path.{◌≡◌, refl, sym, subst, subst₂, ap, ◌∙◌}
+use mathlib.Core.Path.{◌≡◌, refl, sym, subst, subst₂, ap}
 use mathlib.Core.Logic.{◌⊎◌, inl, inr, ◌↔◌}
 use mathlib.Core.Bool.{Bool, true, false, cond, not, ◌&&◌, ◌||◌}
 use mathlib.Core.List.Memᴰ
-use mathlib.Core.List.{List, [], ◌∷◌, ◌++◌, map, Memᴰ}
+use mathlib.Core.List.{List, [], ◌∷◌, ◌++◌, Memᴰ}
 use Prim.Native.Nat.{ℕ, zero, suc, ◌≤◌, ◌<◌}
 use native.Mathlib.Omega.{arith}
 use native.Mathlib.Decide.{ℕ_discrete, dec_lt}
