@@ -36,7 +36,19 @@ LEMMAS = {
 # A string, which stays, and a comment.
 STRING = re.compile(r'"(?:[^"\\\n]|\\.)*"')
 COMMENT = re.compile(r"(?:--|//)[^\n]*")
-FACTS = {"closes": ("HasClosing", ("demands/specs/Demands.antt", "demands/specs/Alone.antt"))}
+# A fact in small letters, what it is called, and where it is that fact.
+FACTS = {
+    "closes": (
+        "HasClosing",
+        (
+            "demands/specs/Demands.antt",
+            "demands/specs/Alone.antt",
+            "disputes/specs/Plain.antt",
+            "worked/specs/Example.antt",
+            "worked/specs/Starts.antt",
+        ),
+    ),
+}
 # Names that would fall together with another in snake case.
 OTHERS = {
     "empty-window": "window_is_empty",

@@ -7,7 +7,7 @@ use mathlib.Core.List.Memᴰ
 use mathlib.Core.List.{List, [], ◌∷◌, ◌++◌, map, zip, zip_with, Memᴰ}
 use Prim.Native.Nat.{ℕ, ◌+◌, ◌≤◌, min}
 use native.Mathlib.Omega.{arith}
-use borrow.Author.Tests.{eq-eqb, eqb-true, le-ltb, ltb-false}
+use borrow.Author.Tests.{eq-eqb, le-ltb, ltb-false}
 use lib.Bits.{bit_and}
 use lib.Dec.{eqb, ltb}
 use lib.ListN.{length, take, drop}
@@ -37,7 +37,7 @@ use Rattle.rules.proofs.Readings.{reads}
 use Rattle.rules.proofs.Additions.{built-none, answer-built}
 use Rattle.plain.specs.declared.Matched.{Matched}
 use Rattle.plain.specs.Run.{Lent, lent}
-use Rattle.plain.specs.Answer.{Question, known_flags, longest_log, least_space, has_single, has_leftmost, verdict, rule_of, Reports, refusal, Answered}
+use Rattle.plain.specs.Answer.{Question, known_flags, longest_log, least_space, has_single, has_leftmost, verdict, rule_of, Reports, Answered}
 use Rattle.plain.proofs.matches.Met.{met as matches-met}
 use Rattle.demands.specs.Kinds.{Kind, short, traces}
 use Rattle.demands.specs.Demands.{table_in, accepted_in, rules_in, taken, joined, Demand3}
@@ -86,6 +86,7 @@ abbrev barred : List ℕ
 barred = 0 ∷ 1 ∷ 3 ∷ 4 ∷ 17 ∷ []
 
 mem-among : (n : ℕ) (l : List ℕ) → Memᴰ n l → among n l ≡ true
+mem-among n [] m = elim m [ ]
 mem-among n (k ∷ l) (Memᴰ.head e) = ap (λ (b : Bool). cond b true (among n l)) (eq-eqb n k e)
 mem-among n (k ∷ l) (Memᴰ.tail m) = go (eqb n k) (mem-among n l m)
   where

@@ -15,7 +15,7 @@ use Rattle.plain.specs.Answer.{Question, longest_log, least_space, Matches}
 use Rattle.plain.proofs.matches.Statement.{statement as matches}
 use Rattle.demands.specs.Kinds.{Kind, short, traces}
 use Rattle.demands.specs.Chain.{Item}
-use Rattle.demands.specs.Demands.{Setting, accepted_in, Calls, closes, taken, joined}
+use Rattle.demands.specs.Demands.{Setting, accepted_in, Calls, HasClosing, taken, joined}
 
 -- a question that the matcher was asked, the lists that it was lent and how it left them, and its
 -- answer
@@ -48,7 +48,7 @@ abbrev pub SameList : {S L C : Type 0} → Kind S L C → Type 0
 SameList {S} {L} {C} k =
     (q : Asked) → q.answer.number ≡ 0
     → (id : ℕ) (c : Setting) → HasOnly c id q
-    → (items : List (Item L C)) → Calls k c items → closes k c items
+    → (items : List (Item L C)) → Calls k c items → HasClosing k c items
     → taken k c items ≡ q.question.log → joined k c items ≡ list_of id q
 
 -- The same in a table of many rules: its reports, kept to the id of that rule, are the matcher's
@@ -58,7 +58,7 @@ SameAmong {S} {L} {C} k =
     (q : Asked) → q.answer.number ≡ 0
     → (c : Setting) (r : Accepted) → Memᴰ r (accepted_in c)
     → accepted_after [] (addition_of r.id q ∷ []) ≡ r ∷ []
-    → (items : List (Item L C)) → Calls k c items → closes k c items
+    → (items : List (Item L C)) → Calls k c items → HasClosing k c items
     → taken k c items ≡ q.question.log → of_id r.id (joined k c items) ≡ list_of r.id q
 
 -- "it refuses with the same numbers and places": for "a whole log of at most 1,024 bytes" and

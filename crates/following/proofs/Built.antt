@@ -7,9 +7,9 @@ use Prim.Native.Nat.{ℕ, zero, suc, ◌+◌, ◌*◌, ◌/◌, ◌%◌, ◌<◌
 use native.Mathlib.Nat.{add-zero}
 use native.Mathlib.Decide.{dec_lt}
 use native.Mathlib.Omega.{arith}
-use lib.Dec.{eqb, leb, ltb}
+use lib.Dec.{eqb, ltb}
 use lib.ListN.{length, get_or}
-use borrow.Author.Tests.{lt-ltb, le-ltb, ltb-true, ltb-false, eqb-true, eq-eqb, not-true, le-leb}
+use borrow.Author.Tests.{lt-ltb, le-ltb, ltb-true, eqb-true, eq-eqb, not-true, le-leb}
 use Rattle.sets.specs.Set.{on, has, as_one, set_of, any, count, empty_set, is_empty, intersection_of, complement_of, size_of}
 use Rattle.sets.proofs.Digits.{on-word_of}
 use Rattle.sets.proofs.Laws.{Words, empty-is, any-never, any_none, has-intersection, has-complement, same-members, words-set_of}
@@ -28,7 +28,7 @@ use Rattle.stream.specs.declared.Stream.{Stream}
 use Rattle.stream.specs.Byte.{next_live, next_held, next_pending}
 use Rattle.second.specs.declared.Key.{Key}
 use Rattle.second.specs.Layout.{second_words, second_format, second_rules, second_positions, max_entries, entries_of, resting_at, entry_live, entry_held, entry_pending, entry_last, entry_own, entry_late, entry_busy, row_at, no_entry, names_entry, entry_in, is_loud, target_word}
-use Rattle.second.specs.Entries.{same_key, start_key, state_at, first_of, apart, next_key, place_of, own_of, late_of, keeps_start, tells_start, needs_old, entries, key_at, leads_to, is_quiet, target_of, rests_at, second_word}
+use Rattle.second.specs.Entries.{same_key, start_key, state_at, apart, next_key, place_of, own_of, late_of, keeps_start, tells_start, needs_old, entries, key_at, leads_to, is_quiet, target_of, rests_at, second_word}
 use Rattle.second.specs.Second.{positions_in, rules_in, entry_ok, is_second, second}
 use Rattle.following.specs.Follow.{leads, next_entry, late_rules, own_rules, rest_entry}
 use Rattle.second.proofs.Searching.{first_passes, key-same}

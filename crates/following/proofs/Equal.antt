@@ -6,13 +6,12 @@ use Prim.Native.Nat.{ℕ, ◌≤◌}
 use native.Mathlib.Nat.{le_refl}
 use native.Mathlib.Omega.{arith}
 use lib.Dec.{eqb, ltb}
-use lib.ListN.{length, get_or}
+use lib.ListN.{length}
 use borrow.Author.Tests.{ltb-false}
 use Rattle.table.specs.Table.{is_table}
 use Rattle.table.specs.Automaton.{Automaton, automaton}
 use Rattle.stream.specs.declared.Stream.{Stream}
-use Rattle.stream.specs.declared.Scanned.{Scanned}
-use Rattle.stream.specs.Byte.{Report, after, reports_by, cost_by, fits_by, plain, state_after, reports_of, cost_of, fits}
+use Rattle.stream.specs.Byte.{Report, after, reports_by, cost_by, plain, reports_of}
 use Rattle.stream.specs.Calls.{Call, space, written, scan_number, call_number, taken_by, scanned, scanned_lists}
 use Rattle.stream.proofs.Machines.{fits_le, same_after, same-reports, same-cost, same-fits}
 use Rattle.second.specs.Layout.{second_words}

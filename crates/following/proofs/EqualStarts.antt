@@ -15,7 +15,6 @@ use Rattle.table.specs.Automaton.{Automaton, automaton}
 use Rattle.stream.specs.Byte.{after, reports_by, cost_by}
 use Rattle.stream.proofs.Machines.{fits_le, same_after, same-reports, same-cost, same-fits}
 use Rattle.traced.specs.declared.Traced.{Traced}
-use Rattle.traced.specs.declared.Scanned.{Scanned}
 use Rattle.traced.specs.Byte.{Report, traced}
 use Rattle.traced.specs.Calls.{Call, space, written, scan_number, call_number, taken_by, scanned, scanned_lists}
 use Rattle.second.specs.Layout.{second_words}

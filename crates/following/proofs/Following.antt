@@ -1,27 +1,27 @@
 -- A second table that is right changes nothing. It is right where each entry leads to the state
 -- that the old way gives, with the rules that it ends (`Right`); a stream that follows it then
 -- gives what a stream without it gives, byte by byte, from every state.
-use mathlib.Core.Path.{◌≡◌, refl, sym, ap, ap₂, ◌∙◌, subst}
+use mathlib.Core.Path.{◌≡◌, refl, sym, ap, ◌∙◌}
 use mathlib.Core.Bool.{Bool, true, false, true≢false, cond, ◌&&◌, and-false, and-eq-true_iff}
 use mathlib.Core.List.{List}
-use Prim.Native.Nat.{ℕ, suc, ◌+◌, ◌%◌, ◌<◌, ◌≤◌}
+use Prim.Native.Nat.{ℕ, suc, ◌+◌, ◌%◌, ◌<◌}
 use native.Mathlib.Omega.{arith}
 use lib.Dec.{eqb, leb, ltb}
 use borrow.Author.Tests.{leb-true, ltb-true, ne_eqb, eqb-true, eqb-false}
 use Rattle.sets.specs.Set.{on, empty_set}
 use Rattle.kinds.specs.declared.Side.{Side}
 use Rattle.kinds.specs.declared.Side.TheVariants.{Newline}
-use Rattle.kinds.specs.Side.{side_of, side_word}
+use Rattle.kinds.specs.Side.{side_of}
 use Rattle.kinds.proofs.Sides.{side_same}
 use Rattle.table.specs.Gaps.{between, before_last, unsettled}
 use Rattle.table.specs.Automaton.{Automaton}
 use Rattle.steps.specs.Step.{stepped, ends, ends_newly, late_in, rules_where}
 use Rattle.stream.specs.declared.Stream.{Stream}
-use Rattle.stream.specs.Byte.{Report, next_live, next_held, next_pending, late_test, own_test, given, two_reports, byte_reports, byte_state, plain}
+use Rattle.stream.specs.Byte.{next_live, next_held, next_pending, late_test, own_test, given, two_reports, byte_reports, byte_state, plain}
 use Rattle.stream.proofs.TwoRuns.{two-ext, two-marks-ext}
 use Rattle.stream.proofs.Machines.{Agree}
 use Rattle.steps.proofs.Steps.{next-quiet}
-use Rattle.second.specs.Layout.{entries_of, resting_at, entry_live, entry_held, entry_pending, entry_last, entry_busy, names_entry, row_of, entry_in, is_loud, target_word}
+use Rattle.second.specs.Layout.{entries_of, entry_live, entry_held, entry_pending, entry_last, entry_busy, names_entry, row_of, entry_in, is_loud, target_word}
 use Rattle.second.specs.Entries.{same_words, first_of}
 use Rattle.following.specs.Follow.{Place, at, resting, away, Placed, stretch, same_bool, leads, next_entry, late_rules, own_rules, arrives, rest_entry, is_at, standing, looked_up, late_by, own_by, step_to, by_entry, reports_by_entry, next_at, reports_at, next_followed, following}
 use Rattle.second.proofs.Searching.{first_passes, words_same}

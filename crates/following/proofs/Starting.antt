@@ -1,7 +1,7 @@
 -- A second table that is right, and that no rule which needs a start has a part in, changes nothing
 -- on a stream with starts either: a byte by an entry then leaves no start, and reports none.
 use mathlib.Core.Path.{◌≡◌, refl, sym, ap, ap₂, ◌∙◌}
-use mathlib.Core.Bool.{Bool, true, false, true≢false, cond, not, ◌&&◌, ◌||◌, and-eq-true_iff, and-true}
+use mathlib.Core.Bool.{Bool, true, false, cond, ◌&&◌, and-eq-true_iff}
 use mathlib.Core.List.{List}
 use Prim.Native.Nat.{ℕ, suc, ◌%◌, ◌<◌, ◌≤◌}
 use native.Mathlib.Omega.{arith}
@@ -9,13 +9,13 @@ use lib.Bits.{bit_and}
 use lib.Dec.{eqb, ltb}
 use lib.ListN.{get_or}
 use borrow.Author.Tests.{lt-ltb, ltb-true, eqb-true, not-false}
-use Rattle.sets.specs.Set.{on, has, any, empty_set, is_empty, intersection_of, set_of}
+use Rattle.sets.specs.Set.{on, has, is_empty, set_of}
 use Rattle.sets.proofs.Digits.{on_and, on-zero, on-word_of}
 use Rattle.sets.proofs.Laws.{Words, words-set_of, has-set_of, set_of-has, set_of-ext, any_none}
 use Rattle.kinds.specs.Side.{side_of}
-use Rattle.table.specs.Layout.{max_positions, max_rules, keepers_at, lengths_of, row_has}
+use Rattle.table.specs.Layout.{max_positions, max_rules}
 use Rattle.table.specs.Gaps.{between, before_last, unsettled}
-use Rattle.table.specs.Automaton.{Automaton, automaton}
+use Rattle.table.specs.Automaton.{Automaton}
 use Rattle.steps.specs.Step.{stepped, ends, ends_newly, late_in, keepers_of, rules_where, windowed, start_at}
 use Rattle.steps.proofs.TableSets.{meets-test}
 use Rattle.lengths.specs.Long.{long_in}
@@ -24,15 +24,13 @@ use Rattle.stream.specs.Byte as stream
 use Rattle.stream.specs.Byte.{next_live, next_held, next_pending, late_test, own_test, two_reports, state_by, byte_state}
 use Rattle.stream.proofs.TwoRuns.{two-ext}
 use Rattle.stream.proofs.Machines.{Agree}
-use Rattle.traced.specs.declared.Starts.{Starts}
 use Rattle.traced.specs.declared.Traced.{Traced}
-use Rattle.traced.specs.Byte.{Report, none, from, given, keeping, counted, narrowed, live_next, held_next, late_long, own_long, pending_long, stream_next, late_start, own_start, next_starts, next_state, byte_reports, traced}
+use Rattle.traced.specs.Byte.{none, from, given, keeping, counted, narrowed, live_next, late_long, own_long, pending_long, stream_next, late_start, own_start, next_starts, next_state, byte_reports, traced}
 use Rattle.traced.specs.Calls.{no_starts}
 use Rattle.traced.proofs.Carrying.{stepped-none, list_ext, pending-ruled}
 use Rattle.traced.proofs.Delivering.{two-give}
-use Rattle.second.specs.Layout.{entries_of, entry_live, target_word, names_entry}
 use Rattle.second.specs.Entries.{keeps_start, tells_start}
-use Rattle.following.specs.Follow.{Place, at, resting, away, stretch, leads, arrives, rest_entry, standing, late_by, own_by, step_to}
+use Rattle.following.specs.Follow.{Place, at, resting, away, stretch, leads, arrives, rest_entry, late_by, own_by, step_to}
 use Rattle.following.specs.Starts.{Placed, looked_up, unstarted, by_entry, reports_by_entry, next_at, reports_at, next_followed, following}
 use Rattle.following.proofs.Following.{Stands, Right, KeptAt, stood, arrived, late-same, own_same, step_same, rest-stands, still, some_byte}
 

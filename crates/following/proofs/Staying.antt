@@ -1,6 +1,6 @@
 -- Whatever second table passes, a stream that follows it keeps a state that fits its table: what
 -- the entries name is there, and no pair is held before the second byte.
-use mathlib.Core.Path.{◌≡◌, refl, sym, ap, ap₂, ◌∙◌, subst}
+use mathlib.Core.Path.{◌≡◌, refl, sym, ap, ◌∙◌}
 use mathlib.Core.Bool.{Bool, true, false, cond, not, ◌&&◌, ◌||◌, or-true, and-eq-true_iff}
 use mathlib.Core.List.{List}
 use Prim.Native.Nat.{ℕ, zero, suc, ◌+◌, ◌%◌, ◌<◌, ◌≤◌}
@@ -8,12 +8,12 @@ use native.Mathlib.Nat.{add-zero, add-suc}
 use native.Mathlib.Omega.{arith}
 use lib.Dec.{eqb, leb, ltb}
 use lib.ListN.{length, get_or}
-use borrow.Author.Tests.{lt-ltb, le-leb, ltb-true, eqb-true, eqb-false, leb-true}
-use Rattle.sets.specs.Set.{on, has, any, is_empty}
+use borrow.Author.Tests.{lt-ltb, le-leb, eqb-false}
+use Rattle.sets.specs.Set.{on, any, is_empty}
 use Rattle.sets.proofs.Digits.{on-zero}
 use Rattle.sets.proofs.Laws.{any-never}
-use Rattle.table.specs.Layout.{max_positions, rules_of, positions_of}
-use Rattle.table.specs.Table.{all, is_table}
+use Rattle.table.specs.Layout.{rules_of, positions_of}
+use Rattle.table.specs.Table.{is_table}
 use Rattle.table.specs.Automaton.{Automaton, automaton}
 use Rattle.table.proofs.Test.{all-at}
 use Rattle.stream.specs.declared.Stream.{Stream}
@@ -21,7 +21,7 @@ use Rattle.stream.specs.declared.Scanned.{Scanned}
 use Rattle.stream.specs.Byte.{after, reports_by, cost_by, fits_by, byte_state}
 use Rattle.stream.specs.Calls.{Call, space, scan_number}
 use Rattle.stream.specs.Valid.{stream_limit, live_inside, marks_single, held_inside, pending_inside, pending_late, begun, valid}
-use Rattle.stream.proofs.Accepting.{Fitting, Accepted, accepted, fitted, valid-is}
+use Rattle.stream.proofs.Accepting.{Fitting, accepted, fitted, valid-is}
 use Rattle.stream.proofs.Results.{fitting-next}
 use Rattle.stream.proofs.Machines.{fits_le}
 use Rattle.second.specs.Layout.{second_words, second_format, second_rules, second_positions, max_entries, entries_of, entry_live, entry_held, entry_pending, names_entry, target_word}
@@ -194,4 +194,4 @@ stays-valid t c s a e =
     let z : Stream = (after (following w c) (looked_up c s) a.block k).stream in
     ap (λ (n : ℕ). valid w (cond {A = Scanned} (eqb n 0) (record { number = 0; taken = k; reports = length (reports_by (following w c) (looked_up c s) a.block k); used = cost_by (following w c) (looked_up c s) a.block k; stream = z })
     (record { number = n; taken = 0; reports = 0; used = 0; stream = s })).stream) e
-    ∙ valid-is w z (fitted w z (fits_after w c (all_there t c up.passes) s h.state a.block k (omega (arith, h.short, few)))) h.no_starts
+    ∙ valid-is w z (fitted w z (fits_after w c (all_there t c up.passes) s h.state a.block k (omega (arith, h.short, few)))) h.none_has_starts

@@ -4,15 +4,14 @@ use mathlib.Core.Path.{◌≡◌, refl, sym, ap, ap₂, ◌∙◌}
 use mathlib.Core.Bool.{Bool, true, false, cond, not, ◌&&◌}
 use mathlib.Core.List.{List, [], ◌∷◌}
 use Prim.Native.Nat.{ℕ, zero, suc, ◌+◌, ◌%◌, ◌<◌, ◌≤◌}
-use native.Mathlib.Nat.{add-zero, add-suc, zero-add}
+use native.Mathlib.Nat.{add-zero, add-suc}
 use native.Mathlib.Omega.{arith}
-use lib.Dec.{eqb, ltb}
+use lib.Dec.{eqb}
 use lib.ListN.{length, get_or}
 use borrow.Author.Tests.{lt-ltb}
-use Rattle.sets.specs.Set.{on, has, any}
+use Rattle.sets.specs.Set.{on, has}
 use Rattle.sets.proofs.Laws.{any-never}
 use Rattle.table.specs.Layout.{max_positions, max_rules}
-use Rattle.table.specs.Table.{is_table}
 use Rattle.table.specs.Automaton.{Automaton, automaton}
 use Rattle.steps.specs.Step.{list_from}
 use Rattle.steps.proofs.Carrying.{list_at}
@@ -25,10 +24,10 @@ use Rattle.stream.proofs.Machines.{fits_le}
 use Rattle.starts.specs.Order.{start_ok, starts_ok}
 use Rattle.traced.specs.declared.Traced.{Traced}
 use Rattle.traced.specs.declared.Scanned.{Scanned}
-use Rattle.traced.specs.Byte.{counted, late_long, own_long, stream_next, next_state, traced}
+use Rattle.traced.specs.Byte.{counted, late_long, own_long, stream_next, next_state}
 use Rattle.traced.specs.Calls.{Call, space, scan_number, no_starts}
 use Rattle.traced.specs.Valid.{valid}
-use Rattle.traced.proofs.Accepting.{Accepted, accepted, in_order}
+use Rattle.traced.proofs.Accepting.{accepted, in_order}
 use Rattle.traced.proofs.Ordered.{order-after}
 use Rattle.second.specs.Layout.{entries_of}
 use Rattle.following.specs.Follow.{Place, at, resting, away, stretch, leads, arrives, rest_entry, step_to}

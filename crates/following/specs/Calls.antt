@@ -8,7 +8,7 @@ use Rattle.stream.specs.declared.Scanned.{Scanned}
 use Rattle.stream.specs.Byte.{after, reports_by, cost_by, fits_by}
 use Rattle.stream.specs.Calls.{Lists, Call, space, written, scan_number}
 use Rattle.second.specs.Second.{is_second}
-use Rattle.following.specs.Follow.{Placed, looked_up, following}
+use Rattle.following.specs.Follow.{looked_up, following}
 
 -- "words that don't pass are refused with 29, checked right after 1"
 unfoldable pub follow_number : (t c : List ℕ) → Stream → (len room : ℕ) → ℕ

@@ -4,14 +4,14 @@
 use mathlib.Core.Path.{◌≡◌, refl, sym, ap, ap₂, ◌∙◌}
 use mathlib.Core.Bool.{Bool, true, false, cond, not, ◌&&◌, ◌||◌}
 use mathlib.Core.List.{List, [], ◌∷◌, ◌++◌}
-use Prim.Native.Nat.{ℕ, zero, suc, ◌+◌, ◌-◌, ◌≤◌, ◌<◌}
+use Prim.Native.Nat.{ℕ, zero, suc, ◌-◌, ◌≤◌, ◌<◌}
 use native.Mathlib.Nat.{lt_trans}
 use native.Mathlib.Omega.{arith}
 use native.Mathlib.Decide.{dec_lt}
-use lib.Dec.{eqb, leb, ltb, lit<}
-use lib.ListN.{length, get_or, replicate}
+use lib.Dec.{eqb, ltb, lit<}
+use lib.ListN.{length, get_or}
 use borrow.Author.Tests.{le-ltb}
-use Rattle.sets.specs.Set.{on, has, any, empty_set, union_of, size_of}
+use Rattle.sets.specs.Set.{on, has, any, empty_set, union_of}
 use Rattle.sets.proofs.Laws.{has-set_of, has-empty, has-union, set_of-ext, any-ext}
 use Rattle.sets.proofs.Digits.{word_of-ext}
 use Rattle.kinds.specs.declared.Side.{Side}

@@ -4,7 +4,7 @@ use mathlib.Core.Path.{◌≡◌, refl, sym, subst, ap, ap₂, ◌∙◌}
 use mathlib.Core.Bool.{Bool, true, false, cond, not, true≢false, ◌&&◌}
 use mathlib.Core.List.Memᴰ
 use mathlib.Core.List.{List, [], ◌∷◌, ◌++◌, map, Memᴰ}
-use Prim.Native.Nat.{ℕ, suc, ◌+◌, ◌-◌, ◌*◌, ◌≤◌}
+use Prim.Native.Nat.{ℕ, suc, ◌+◌, ◌*◌, ◌≤◌}
 use Prim.Native.String.{String}
 use native.Mathlib.Omega.{arith}
 use lib.Dec.{T, T_not, eqb, leb, ltb, eqb→eq, leb→le, ltb→lt}
@@ -206,6 +206,7 @@ without_starts (r ∷ rs) = not (needs_start (rule_of r)) && without_starts rs
 
 without_all : (rs : List Accepted) → T (without_starts rs) → (r : Accepted) → Memᴰ r rs → needs_start (rule_of r) ≡ false
 unfolding without_starts
+without_all [] h r m = elim m [ ]
 without_all (x ∷ rs) h r (Memᴰ.head e) =
     ap (λ (y : Accepted). needs_start (rule_of y)) e
     ∙ false-T (needs_start (rule_of x)) (T_not (needs_start (rule_of x)) ((and_T (not (needs_start (rule_of x))) (without_starts rs)).0 h).0)

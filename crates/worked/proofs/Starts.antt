@@ -18,7 +18,6 @@ use Rattle.atoms.specs.Quote.{is_mark, gap_of}
 use Rattle.tokens.specs.Option.{letters_of, before_close, comment_of, opening_of}
 use Rattle.tokens.specs.Quantifier.{bounded, open_ended, braces_of, form_of, marked, quantifier_of}
 use Rattle.tokens.specs.Token.{escaped, unquoted_of, spelled_of, lexeme_of, item_set}
-use Rattle.table.specs.Layout.{table_words}
 use Rattle.table.specs.Table.{all, emptied}
 use Rattle.stream.specs.Valid.{stream_limit}
 use Rattle.meaning.specs.Count.{copied, capped, saturating, nullable}

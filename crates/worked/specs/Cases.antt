@@ -3,7 +3,7 @@
 -- The rules are pattern bytes and flags, the logs are cut as the rules cut them, and all else is
 -- worked out by the definitions of the calls. The theorem is `worked-cases` of proofs/Cases.antt.
 -- Assumes nothing: these are definitions.
-use Rattle.std.specs.Prelude.{◌≡◌, ℕ, suc, ◌*◌, ◌-◌, ◌^◌, ◌≤◌, length}
+use Rattle.std.specs.Prelude.{◌≡◌, ℕ, suc, ◌*◌, ◌≤◌, length}
 use mathlib.Core.List.{List, [], ◌∷◌, map, Memᴰ}
 use Prim.Native.String.{String}
 use Rattle.table.specs.Layout.{table_words, max_rules}

@@ -10,7 +10,7 @@ use Rattle.stream.specs.Calls.{Lists, lists, Call, call}
 use Rattle.meaning.specs.Ordered.{Report, Ordered}
 use Rattle.demands.specs.Chain.{this, those, adding, scanning, Step, addition, another, Item, scan, close, other, Outcome, by_scan, by_close, outcomes_of}
 use Rattle.demands.specs.Kinds.{short}
-use Rattle.demands.specs.Demands.{Setting, table_in, stream_in, rules_in, Calls, closes, taken, joined}
+use Rattle.demands.specs.Demands.{Setting, table_in, stream_in, rules_in, Calls, HasClosing, taken, joined}
 use Rattle.worked.specs.Cases.{bytes, rule}
 
 -- a list with one slot, fewer than one rule needs, and one with two
@@ -76,7 +76,7 @@ module _ (words : List ℕ) (long : table_words ≤ length words) where
   pub record Instance : Type 0 where
     -- demand 3's hypotheses hold
     pub calls : Calls short setting items
-    pub closing : closes short setting items
+    pub closing : HasClosing short setting items
     -- each call gives this, so all bytes are taken and the joined reports are these
     pub each : outcomes_of short (table_in setting) (stream_in short setting) items ≡ outcomes
     pub all_taken : taken short setting items ≡ bytes "abbb"

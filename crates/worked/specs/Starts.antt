@@ -1,7 +1,7 @@
 -- Worked cases of rules that need starts, on streams that keep them: the rule stands alone in its
 -- table, and the log may be cut in any way, by any calls that demand 3 takes. The theorem is
 -- `worked-starts` of proofs/Starts.antt. Assumes nothing: these are definitions.
-use Rattle.std.specs.Prelude.{◌≡◌, List, [], ◌∷◌, ℕ, ◌*◌, ◌≤◌, length}
+use Rattle.std.specs.Prelude.{◌≡◌, List, [], ◌∷◌, ℕ, ◌≤◌, length}
 use Rattle.table.specs.Layout.{table_words}
 use Rattle.table.specs.Table.{emptied}
 use Rattle.traced.specs.Calls.{Lists, Call, space}
@@ -10,7 +10,7 @@ use Rattle.meaning.specs.Ordered.{Report}
 use Rattle.rules.specs.Add.{Addition, addition_in, answer, add_answer}
 use Rattle.demands.specs.Chain.{additions_of, Item, Roomy, offering}
 use Rattle.demands.specs.Kinds.{traces}
-use Rattle.demands.specs.Demands.{Setting, Between, table_in, stream_in, Calls, closes, taken, joined}
+use Rattle.demands.specs.Demands.{Setting, Between, table_in, stream_in, Calls, HasClosing, taken, joined}
 use Rattle.worked.specs.Cases.{bytes, rule}
 
 module _ (a : Addition) (log : List ℕ) (list : List Report) where
@@ -29,7 +29,7 @@ module _ (a : Addition) (log : List ℕ) (list : List Report) where
         → joined traces c (offering traces (table_in c) (stream_in traces c) log turns slots) ≡ list
     -- and so they are of any calls that take the log and close the stream
     pub by_any : (c : Setting) (items : List (Item Lists Call)) → Alone c → Calls traces c items
-        → closes traces c items → taken traces c items ≡ log → joined traces c items ≡ list
+        → HasClosing traces c items → taken traces c items ≡ log → joined traces c items ≡ list
 
 -- a smallest length alone
 abbrev length_from : ℕ → Windows
