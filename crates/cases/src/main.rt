@@ -89,7 +89,12 @@ fn repeats(rt: &impl Print, words: &mut [u64]) -> io::Result<()> {
     add(rt, words, 1, b"a{65536}")?;
     add(rt, words, 1, b"a{3,2}")?;
     add(rt, words, 1, b"(a{16}){17}")?;
-    add(rt, words, 1, b"((((a{65535}){65535}){65535}){65535}){65535}b")?;
+    add(
+        rt,
+        words,
+        1,
+        b"((((a{65535}){65535}){65535}){65535}){65535}b",
+    )?;
     add(rt, words, 1, b"((^){65535}){65535}a")?;
     log(rt, words, b"aa")
 }

@@ -25,7 +25,7 @@ loop-stdin-smaller c =
     let l = c.loop-stdin in
     let r = c.read_block-size in
     let e = c.watch_block-watched.ensures (not-false _ c.if-not-watched.false) in
-    omega (arith, c.if-size-eq0.false, grown pairs pair-law _ r.new.block _ _ r.result (length l.block) l.invariant.runs r.ensures.within r.ensures.upper_bound e)
+    omega (arith, grown pairs pair-law _ r.new.block _ _ r.result (length l.block) l.invariant.runs r.ensures.within r.ensures.upper_bound e)
 
 pub loop-stdin-preserved : goal.loop-stdin-preserved
 loop-stdin-preserved c =
