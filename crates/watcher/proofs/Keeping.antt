@@ -80,10 +80,8 @@ pub is-table : (t : List ℕ) → FromEmpty t → is_table t ≡ true
 is-table t h = ap is_table h.same ∙ words-pass h.words h.additions h.long h.narrow
 
 -- the loop over the lines: the words are a table's, and there are no more lines than bytes passed
-pub record Passed (words₀ text out₀ words out : List ℕ) (from line at : ℕ) : Type 0 where
+pub record Passed (text words out : List ℕ) (from line at : ℕ) : Type 0 where
   pub table : FromEmpty words
   pub within : from ≤ length text + 1
   pub counted : line ≤ from
   pub room : at ≤ length out
-  pub words_same : length words ≡ length words₀
-  pub out_same : length out ≡ length out₀

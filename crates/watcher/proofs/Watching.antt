@@ -3,7 +3,7 @@
 use mathlib.Core.Path.{◌≡◌, refl, sym, ap, subst, ◌∙◌}
 use mathlib.Core.Bool.{Bool, true, false, ◌&&◌}
 use mathlib.Core.List.{List}
-use Prim.Native.Nat.{ℕ, ◌+◌, ◌-◌, ◌*◌, ◌≤◌, ◌<◌, min}
+use Prim.Native.Nat.{ℕ, ◌+◌, ◌-◌, ◌≤◌, ◌<◌}
 use native.Mathlib.Omega.{arith}
 use lib.Dec.{leb}
 use lib.IntN.{ℤ}
@@ -12,7 +12,7 @@ use lib.Seq.{length-take-le}
 use borrow.Author.Tests.{le-leb}
 use Rattle.lines.specs.Numbers.{askable}
 use Rattle.lines.proofs.Laws.{askable-limit}
-use Rattle.table.specs.Layout.{table_words, max_rules}
+use Rattle.table.specs.Layout.{table_words}
 use Rattle.table.specs.Table.{is_table}
 use Rattle.table.specs.Automaton.{Automaton, automaton}
 use Rattle.table.proofs.Test.{passes}
@@ -118,10 +118,10 @@ pub record Input {S R : Type 0} (k : Way S R) (t ids offsets : List ℕ) (now : 
   pub room : Roomy ids offsets
 
 -- a block that was read, of which no more was asked for than the stream may still take
-module _ {S R : Type 0} (k : Way S R) (law : Lawful k) (t block : List ℕ) (s : S) (size : ℕ) (h : Running k t s) (within : size ≤ length block)
-    (most : size ≤ askable (k.stream s).taken (length block)) where
+module _ {S R : Type 0} (k : Way S R) (law : Lawful k) (t block : List ℕ) (s : S) (size room : ℕ) (h : Running k t s) (within : size ≤ length block)
+    (most : size ≤ askable (k.stream s).taken room) where
   pub asked : (k.stream s).taken + length (take size block) ≤ stream_limit
-  asked = omega (arith, length-take-le size block within, asked-fits k law t s (length block) size h most)
+  asked = omega (arith, length-take-le size block within, asked-fits k law t s room size h most)
 
 -- and the state after it
 pub record Grown {S R : Type 0} (k : Way S R) (t : List ℕ) (s next : S) (size : ℕ) : Type 0 where
@@ -129,10 +129,10 @@ pub record Grown {S R : Type 0} (k : Way S R) (t : List ℕ) (s next : S) (size 
   pub longer : (k.stream next).taken ≡ (k.stream s).taken + size
   pub limited : (k.stream s).taken + size ≤ stream_limit
 
-pub grown : {S R : Type 0} (k : Way S R) → Lawful k → (t block : List ℕ) (s next : S) (size : ℕ) → Running k t s → size ≤ length block
-    → size ≤ askable (k.stream s).taken (length block) → next ≡ after (k.machine (automaton t)) s (take size block) (length (take size block)) → Grown k t s next size
-grown k law t block s next size h within most e =
-    let fit = asked k law t block s size h within most in
+pub grown : {S R : Type 0} (k : Way S R) → Lawful k → (t block : List ℕ) (s next : S) (size room : ℕ) → Running k t s → size ≤ length block
+    → size ≤ askable (k.stream s).taken room → next ≡ after (k.machine (automaton t)) s (take size block) (length (take size block)) → Grown k t s next size
+grown k law t block s next size room h within most e =
+    let fit = asked k law t block s size room h within most in
     let long = length-take-le size block within in
     record {
       runs = runs_on k law t s next (take size block) e h fit;

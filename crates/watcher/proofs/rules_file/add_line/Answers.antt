@@ -1,5 +1,6 @@
 -- `watcher::rules_file::add_line` meets its contract: a malformed line adds nothing, a rule line's
 -- pattern lies within it.
+use mathlib.Core.List.{[]}
 use borrow.Author.Tests.{not-true, not-false}
 use Rattle.watcher.proofs.Keeping.{rest-is, pattern-inside, malformed-line, rule-line-adds}
 use Rattle.watcher.proofs.rules_file.add_line.Goals as goal

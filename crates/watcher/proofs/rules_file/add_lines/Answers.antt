@@ -1,6 +1,6 @@
 -- `watcher::rules_file::add_lines` meets its contract: a line keeps the table and ends within the
 -- text, and there are no more lines than bytes passed.
-use mathlib.Core.Path.{refl, sym, subst, ◌∙◌}
+use mathlib.Core.Path.{sym, subst}
 use native.Mathlib.Omega.{arith}
 use Rattle.lines.proofs.Laws.{line-within}
 use Rattle.watcher.specs.Invariants.{FromEmpty}
@@ -8,7 +8,7 @@ use Rattle.watcher.proofs.Keeping.{line_kept}
 use Rattle.watcher.proofs.rules_file.add_lines.Goals as goal
 
 pub loop-from-init : goal.loop-from-init
-loop-from-init c = record { table = c.before.before.before.requires; within = omega arith; counted = omega arith; room = omega arith; words_same = refl; out_same = refl }
+loop-from-init c = record { table = c.requires; within = omega arith; counted = omega arith; room = omega arith }
 
 pub slice_bounds-add_line-count : goal.slice_bounds-add_line-count
 slice_bounds-add_line-count c = omega (arith, c.line_end-end.ensures, line-within c.args.text.now c.loop-from.from (omega arith))
@@ -36,8 +36,6 @@ loop-from-preserved c =
       within = omega (arith, c.line_end-end.ensures, l);
       counted = omega (arith, c.line_end-end.ensures, l);
       room = c.say_answer-said.ensures;
-      words_same = c.words-1.given ∙ c.loop-from.invariant.words_same;
-      out_same = c.out-1.given ∙ c.loop-from.invariant.out_same;
     }
 
 pub flush-requires : goal.flush-requires

@@ -6,7 +6,7 @@ use Rattle.watcher.proofs.Keeping.{Passed}
 use Rattle.watcher.proofs.rules_file.add_lines.Given as goal
 
 abbrev pub invariant-loop-from : goal.invariant-loop-from
-invariant-loop-from l = Passed l.initial.words l.text l.initial.out l.words l.out l.from l.line l.at
+invariant-loop-from l = Passed l.text l.words l.out l.from l.line l.at
 
 abbrev pub decreases-loop-from : goal.decreases-loop-from
 decreases-loop-from l = length l.text + 1 - l.from

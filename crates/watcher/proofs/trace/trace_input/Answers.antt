@@ -2,33 +2,34 @@
 -- stream grows towards its limit.
 use mathlib.Core.Path.{sym, ap, subst}
 use native.Mathlib.Omega.{arith}
+use lib.ListN.{length}
 use borrow.Author.Tests.{not-false}
 use Rattle.traced.specs.declared.Opened.{Opened}
 use Rattle.watcher.specs.Invariants.{traces, Running}
 use Rattle.watcher.proofs.Watching.{asked, grown, trace-law, opened-traces}
 use Rattle.watcher.proofs.trace.trace_input.Goals as goal
 
-pub loop-size-init : goal.loop-size-init
-loop-size-init c =
-    let runs = subst (Running traces _) (sym (ap (λ (o : Opened). o.traced) c.«open».ensures)) (opened-traces _ c.requires.0) in
+pub loop-stdin-init : goal.loop-stdin-init
+loop-stdin-init c =
+    let runs = subst (Running traces _) (sym (ap (λ (o : Opened). o.traced) c.open-opened.ensures)) (opened-traces _ c.requires.0) in
     record { runs = runs; room = c.requires.1 }
 
 pub trace_block-watched-requires : goal.trace_block-watched-requires
 trace_block-watched-requires c =
-    let l = c.loop-size in
+    let l = c.loop-stdin in
     let r = c.read_block-size in
-    (l.invariant.runs, asked traces trace-law _ _ _ _ l.invariant.runs r.ensures.within r.ensures.upper_bound, (l.invariant.room, (omega arith, omega arith)))
+    (l.invariant.runs, asked traces trace-law _ r.new.block _ r.result (length l.block) l.invariant.runs r.ensures.within r.ensures.upper_bound, (l.invariant.room, (omega arith, omega arith)))
 
-pub loop-size-smaller : goal.loop-size-smaller
-loop-size-smaller c =
-    let l = c.loop-size in
+pub loop-stdin-smaller : goal.loop-stdin-smaller
+loop-stdin-smaller c =
+    let l = c.loop-stdin in
     let r = c.read_block-size in
     let e = c.trace_block-watched.ensures (not-false _ c.if-not-watched.false) in
-    omega (arith, c.if-size-eq0.false, grown traces trace-law _ _ _ _ _ l.invariant.runs r.ensures.within r.ensures.upper_bound e)
+    omega (arith, c.if-size-eq0.false, grown traces trace-law _ r.new.block _ _ r.result (length l.block) l.invariant.runs r.ensures.within r.ensures.upper_bound e)
 
-pub loop-size-preserved : goal.loop-size-preserved
-loop-size-preserved c =
-    let l = c.loop-size in
+pub loop-stdin-preserved : goal.loop-stdin-preserved
+loop-stdin-preserved c =
+    let l = c.loop-stdin in
     let r = c.read_block-size in
     let e = c.trace_block-watched.ensures (not-false _ c.if-not-watched.false) in
-    record { runs = (grown traces trace-law _ _ _ _ _ l.invariant.runs r.ensures.within r.ensures.upper_bound e).runs; room = (omega arith, omega arith) }
+    record { runs = (grown traces trace-law _ r.new.block _ _ r.result (length l.block) l.invariant.runs r.ensures.within r.ensures.upper_bound e).runs; room = (omega arith, omega arith) }

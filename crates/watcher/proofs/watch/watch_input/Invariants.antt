@@ -6,8 +6,8 @@ use Rattle.watcher.specs.Invariants.{pairs}
 use Rattle.watcher.proofs.Watching.{Input}
 use Rattle.watcher.proofs.watch.watch_input.Given as goal
 
-abbrev pub invariant-loop-size : goal.invariant-loop-size
-invariant-loop-size l = Input pairs l.words l.ids l.offsets l.stream
+abbrev pub invariant-loop-stdin : goal.invariant-loop-stdin
+invariant-loop-stdin l = Input pairs l.words l.ids l.offsets l.stream
 
-abbrev pub decreases-loop-size : goal.decreases-loop-size
-decreases-loop-size l = stream_limit - l.stream.taken
+abbrev pub decreases-loop-stdin : goal.decreases-loop-stdin
+decreases-loop-stdin l = stream_limit - l.stream.taken
