@@ -1,7 +1,7 @@
 -- What a call of the interface leaves in the words of a state is read back as the state that it
 -- handed back, so the next call goes on from there.
 use mathlib.Core.Path.{◌≡◌, refl}
-use mathlib.Core.Bool.{true, false, true≢false}
+use mathlib.Core.Bool.{false, true≢false}
 use mathlib.Core.List.{List}
 use Prim.Native.Nat.{ℕ}
 use lib.Dec.{eqb}

@@ -2,7 +2,7 @@
 -- themselves are those of the crates table, rules and stream; the crate states adds the state as
 -- words, and number 100 for a state of too few words, which changes nothing. Assumes nothing: these
 -- are definitions.
-use Rattle.std.specs.Prelude.{Bool, cond, ◌&&◌, List, ℕ}
+use Rattle.std.specs.Prelude.{cond, ◌&&◌, List, ℕ}
 use Rattle.table.specs.Table.{is_table}
 use Rattle.table.specs.Automaton.{automaton}
 use Rattle.stream.specs.declared.Stream.{Stream}

@@ -19,12 +19,10 @@ returns-then-state-lt-STATE_WORDS c =
 
 pub returns : goal.returns
 returns c =
-    let at_store = c.before.before in
-    let at_open = at_store.before.before.before in
-    let at-if = at_open.before in
-    let a = at-if.args in
+    let a = c.args in
     let o = opened a.table.now in
-    let e = at_open.«open».ensures in record {
-      answer = ap (λ (r : Opened). r.number) e ∙ open-long stream_form a.state.now o.number at-if.if-state-lt-STATE_WORDS.false;
-      state = at_store.store.ensures ∙ ap (λ (r : Opened). stored_in stream_form r.stream a.state.now) e;
+    let e = c.open-r.ensures in
+    record {
+      answer = ap (λ (r : Opened). r.number) e ∙ open-long stream_form a.state.now o.number c.if-state-lt-STATE_WORDS.false;
+      state = c.store.ensures ∙ ap (λ (r : Opened). stored_in stream_form r.stream a.state.now) e;
     }

@@ -19,12 +19,10 @@ returns-then-state-lt-TRACE_WORDS c =
 
 pub returns : goal.returns
 returns c =
-    let at_store = c.before.before in
-    let at_open = at_store.before.before.before in
-    let at-if = at_open.before in
-    let a = at-if.args in
+    let a = c.args in
     let o = opened a.table.now in
-    let e = at_open.«open».ensures in record {
-      answer = ap (λ (r : Opened). r.number) e ∙ open-long traced_form a.state.now o.number at-if.if-state-lt-TRACE_WORDS.false;
-      state = at_store.store_traced.ensures ∙ ap (λ (r : Opened). stored_in traced_form r.traced a.state.now) e;
+    let e = c.open-r.ensures in
+    record {
+      answer = ap (λ (r : Opened). r.number) e ∙ open-long traced_form a.state.now o.number c.if-state-lt-TRACE_WORDS.false;
+      state = c.store_traced.ensures ∙ ap (λ (r : Opened). stored_in traced_form r.traced a.state.now) e;
     }
