@@ -11,7 +11,7 @@ usage: tools/respell.py [FOLDER]      once, right after port.py, at the top of t
 - The crate `regex` is `meaning`, since the library has a crate of that name.
 
 It reads the .rt, .antt and .edit files below crates/, and crates.txt. Functions of src/, exported
-names and strings keep their names. It stops where two names of one file would fall together.
+names and strings keep their names. It says where two words of one file come to the same name.
 """
 import os
 import re
