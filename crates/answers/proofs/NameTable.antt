@@ -20,7 +20,7 @@ use Rattle.atoms.specs.Escape.{good}
 use Rattle.classes.specs.Name.{Name, name, names, bytes, begins, named, name_among, name_of, name_at, class_text, named_byte}
 use Rattle.atoms.specs.Quote.{is_mark, gap_of}
 use Rattle.classes.specs.Class.{bracket_of, member_of, joint_of, member_at, joined, closed_class, settled, members_of, class_of, spelled_at}
-use Rattle.classes.specs.declared.Class.{Class}
+use Rattle.classes.specs.Class.{Class}
 use Rattle.classes.proofs.Spellings.{every, every-row, rows, row-rule, name-letter}
 
 -- ---- each name is read

@@ -1,24 +1,28 @@
 -- Escapes, as the functions read them: each law says a definition of specs/Escape.antt at the bytes
 -- from a place on by what the code has in hand there, so that a return only has to rewrite by its
 -- tests.
-use mathlib.Core.Path.{◌≡◌, refl, ◌∙◌}
-use mathlib.Core.Bool.{Bool, true, false, cond, ◌&&◌}
+use mathlib.Core.Path.{◌≡◌, refl, ap, ◌∙◌}
+use mathlib.Core.Bool.{Bool, true, false, cond, ◌&&◌, and-false}
 use mathlib.Core.List.{List, [], ◌∷◌}
 use Prim.Native.Nat.{ℕ, ◌+◌, ◌*◌, ◌≤◌, ◌<◌}
-use native.Mathlib.Nat.{mul-le-mul}
 use native.Mathlib.Omega.{arith}
-use borrow.Author.Tests.{ne_eqb}
+use borrow.Author.Tests.{eq-eqb, ne_eqb}
+use Rattle.std.specs.Prelude.{Option, Some, None}
+use Rattle.std.specs.Option.{is_some, unwrap_or}
 use lib.Dec.{eqb, leb}
 use lib.ListN.{length, get_or, drop, drop_of_length-le}
 use lib.Seq.{get_or-drop, drop-drop}
 use Rattle.kinds.specs.Kind.{within, is_lower, is_upper, is_digit, is_alpha, is_alnum}
-use Rattle.atoms.specs.Number.{digit_of, digits, value_from, numeral_of}
+use Rattle.atoms.specs.Number.{digits, value_from, numeral_of}
 use Rattle.atoms.specs.Escape.{good, bad, braced_of, short_of, flipped64, raised, control_of, type_of, named_of}
 use Rattle.atoms.specs.Escape.{placed_of, hex_of, octal_of, escape_of}
 use Rattle.atoms.specs.declared.Atom.TheVariants.{Byte}
-use Rattle.atoms.specs.declared.Numeral.{Numeral}
+use Rattle.atoms.specs.declared as declared
+use Rattle.atoms.specs.Answer.{numeral}
+use Rattle.atoms.specs.Invariants.{digit_in}
+use Rattle.atoms.specs.Number.{Numeral}
 use Rattle.atoms.proofs.Suffixes.{front, first}
-use Rattle.atoms.proofs.Digits.{digit, no_digit}
+use Rattle.atoms.proofs.Digits.{in-digit, no-digit-in, digit, no_digit}
 
 -- the number n that stands after an opening brace, and the byte e after its digits
 pub braced-is : (base : ℕ) (s : List ℕ) (at : ℕ) (n : Numeral) (e : ℕ) → n ≡ numeral_of base (drop (at + 1) s) → e ≡ get_or s (at + (1 + n.size)) 0
@@ -27,33 +31,49 @@ pub braced-is : (base : ℕ) (s : List ℕ) (at : ℕ) (n : Numeral) (e : ℕ) �
 unfolding braced_of
 braced-is base s at n e en ee = rw (drop-drop 1 at s, ← en, get_or-drop at s (1 + n.size) 0, ← ee)
 
--- up to two digits, of which the code has the worth of the first two bytes
-module _ (base : ℕ) (small : base ≤ 16) (s : List ℕ) (at high : ℕ) (first_is : high ≡ digit_of (get_or s at 0)) where
-  pub short_none : base ≤ high → short_of base (drop at s) ≡ good 2 (Byte 0)
+module _ (base : ℕ) (s : List ℕ) (at : ℕ) (n : declared.Numeral.Numeral) where
+  -- where it has a digit and its brace, and where it lacks one of them
+  module _ (e : ℕ) (en : numeral n ≡ numeral_of base (drop (at + 1) s)) (ee : e ≡ get_or s (at + (1 + n.size)) 0) where
+    pub braced-some : (v : ℕ) → n.value ≡ Some v → e ≡ 125
+        → braced_of base (drop at s) ≡ cond (leb v 255) (good (4 + n.size) (Byte v)) (bad 7 (4 + n.size))
+    braced-some v ev e125 =
+        braced-is base s at (numeral n) e en ee
+        ∙ ap (λ (o : Option ℕ).
+        cond (is_some o && eqb e 125) (cond (leb (unwrap_or o 0) 255) (good (4 + n.size) (Byte (unwrap_or o 0))) (bad 7 (4 + n.size))) (bad 6 0)) ev
+        ∙ rw (eq-eqb e 125 e125) refl
+
+    pub braced-open : (e ≡ 125 → ⊥) → braced_of base (drop at s) ≡ bad 6 0
+    braced-open h = braced-is base s at (numeral n) e en ee ∙ rw (ne_eqb e 125 h, and-false (is_some n.value)) refl
+
+  pub braced-none : numeral n ≡ numeral_of base (drop (at + 1) s) → n.value ≡ None → braced_of base (drop at s) ≡ bad 6 0
+  braced-none en ev =
+      let e : ℕ = get_or s (at + (1 + n.size)) 0 in
+      braced-is base s at (numeral n) e en refl
+      ∙ ap (λ (o : Option ℕ).
+      cond (is_some o && eqb e 125) (cond (leb (unwrap_or o 0) 255) (good (4 + n.size) (Byte (unwrap_or o 0))) (bad 7 (4 + n.size))) (bad 6 0)) ev
+
+-- up to two digits, of which the code has the first two bytes
+module _ (base : ℕ) (small : base ≤ 16) (s : List ℕ) (at : ℕ) where
+  pub short_none : digit_in base (get_or s at 0) ≡ None → short_of base (drop at s) ≡ good 2 (Byte 0)
   unfolding short_of value_from
-  short_none h = rw (no_digit s at base small (rw first_is at h))
+  short_none h = rw (no_digit s at base small (no-digit-in base (get_or s at 0) h))
 
-  module _ (some : high < base) (low : ℕ) (second_is : low ≡ digit_of (get_or s (at + 1) 0)) where
+  module _ (high : ℕ) (some : digit_in base (get_or s at 0) ≡ Some high) where
     two : digits base (drop at s) ≡ high ∷ digits base (drop (at + 1) s)
-    two = rw first_is (digit s at base small (rw first_is at some))
+    two = let h = in-digit base (get_or s at 0) high some in rw (← h.1) (digit s at base small h.0)
 
-    pub short-one : base ≤ low → short_of base (drop at s) ≡ good 3 (Byte high)
+    pub short-one : digit_in base (get_or s (at + 1) 0) ≡ None → short_of base (drop at s) ≡ good 3 (Byte high)
     unfolding short_of value_from
     short-one h =
         let z : 0 * base + high ≡ high = omega arith in
-        rw (two, no_digit s (at + 1) base small (rw second_is at h), z)
+        rw (two, no_digit s (at + 1) base small (no-digit-in base (get_or s (at + 1) 0) h), z)
 
-    pub short-two : low < base → short_of base (drop at s) ≡ good 4 (Byte (high * base + low))
+    pub short-two : (low : ℕ) → digit_in base (get_or s (at + 1) 0) ≡ Some low → short_of base (drop at s) ≡ good 4 (Byte (high * base + low))
     unfolding short_of value_from
-    short-two h =
+    short-two low h =
         let z : 0 * base + high ≡ high = omega arith in
-        rw (two, digit s (at + 1) base small (rw second_is at h), ← second_is, z)
-
-    pub short-fits : low < base → high * base + low < 256
-    short-fits h =
-        let top : high ≤ 15 = omega arith in
-        let times : high * base ≤ 15 * 16 = mul-le-mul top small in
-        omega arith
+        let l = in-digit base (get_or s (at + 1) 0) low h in
+        rw (two, digit s (at + 1) base small l.0, l.1, z)
 
 -- `\c`: the byte 0, which stands for the pattern's end, is refused too
 control-front : (v : List ℕ) → control_of v ≡ cond (within 32 126 (get_or v 0 0)) (good 3 (Byte (flipped64 (raised (get_or v 0 0))))) (bad 6 0)

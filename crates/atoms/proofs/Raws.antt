@@ -1,17 +1,20 @@
 -- Raw control bytes, as the function finds them: the bytes of a token are looked at one after the
 -- other, and the first raw one settles its fault.
-use mathlib.Core.Path.{◌≡◌, refl, sym}
-use mathlib.Core.Bool.{Bool, true, false, cond}
-use mathlib.Core.List.{List}
-use Prim.Native.Nat.{ℕ, zero, suc, ◌+◌, ◌-◌, ◌≤◌, ◌<◌, min}
+use mathlib.Core.Path.{◌≡◌, refl, sym, ap}
+use mathlib.Core.Bool.{Bool, true, false, cond, ◌||◌}
+use mathlib.Core.List.{List, [], ◌∷◌}
+use Prim.Native.Nat.{ℕ, ◌≤◌, ◌<◌, min}
 use native.Mathlib.Omega.{arith}
-use borrow.Author.Tests.{eqb-true, eqb-false}
+use borrow.Author.Tests.{eqb-true, eqb-false, ne_eqb}
 use lib.Dec.{eqb}
-use lib.ListN.{length, get_or, take, drop, drop_of_length-le}
+use lib.ListN.{take}
+use Rattle.std.specs.List.{list_any}
 use Rattle.kinds.specs.Kind.{is_cntrl}
+use Rattle.refusals.specs.declared.Refusal.{Refusal}
+use Rattle.refusals.specs.Refusal.{number_of}
+use Rattle.refusals.proofs.Laws.{number-above}
 use Rattle.atoms.specs.Fault.{lower}
 use Rattle.atoms.specs.Raw.{any_raw, with_raw}
-use Rattle.atoms.proofs.Suffixes.{front}
 
 -- no second fault
 pub lower-none : (f : ℕ) → lower f 0 ≡ f
@@ -21,6 +24,23 @@ lower-none f = go (eqb f 0) refl
     go : (b : Bool) → eqb f 0 ≡ b → cond b 0 f ≡ f
     go true e = sym (eqb-true f 0 e)
     go false e = refl
+
+-- the lower of two reasons
+pub lower-first : (a b : Refusal) → number_of a ≤ number_of b → lower (number_of a) (number_of b) ≡ number_of a
+unfolding lower
+lower-first a b h =
+    rw (
+      ne_eqb (number_of a) 0 (λ e. omega (arith, number-above a)),
+      ne_eqb (number_of b) 0 (λ e. omega (arith, number-above b)),
+    ) (omega arith)
+
+pub lower-second : (a b : Refusal) → number_of b < number_of a → lower (number_of a) (number_of b) ≡ number_of b
+unfolding lower
+lower-second a b h =
+    rw (
+      ne_eqb (number_of a) 0 (λ e. omega (arith, number-above a)),
+      ne_eqb (number_of b) 0 (λ e. omega (arith, number-above b)),
+    ) (omega arith)
 
 -- where the lower of two faults is none, neither is one
 pub lower-both : (f g : ℕ) → lower f g ≡ 0 → (f ≡ 0) × (g ≡ 0)
@@ -48,26 +68,11 @@ raw-absent fault size v e = go (any_raw (take size v)) (lower-both fault (cond (
     go true e = absurd (omega arith)
     go false e = refl
 
--- ---- the bytes from a place on
-
 pub raw-none : (fault : ℕ) (v : List ℕ) → with_raw fault 0 v ≡ fault
 unfolding with_raw any_raw
 raw-none fault v = lower-none fault
 
-module _ (fault : ℕ) (s : List ℕ) (i : ℕ) where
-  pub raw-end : (size : ℕ) → length s ≤ i → with_raw fault size (drop i s) ≡ fault
-  unfolding with_raw any_raw
-  raw-end zero h = lower-none fault
-  raw-end (suc k) h = rw (drop_of_length-le s h) (lower-none fault)
-
-  -- so many bytes are left of the token
-  module _ (h : i < length s) where
-    pub raw-here : (left : ℕ) → (left ≡ 0 → ⊥) → is_cntrl (get_or s i 0) ≡ true → with_raw fault left (drop i s) ≡ lower fault 23
-    unfolding with_raw any_raw
-    raw-here zero n e = absurd (n refl)
-    raw-here (suc k) n e = rw (front s i h, e)
-
-    pub raw-later : (left : ℕ) → (left ≡ 0 → ⊥) → is_cntrl (get_or s i 0) ≡ false → with_raw fault left (drop i s) ≡ with_raw fault (left - 1) (drop (i + 1) s)
-    unfolding with_raw any_raw
-    raw-later zero n e = absurd (n refl)
-    raw-later (suc k) n e = let same : suc k - 1 ≡ k = omega arith in rw (front s i h, e, same)
+pub any-is : (v : List ℕ) → any_raw v ≡ list_any is_cntrl v
+unfolding any_raw
+any-is [] = refl
+any-is (b ∷ v) = ap (λ (t : Bool). is_cntrl b || t) (any-is v)

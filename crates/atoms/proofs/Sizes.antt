@@ -14,7 +14,7 @@ use Rattle.atoms.specs.Number.{digits, numeral_of}
 use Rattle.atoms.specs.Escape.{good, bad, braced_of, short_of, control_of, type_of, named_of, placed_of, hex_of, octal_of, escape_of}
 use Rattle.atoms.specs.Quote.{is_mark}
 use Rattle.atoms.specs.declared.Atom.{Atom}
-use Rattle.atoms.specs.declared.Part.{Part}
+use Rattle.atoms.specs.Escape.{Part}
 use Rattle.atoms.proofs.Suffixes.{inside}
 use Rattle.atoms.proofs.Digits.{digits-fit}
 

@@ -6,9 +6,14 @@ use Rattle.kinds.specs.Case.{other_case}
 use Rattle.kinds.specs.declared.Kind.TheVariants.{Digit, Word, Space, Horizontal, Vertical}
 use Rattle.atoms.specs.declared.Atom.{Atom}
 use Rattle.atoms.specs.declared.Atom.TheVariants.{Byte, OfKind, NotOfKind, NotNewline, Start, LastLine, End, WordEdge, NoWordEdge}
-use Rattle.atoms.specs.declared.Part.{Part}
-use Rattle.atoms.specs.declared.Numeral.{Numeral}
+use Rattle.atoms.specs.Number.{Numeral}
 use Rattle.atoms.specs.Number.{digits, value_from, numeral_of}
+
+-- an escape or a class member: its lowest fault or 0, the bytes it takes, what it stands for
+pub record Part : Type 0 where
+  pub fault : ℕ
+  pub size : ℕ
+  pub atom : Atom
 
 -- a part of so many bytes that stands for an atom
 abbrev pub good : ℕ → Atom → Part

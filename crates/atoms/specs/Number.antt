@@ -1,7 +1,6 @@
 -- Numbers written in digits. Assumes nothing: these are definitions.
 use Rattle.std.specs.Prelude.{Bool, true, false, cond, List, [], ◌∷◌, ℕ, suc, ◌+◌, ◌-◌, ◌*◌, min, ltb, length, drop}
 use Rattle.kinds.specs.Kind.{within, is_blank}
-use Rattle.atoms.specs.declared.Numeral.{Numeral}
 
 -- what a byte is worth as a digit, in either case; 16 where it is no digit in any base
 unfoldable pub digit_of : ℕ → ℕ
@@ -30,6 +29,12 @@ some (d ∷ ds) = true
 unfoldable pub blanks : List ℕ → ℕ
 blanks [] = 0
 blanks (b ∷ v) = cond (is_blank b) (suc (blanks v)) 0
+
+-- a number: its value, whether it has a digit, its size in bytes
+pub record Numeral : Type 0 where
+  pub value : ℕ
+  pub some : Bool
+  pub size : ℕ
 
 -- The number at the front, as it stands between braces, with the blanks around it: its value,
 -- whether it has a digit, its size in bytes. "Spaces alone make no number".

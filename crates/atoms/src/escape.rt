@@ -1,33 +1,34 @@
 // Escapes, inside and outside a class: the byte or the type that one stands for, its size, its
-// fault 6, 7 or 14. Each function is given the place of the first byte that is left to read.
+// fault. Each function is given the place of the first byte that is left to read.
 ghost use Rattle.std.specs.Prelude.{◌≡◌, ◌≤◌, ◌<◌, length, drop};
 ghost use Rattle.kinds.specs.Kind.{is_alnum};
+ghost use Rattle.refusals.specs.Refusal.{number_of};
+ghost use Rattle.atoms.specs.Answer.{part};
 ghost use Rattle.atoms.specs.Escape.{good, bad, braced_of, short_of, flipped64, raised, control_of};
 ghost use Rattle.atoms.specs.Escape.{type_of, named_of, placed_of, hex_of, octal_of, escape_of};
 
-use crate::number::{digit_at, is_within, numeral_at, peek};
+use crate::number::{digit_at, numeral_at, peek};
 use crate::{Atom, Part};
 use kinds::Kind;
+use refusals::Refusal;
 
 // A part of so many bytes that stands for an atom.
 pub fn sound(size: usize, atom: Atom) -> Part
-    ensures { result ≡ good size atom }
+    ensures { part result ≡ good size atom }
 {
     Part {
-        fault: 0,
         size,
-        atom,
+        atom: Ok(atom),
     }
 }
 
 // A faulty part.
-pub fn faulty(fault: u32, size: usize) -> Part
-    ensures { result ≡ bad fault size }
+pub fn faulty(refusal: Refusal, size: usize) -> Part
+    ensures { part result ≡ bad (number_of refusal) size }
 {
     Part {
-        fault,
         size,
-        atom: Atom::Byte(0),
+        atom: Err(refusal),
     }
 }
 
@@ -35,33 +36,31 @@ pub fn faulty(fault: u32, size: usize) -> Part
 fn braced(s: &[u8], at: usize, base: u32) -> Part
     requires base_nonzero { (0 < base) × (base ≤ 16) }
     requires at_in_bounds { at < length s.now }
-    ensures { result ≡ braced_of base (drop at s.now) }
+    ensures { part result ≡ braced_of base (drop at s.now) }
 {
     let n = numeral_at(s, at + 1, base);
-    let size = n.size;
-    if n.some & (peek(s, at + (1 + size)) == b'}') {
-        let value = n.value;
-        if value <= 255 {
-            return sound(4 + size, Atom::Byte(value as u8));
+    match n.value {
+        Some(value) if peek(s, at + (1 + n.size)) == b'}' => {
+            if value <= 255 {
+                return sound(4 + n.size, Atom::Byte(value as u8));
+            }
+            faulty(Refusal::BigEscape, 4 + n.size)
         }
-        return faulty(7, 4 + size);
+        _ => faulty(Refusal::BadEscape, 0),
     }
-    faulty(6, 0)
 }
 
 // Up to two digits.
 fn short(s: &[u8], at: usize, base: u32) -> Part
     requires { (0 < base) × (base ≤ 16) }
-    ensures { result ≡ short_of base (drop at s.now) }
+    ensures { part result ≡ short_of base (drop at s.now) }
 {
-    let high = digit_at(s, at);
-    if base <= high {
+    let Some(high) = digit_at(s, at, base) else {
         return sound(2, Atom::Byte(0));
-    }
-    let low = digit_at(s, at + 1);
-    if base <= low {
+    };
+    let Some(low) = digit_at(s, at + 1, base) else {
         return sound(3, Atom::Byte(high as u8));
-    }
+    };
     sound(4, Atom::Byte((high * base + low) as u8))
 }
 
@@ -76,7 +75,7 @@ fn flip_64(x: u8) -> u8
 fn raise(x: u8) -> u8
     ensures { result ≡ raised x }
 {
-    if kinds::kinds_of(x) & kinds::LOWER != 0 {
+    if kinds::is(x, Kind::Lower) {
         return kinds::other_case(x);
     }
     x
@@ -84,18 +83,17 @@ fn raise(x: u8) -> u8
 
 // After `\c`.
 fn control(s: &[u8], at: usize) -> Part
-    ensures { result ≡ control_of (drop at s.now) }
+    ensures { part result ≡ control_of (drop at s.now) }
 {
-    let c = peek(s, at);
-    if is_within(32, 126, c) {
-        return sound(3, Atom::Byte(flip_64(raise(c))));
+    match peek(s, at) {
+        c @ 32..=126 => sound(3, Atom::Byte(flip_64(raise(c)))),
+        _ => faulty(Refusal::BadEscape, 0),
     }
-    faulty(6, 0)
 }
 
 // A type or its capital; `rest` where c is none.
 fn type_escape(c: u8, rest: Part) -> Part
-    ensures { result ≡ type_of c rest }
+    ensures { part result ≡ type_of c (part rest) }
 {
     match c {
         b'd' => sound(2, Atom::OfKind(Kind::Digit)),
@@ -114,7 +112,7 @@ fn type_escape(c: u8, rest: Part) -> Part
 
 // A control byte by its letter; `rest` where c is none.
 fn named_escape(c: u8, rest: Part) -> Part
-    ensures { result ≡ named_of c rest }
+    ensures { part result ≡ named_of c (part rest) }
 {
     match c {
         b'a' => sound(2, Atom::Byte(7)),
@@ -129,13 +127,13 @@ fn named_escape(c: u8, rest: Part) -> Part
 
 // What differs inside a class and outside.
 fn placed_escape(inside: bool, c: u8) -> Part
-    ensures { result ≡ placed_of inside c }
+    ensures { part result ≡ placed_of inside c }
 {
     if inside {
         if c == b'b' {
             return sound(2, Atom::Byte(8));
         }
-        return faulty(14, 2);
+        return faulty(Refusal::Unsupported, 2);
     }
     match c {
         b'N' => sound(2, Atom::NotNewline),
@@ -144,13 +142,13 @@ fn placed_escape(inside: bool, c: u8) -> Part
         b'z' => sound(2, Atom::End),
         b'b' => sound(2, Atom::WordEdge),
         b'B' => sound(2, Atom::NoWordEdge),
-        _ => faulty(14, 2),
+        _ => faulty(Refusal::Unsupported, 2),
     }
 }
 
 // After `\x`.
 fn hex(s: &[u8], at: usize) -> Part
-    ensures { result ≡ hex_of (drop at s.now) }
+    ensures { part result ≡ hex_of (drop at s.now) }
 {
     if peek(s, at) == b'{' {
         return braced(s, at, 16);
@@ -160,27 +158,27 @@ fn hex(s: &[u8], at: usize) -> Part
 
 // After `\o`.
 fn octal(s: &[u8], at: usize) -> Part
-    ensures { result ≡ octal_of (drop at s.now) }
+    ensures { part result ≡ octal_of (drop at s.now) }
 {
     if peek(s, at) == b'{' {
         return braced(s, at, 8);
     }
-    faulty(6, 0)
+    faulty(Refusal::BadEscape, 0)
 }
 
 // Whether c is an ASCII letter or digit.
 fn is_alnum(c: u8) -> bool
     ensures { result ≡ is_alnum c }
 {
-    kinds::kinds_of(c) & kinds::ALNUM != 0
+    kinds::is(c, Kind::Alnum)
 }
 
 // After a backslash.
 pub fn escape_at(s: &[u8], at: usize, inside: bool) -> Part
-    ensures { result ≡ escape_of inside (drop at s.now) }
+    ensures { part result ≡ escape_of inside (drop at s.now) }
 {
     if s.len() <= at {
-        return faulty(6, 0);
+        return faulty(Refusal::BadEscape, 0);
     }
     let c = s[at];
     if !is_alnum(c) {

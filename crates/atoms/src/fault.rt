@@ -1,16 +1,17 @@
-// The fault of a token, as a number of the table of refusals; 0 is none.
+// The faults of a token, of which the one with the lowest number counts.
 ghost use Rattle.std.specs.Prelude.{◌≡◌};
 ghost use Rattle.atoms.specs.Fault.{lower};
+ghost use Rattle.atoms.specs.Answer.{fault};
 
-// The lower of two faults, where 0 is none.
-pub fn lower(f: u32, g: u32) -> u32
-    ensures { result ≡ lower f g }
+use refusals::Refusal;
+
+// The lower of two faults, where there are any.
+pub fn lower(f: Option<Refusal>, g: Option<Refusal>) -> Option<Refusal>
+    ensures { fault result ≡ lower (fault f) (fault g) }
 {
-    if f == 0 {
-        return g;
+    match (f, g) {
+        (None, other) => other,
+        (_, None) => f,
+        (Some(a), Some(b)) => if a.number() <= b.number() { f } else { g },
     }
-    if g == 0 {
-        return f;
-    }
-    if f <= g { f } else { g }
 }

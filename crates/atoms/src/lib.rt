@@ -16,15 +16,15 @@ ghost use Rattle.kinds.specs.Case.{case_closed};
 pub use escape::{escape_at, faulty, sound};
 pub use fault::lower;
 use kinds::Kind;
-pub use number::{CAP, decimal_at, peek};
+pub use number::{CAP, decimal_at, peek, rest};
 pub use quote::{gap_at, is_mark};
 pub use raw::with_raw;
+use refusals::Refusal;
 
-// A number: its value, at most 65,536; whether it has a digit at all; how many bytes it takes.
+// A number: its value, at most 65,536, where it has a digit at all; how many bytes it takes.
 #[derive(Clone, Copy)]
 pub struct Numeral {
-    pub value: u32,
-    pub some: bool,
+    pub value: Option<u32>,
     pub size: usize,
 }
 
@@ -56,13 +56,12 @@ pub enum Atom {
     NoWordEdge,
 }
 
-// An escape or a class member: its lowest fault or 0, the bytes it takes, what it stands for. A
-// part with fault 6 has no end, and its size is 0; a faulty part stands for byte 0.
+// An escape or a class member: the bytes it takes, and what it stands for or its lowest fault. A
+// part that is a bad escape has no end, and its size is 0.
 #[derive(Clone, Copy)]
 pub struct Part {
-    pub fault: u32,
     pub size: usize,
-    pub atom: Atom,
+    pub atom: Result<Atom, Refusal>,
 }
 
 // The marks `\Q` and `\E` at a place: the bytes they take, and whether a quote is open after them.

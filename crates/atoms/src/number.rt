@@ -1,11 +1,14 @@
 // Numbers written in digits. One function reads a number between braces, whatever its base: the
 // bounds of a quantifier and the number escapes come here. However many digits there are, the
 // number stops at the cap.
-ghost use Rattle.std.specs.Prelude.{◌≡◌, ◌+◌, ◌≤◌, ◌<◌, min, get_or, drop};
-ghost use Rattle.kinds.specs.Kind.{within};
-ghost use Rattle.atoms.specs.Number.{digit_of, cap, blanks, numeral_of};
+ghost use Rattle.std.specs.Prelude.{◌≡◌, ◌≤◌, ◌<◌, length, get_or, take_while, drop};
+ghost use Rattle.kinds.specs.Kind.{is_blank};
+ghost use Rattle.atoms.specs.Number.{digit_of, numeral_of};
+ghost use Rattle.atoms.specs.Answer.{numeral};
+ghost use Rattle.atoms.specs.Invariants.{digit_in, made_of};
 
 use crate::Numeral;
+use kinds::Kind;
 
 // Numbers are kept exactly below this; every larger one counts as this.
 pub const CAP: u32 = 65536;
@@ -14,79 +17,93 @@ pub const CAP: u32 = 65536;
 pub fn peek(s: &[u8], at: usize) -> u8
     ensures { result ≡ get_or s.now at 0 }
 {
-    if at < s.len() { s[at] } else { 0 }
+    s.get(at).copied().unwrap_or(0)
 }
 
-// Whether b is one of lo up to hi.
-pub(super) fn is_within(lo: u8, hi: u8, b: u8) -> bool
-    ensures { result ≡ within lo hi b }
+// The bytes from a place on; none past the end.
+pub fn rest(s: &[u8], at: usize) -> &[u8]
+    ensures { result.now ≡ drop at s.now }
 {
-    (lo <= b) & (b <= hi)
+    &s[at.min(s.len())..]
 }
 
 // What a byte is worth as a digit, in either case; 16 where it is no digit in any base.
 fn digit_of(b: u8) -> u32
     ensures { result ≡ digit_of b }
 {
-    if is_within(b'0', b'9', b) {
-        return (b - 48) as u32;
+    match b {
+        b'0'..=b'9' => u32::from(b - b'0'),
+        b'A'..=b'F' => u32::from(b - b'A') + 10,
+        b'a'..=b'f' => u32::from(b - b'a') + 10,
+        _ => 16,
     }
-    if is_within(b'A', b'F', b) {
-        return (b - 55) as u32;
-    }
-    if is_within(b'a', b'f', b) {
-        return (b - 87) as u32;
-    }
-    16
+}
+
+// The digit that a byte is in a base.
+fn digit_in(base: u32, b: u8) -> Option<u32>
+    ensures { result ≡ digit_in base b }
+{
+    let digit = digit_of(b);
+    if digit < base { Some(digit) } else { None }
 }
 
 // The digit at a place.
-pub(super) fn digit_at(s: &[u8], at: usize) -> u32
-    ensures { result ≡ digit_of (get_or s.now at 0) }
+pub(super) fn digit_at(s: &[u8], at: usize, base: u32) -> Option<u32>
+    ensures { result ≡ digit_in base (get_or s.now at 0) }
 {
-    digit_of(peek(s, at))
+    digit_in(base, peek(s, at))
 }
 
-// x, or the cap where x is above it.
-fn capped(x: u32) -> u32
-    ensures { result ≡ min cap x }
+// The number that the digits at the front make, and how many they are.
+fn digits(s: &[u8], base: u32) -> Numeral
+    requires { (0 < base) × (base ≤ 16) }
+    ensures { numeral result ≡ made_of base s.now }
 {
-    if x < CAP { x } else { CAP }
-}
-
-// The place after the spaces and tabs at a place.
-fn past_blanks(s: &[u8], at: usize) -> usize
-    ensures { result ≡ at + blanks (drop at s.now) }
-{
-    let mut i = at;
-    while kinds::kinds_of(peek(s, i)) & kinds::BLANK != 0 {
-        i += 1;
+    let mut value = None;
+    for (size, b) in s.iter().enumerate() {
+        let Some(digit) = digit_in(base, *b) else {
+            return Numeral { value, size };
+        };
+        value = Some((value.unwrap_or(0) * base + digit).min(CAP));
     }
-    i
+    Numeral {
+        value,
+        size: s.len(),
+    }
+}
+
+// Whether b is a space or a tab.
+fn is_blank(b: u8) -> bool
+    ensures { result ≡ is_blank b }
+{
+    kinds::is(b, Kind::Blank)
+}
+
+// How many spaces and tabs stand at the front.
+fn blanks(s: &[u8]) -> usize
+    ensures { result ≡ length (take_while is_blank s.now) }
+{
+    s.iter().take_while(|b| is_blank(**b)).count()
 }
 
 // The number at a place, as it stands between braces, with the blanks around it.
 pub(super) fn numeral_at(s: &[u8], at: usize, base: u32) -> Numeral
     requires { (0 < base) × (base ≤ 16) }
-    ensures { result ≡ numeral_of base (drop at s.now) }
+    ensures { numeral result ≡ numeral_of base (drop at s.now) }
 {
-    let from = past_blanks(s, at);
-    let mut i = from;
-    let mut value: u32 = 0;
-    while digit_at(s, i) < base {
-        value = capped(value * base + digit_at(s, i));
-        i += 1;
-    }
+    let before = blanks(rest(s, at));
+    let number = digits(rest(s, at + before), base);
+    let size = before + number.size;
+    let after = blanks(rest(s, at + size));
     Numeral {
-        value,
-        some: from < i,
-        size: past_blanks(s, i) - at,
+        value: number.value,
+        size: size + after,
     }
 }
 
 // The number in decimal digits at a place.
 pub fn decimal_at(s: &[u8], at: usize) -> Numeral
-    ensures { result ≡ numeral_of 10 (drop at s.now) }
+    ensures { numeral result ≡ numeral_of 10 (drop at s.now) }
 {
     numeral_at(s, at, 10)
 }

@@ -16,10 +16,7 @@ pub fn is_mark(quoted: bool, c: u8, d: u8) -> bool
 fn mark_at(s: &[u8], at: usize, quoted: bool) -> bool
     ensures { result ≡ is_mark quoted (get_or s.now at 0) (get_or s.now (at + 1) 0) }
 {
-    if s.len() <= at {
-        return false;
-    }
-    is_mark(quoted, s[at], peek(s, at + 1))
+    at < s.len() && is_mark(quoted, s[at], peek(s, at + 1))
 }
 
 // The marks at a place.
@@ -28,6 +25,7 @@ pub fn gap_at(s: &[u8], at: usize, quoted: bool) -> Gap
 {
     let mut after = quoted;
     let mut i = at;
+    // Two bytes a turn, and what is a mark depends on the marks before: a `for` is no plainer.
     while mark_at(s, i, after) {
         after = peek(s, i + 1) == b'Q';
         i += 2;

@@ -1,36 +1,36 @@
 // Raw control bytes, which no token may have.
-ghost use Rattle.std.specs.Prelude.{◌≡◌, drop};
+ghost use Rattle.std.specs.Prelude.{◌≡◌, take, drop};
+ghost use Rattle.std.specs.List.{list_any};
 ghost use Rattle.kinds.specs.Kind.{is_cntrl};
 ghost use Rattle.atoms.specs.Raw.{with_raw};
+ghost use Rattle.atoms.specs.Answer.{fault};
 
 use crate::fault::lower;
-
-// The number of the refusal.
-const RAW_BYTE: u32 = 23;
+use crate::number::rest;
+use kinds::Kind;
+use refusals::Refusal;
 
 // Whether b is below 32, or 127.
 fn is_raw(b: u8) -> bool
     ensures { result ≡ is_cntrl b }
 {
-    kinds::kinds_of(b) & kinds::CNTRL != 0
+    kinds::is(b, Kind::Cntrl)
 }
 
-// The fault of a token that takes so many bytes from a place on, where `fault` is its fault
-// besides.
-pub fn with_raw(s: &[u8], at: usize, size: usize, fault: u32) -> u32
-    ensures { result ≡ with_raw fault size (drop at s.now) }
+// Whether one of so many bytes at the front is raw.
+fn any_raw(s: &[u8], size: usize) -> bool
+    ensures { result ≡ list_any is_cntrl (take size s.now) }
 {
-    let mut i = at;
-    let mut left = size;
-    while i < s.len() {
-        if left == 0 {
-            return fault;
-        }
-        if is_raw(s[i]) {
-            return lower(fault, RAW_BYTE);
-        }
-        i += 1;
-        left -= 1;
+    s.iter().take(size).any(|b| is_raw(*b))
+}
+
+// The fault of a token that takes so many bytes from a place on, where `besides` is its
+// fault but for that.
+pub fn with_raw(s: &[u8], at: usize, size: usize, besides: Option<Refusal>) -> Option<Refusal>
+    ensures { fault result ≡ with_raw (fault besides) size (drop at s.now) }
+{
+    if any_raw(rest(s, at), size) {
+        return lower(besides, Some(Refusal::RawByte));
     }
-    fault
+    besides
 }

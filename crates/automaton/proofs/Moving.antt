@@ -2,20 +2,19 @@
 use mathlib.Core.Path.{◌≡◌, refl, sym, ap, ap₂, ◌∙◌}
 use mathlib.Core.Bool.{Bool, true, false, ◌&&◌, ◌||◌, and-false, or-false}
 use mathlib.Core.Logic.{◌⊎◌, inl, inr}
-use mathlib.Core.List.{List, [], ◌∷◌}
+use mathlib.Core.List.{List, ◌++◌}
 use Prim.Native.Nat.{ℕ, ◌+◌, ◌-◌, ◌*◌, ◌≤◌, ◌<◌}
-use native.Mathlib.Numerals.{add-one}
 use native.Mathlib.Decide.{ℕ_discrete, dec_lt}
 use native.Mathlib.Omega.{arith}
 use borrow.Author.Tests.{eqb-true, eq-eqb, ne_eqb, le-leb, lt-leb, lt-ltb, le-ltb}
 use lib.Dec.{eqb, leb}
-use lib.ListN.{length, get_or, take, drop, set, length-drop}
-use lib.Seq.{sets, length-sets, take-suc, get_or-drop, length-take-le}
+use lib.ListN.{length, take, drop}
+use lib.Seq.{paste, sets, sets-eq, length-sets, length-take-le}
 use Rattle.sets.specs.Set.{has, set_of, empty_set, inserted, union_of}
 use Rattle.sets.proofs.Laws.{has-set_of, set_of-ext, inserted-set_of}
 use Rattle.automaton.specs.Parts.{four_words}
 use Rattle.automaton.specs.Invariants.{has_at, added_to, among, moved_on, Copied}
-use Rattle.automaton.proofs.Words.{has-added, get_d-sets-out, sets-append}
+use Rattle.automaton.proofs.Words.{has-added}
 
 -- ---- numbers in a row
 
@@ -177,21 +176,8 @@ copied-turn {c} {n} {i} {r} {r'} {old} {new} j room low eo en = record {
 
 -- ---- the byte sets
 
-pub taken-turn : (t s : List ℕ) (c n i : ℕ) → length t ≡ 1024 → c + n + n ≤ 256 → i < n * 4
-    → s ≡ sets t ((c + n) * 4) (take i (drop (c * 4) t))
-    → set s ((c + n) * 4 + i) (get_or s (c * 4 + i) 0) ≡ sets t ((c + n) * 4)
-    (take (i + 1) (drop (c * 4) t))
-taken-turn t s c n i full room low e =
-    let x : List ℕ = drop (c * 4) t in
-    let long : length x ≡ 1024 - c * 4 = length-drop (c * 4) t ∙ ap (λ (k : ℕ). k - c * 4) full in
-    let word : get_or s (c * 4 + i) 0 ≡ get_or x i 0 =
-    ap (λ (l : List ℕ). get_or l (c * 4 + i) 0) e
-    ∙ get_d-sets-out (take i x) t ((c + n) * 4) (c * 4 + i) (inl (omega arith))
-    ∙ sym (get_or-drop (c * 4) t i 0) in
-    let size : length (take i x) ≡ i = length-take-le i x (omega arith) in
-    ap₂ (λ (l : List ℕ) (v : ℕ). set l ((c + n) * 4 + i) v) e word
-    ∙ ap (λ (k : ℕ). set (sets t ((c + n) * 4) (take i x)) ((c + n) * 4 + k) (get_or x i 0))
-    (sym size)
-    ∙ sets-append (take i x) (get_or x i 0 ∷ []) t ((c + n) * 4)
-    ∙ ap (sets t ((c + n) * 4))
-    (sym (take-suc x i 0 (omega arith)) ∙ ap (λ (k : ℕ). take k x) (sym (add-one i)))
+-- a part of a list that is copied, store by store
+pub pasted : (d s : List ℕ) (at n : ℕ) → n ≤ length s → at + n ≤ length d → paste d at s n ≡ sets d at (take n s)
+pasted d s at n few fits =
+    let size : length (take n s) ≡ n = length-take-le n s few in
+    sym (sets-eq (take n s) d at (omega (arith, size)) ∙ ap (λ (k : ℕ). take at d ++ take n s ++ drop (at + k) d) size)

@@ -1,13 +1,13 @@
 -- What is built, part by part: the promises of the functions that walk the nodes, put together. A
 -- repeat is taken apart by its first copy.
 use mathlib.Core.Path.{◌≡◌, refl, sym, ap, ap₂, ◌∙◌}
-use mathlib.Core.Bool.{Bool, true, false, true≢false, ◌&&◌, ◌||◌, and-true, and-false, or-false, or_assoc}
+use mathlib.Core.Bool.{Bool, true, false, true≢false, ◌&&◌, ◌||◌, or-false, or_assoc}
 use mathlib.Core.List.{List, [], ◌∷◌, ◌++◌, append_assoc}
 use Prim.Native.Nat.{ℕ, suc, ◌+◌, ◌*◌, ◌-◌, ◌≤◌, ◌<◌}
 use native.Mathlib.Omega.{arith}
 use native.Mathlib.Decide.{ℕ_discrete}
-use borrow.Author.Tests.{lt-ltb, le-leb, leb-true, eq-eqb, ne_eqb, eqb-true}
-use lib.Dec.{eqb, leb}
+use borrow.Author.Tests.{lt-ltb, eq-eqb}
+use lib.Dec.{eqb}
 use lib.ListN.{length, length-append}
 use lib.Seq.{sets}
 use Rattle.sets.specs.Set.{has}
@@ -17,7 +17,7 @@ use Rattle.meaning.specs.Form.{eps, take, check, seq, alt, plus, opt, write, pos
 use Rattle.meaning.specs.Rule.{Assertion, ByteSet}
 use Rattle.meaning.specs.Automaton.{first, last, follow, items}
 use Rattle.meaning.proofs.Computed.{items-length}
-use Rattle.nodes.specs.Nodes.{Syntax, extra_of}
+use Rattle.nodes.specs.Nodes.{Syntax}
 use Rattle.automaton.specs.Parts.{four_words, flat, world_of}
 use Rattle.automaton.specs.declared.fragments.Fragment.{Fragment}
 use Rattle.nodes.specs.Invariants.{Written, extra}
@@ -169,56 +169,11 @@ module _ {world : ℕ} {f g : Written} {b : ℕ} {r r1 r2 t t1 t2 : List ℕ} {x
 
 -- ---- repeats
 
--- the tests of a repeat's two numbers: whether any number more comes behind n copies
-module _ (endless : Bool) (n : ℕ) where
-  pub no_more : (endless && eqb n 0) ≡ false → n ≡ 0 → endless ≡ false
-  no_more h z = sym (and-true endless) ∙ ap (λ (v : Bool). endless && v) (sym (eq-eqb n 0 z)) ∙ h
-
-  pub more-behind : (endless && eqb n 1) ≡ false → (n ≡ 0 → ⊥) → (endless && eqb (n - 1) 0) ≡ false
-  more-behind h z = ap (λ (v : Bool). endless && v) (go (ℕ_discrete n 1)) ∙ h
-    where
-      go : Dec (n ≡ 1) → eqb (n - 1) 0 ≡ eqb n 1
-      go (yes e) = eq-eqb (n - 1) 0 (omega arith) ∙ sym (eq-eqb n 1 e)
-      go (no e) = ne_eqb (n - 1) 0 (λ i. omega arith) ∙ sym (ne_eqb n 1 e)
-
-  -- and those of its first turn
-  pub looped : (endless && leb n 1) ≡ true → (endless ≡ true) × (n ≤ 1)
-  looped h = go endless h
-    where
-      go : (v : Bool) → (v && leb n 1) ≡ true → (v ≡ true) × (n ≤ 1)
-      go true e = (refl, leb-true n 1 e)
-      go false e = absurd (true≢false (sym e))
-
-  pub looped-once : (endless && leb n 1) ≡ true → (n ≡ 0 → ⊥) → (endless && eqb n 1) ≡ true
-  looped-once h z =
-      let l = looped h in
-      let e : n ≡ 1 = omega (arith, l.1) in
-      ap₂ (λ (u v : Bool). u && v) l.0 (eq-eqb n 1 e)
-
-  pub unlooped-none : (endless && leb n 1) ≡ false → n ≡ 0 → endless ≡ false
-  unlooped-none h z = sym (and-true endless) ∙ ap (λ (v : Bool). endless && v) (sym (le-leb n 1 (omega arith))) ∙ h
-
-  pub unlooped : (endless && leb n 1) ≡ false → (endless && eqb n 1) ≡ false
-  unlooped h = go (ℕ_discrete n 1)
-    where
-      go : Dec (n ≡ 1) → (endless && eqb n 1) ≡ false
-      go (yes e) = ap (λ (v : Bool). endless && v) (eq-eqb n 1 e ∙ sym (le-leb n 1 (omega arith))) ∙ h
-      go (no e) = ap (λ (v : Bool). endless && v) (ne_eqb n 1 e) ∙ and-false endless
-
 -- a repeat that is not `{0}` has a first copy
 pub some-copy : (n j : ℕ) → (eqb n 0 && eqb j 0) ≡ false → n ≡ 0 → j ≡ 0 → ⊥
 some-copy n j h z e = true≢false (sym (ap₂ (λ (u v : Bool). u && v) (eq-eqb n 0 z) (eq-eqb j 0 e)) ∙ h)
 
 module _ (f : Written) (n : ℕ) (endless : Bool) (j : ℕ) where
-  pub repeat-zero : (eqb n 0 && eqb j 0) ≡ true → repeated f n (extra_of j) ≡ eps
-  unfolding repeated copies optionals
-  repeat-zero h = go (eqb n 0) (eqb j 0) refl refl h
-    where
-      go : (u v : Bool) → eqb n 0 ≡ u → eqb j 0 ≡ v → (u && v) ≡ true → repeated f n (extra_of j) ≡ eps
-      go true true e i k = rw (eqb-true n 0 e, eqb-true j 0 i)
-      go true false e i k = absurd (true≢false (sym k))
-      go false v e i k = absurd (true≢false (sym k))
-
   -- there is room for one copy where there is any
   pub one-fits : (n ≡ 0 → ⊥) → positions f ≤ positions (repeated f n (extra endless j))
   unfolding positions

@@ -14,13 +14,12 @@ fn moved(s: [u64; 4], c: usize, n: usize) -> [u64; 4]
     ensures { result ≡ moved_on c n n s }
 {
     let mut out = sets::empty();
-    let mut i: usize = 0;
-    while i < n {
+    for i in 0..n {
         if sets::contains(s, (c + i) as u8) {
+            // By way of a name: the check covers no call whose array goes into a variable at once.
             let t = sets::insert(out, (c + n + i) as u8);
             out = t;
         }
-        i += 1;
     }
     out
 }
@@ -30,12 +29,9 @@ fn copy_follow(rows: &mut [u64; 1024], c: usize, n: usize)
     requires { c + n + n ≤ 256 }
     ensures { Copied c n n rows.old rows.new }
 {
-    let mut i: usize = 0;
-    while i < n {
-        let old = rows::row(rows, c + i);
-        let new = moved(old, c, n);
+    for i in 0..n {
+        let new = moved(rows::row(rows, c + i), c, n);
         rows::add(rows, c + n + i, new);
-        i += 1;
     }
 }
 
@@ -44,11 +40,7 @@ fn copy_takes(rows: &mut [u64; 1024], c: usize, n: usize)
     requires { (c + n + n ≤ 256) × (length rows.old ≡ 1024) }
     ensures { rows.new ≡ sets rows.old ((c + n) * 4) (take (n * 4) (drop (c * 4) rows.old)) }
 {
-    let mut i: usize = 0;
-    while i < n * 4 {
-        rows[(c + n) * 4 + i] = rows[c * 4 + i];
-        i += 1;
-    }
+    rows.copy_within(c * 4..(c + n) * 4, (c + n) * 4);
 }
 
 // The part f that stands from c on, once more right behind itself.
@@ -64,12 +56,10 @@ pub(super) fn again(
     let size = f.size;
     copy_follow(follow, c, size);
     copy_takes(takes, c, size);
-    let first = f.first;
-    let last = f.last;
     Fragment {
         size,
         null: f.null,
-        first: moved(first, c, size),
-        last: moved(last, c, size),
+        first: moved(f.first, c, size),
+        last: moved(f.last, c, size),
     }
 }

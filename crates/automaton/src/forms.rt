@@ -3,7 +3,7 @@
 // `takes`. A digit of `world` says whether the assertion of that number holds at the gaps. The node
 // number falls.
 ghost use Rattle.std.specs.Prelude.{◌≡◌};
-ghost use Rattle.nodes.specs.Nodes.{assertion_of};
+ghost use Rattle.nodes.specs.Node.{meant};
 ghost use Rattle.automaton.specs.Parts.{world_of};
 ghost use Rattle.nodes.specs.Invariants.{form_at, child_form};
 ghost use Rattle.automaton.specs.Invariants.{Room, Fresh, Built};
@@ -12,19 +12,13 @@ use crate::fragments::Fragment;
 use crate::joins::then;
 use crate::repeats::repeat;
 use crate::{fragments, items, rows};
-use nodes::layout;
-use nodes::layout::LAST_ASSERTION;
+use nodes::layout::{Assertion, Node, node_at};
 
-// Whether the assertion of this number holds in a world. Every number above the last stands for the
-// last.
-fn holds(world: u64, x: u64) -> bool
-    ensures { result ≡ world_of world (assertion_of x) }
+// Whether an assertion holds in a world.
+fn holds(world: u64, assertion: Assertion) -> bool
+    ensures { result ≡ world_of world (meant assertion) }
 {
-    let digit = if x < LAST_ASSERTION {
-        x
-    } else {
-        LAST_ASSERTION
-    };
+    let digit = assertion as u64;
     world >> digit & 1 == 1
 }
 
@@ -33,7 +27,7 @@ fn holds(world: u64, x: u64) -> bool
 fn child(
     a: &[u64],
     k: usize,
-    x: u64,
+    x: usize,
     b: usize,
     follow: &mut [u64; 1024],
     takes: &mut [u64; 1024],
@@ -42,8 +36,8 @@ fn child(
     requires { Room (child_form a.now k x) b × Fresh follow.old takes.old b }
     ensures { Built world (child_form a.now k x) b follow.old follow.new takes.old takes.new result }
 {
-    if x < k as u64 {
-        return node(a, x as usize, b, follow, takes, world);
+    if x < k {
+        return node(a, x, b, follow, takes, world);
     }
     fragments::bare(true)
 }
@@ -61,44 +55,33 @@ pub(super) fn node(
     requires { Room (form_at a.now k) b × Fresh follow.old takes.old b }
     ensures { Built world (form_at a.now k) b follow.old follow.new takes.old takes.new result }
 {
-    let w = layout::word(a, k);
-    let op = w % 8;
-    let x = w / 8 % 8192;
-    let y = w / 65536 % 131072;
-    let z = w / 8589934592;
-    if op == layout::ITEM {
-        rows::put(takes, b, items::set_of(a, k));
-        return fragments::one(b);
-    }
-    if op == layout::ASSERTION {
-        return fragments::bare(holds(world, x));
-    }
-    if (op == layout::THEN) | (op == layout::OR) {
-        let f = child(a, k, x, b, follow, takes, world);
-        let g = child(a, k, y, b + f.size, follow, takes, world);
-        if op == layout::THEN {
-            return then(f, g, follow);
+    match node_at(a, k) {
+        Node::Empty => fragments::bare(true),
+        Node::Item => {
+            rows::put(takes, b, items::set_of(a, k));
+            fragments::one(b)
         }
-        return fragments::choice(f, g);
-    }
-    if op == layout::REPEAT {
-        if (y == 0) & (z == 0) {
-            return fragments::bare(true);
+        Node::Assertion(assertion) => fragments::bare(holds(world, assertion)),
+        Node::Then(x, y) => {
+            let f = child(a, k, x, b, follow, takes, world);
+            let g = child(a, k, y, b + f.size, follow, takes, world);
+            then(f, g, follow)
         }
-        let f = child(a, k, x, b, follow, takes, world);
-        return repeat(
-            a,
-            k,
-            x,
-            y,
-            z == layout::ENDLESS,
-            z,
-            f,
-            b,
-            follow,
-            takes,
-            world,
-        );
+        Node::Or(x, y) => {
+            let f = child(a, k, x, b, follow, takes, world);
+            let g = child(a, k, y, b + f.size, follow, takes, world);
+            fragments::choice(f, g)
+        }
+        Node::Repeat {
+            child: x,
+            least,
+            more,
+        } => {
+            if least == 0 && more == Some(0) {
+                return fragments::bare(true);
+            }
+            let f = child(a, k, x, b, follow, takes, world);
+            repeat(a, k, x, least, more, f, b, follow, takes, world)
+        }
     }
-    fragments::bare(true)
 }

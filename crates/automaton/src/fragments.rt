@@ -52,17 +52,11 @@ pub(super) fn in_turn(f: Fragment, g: Fragment) -> Fragment
     requires { f.size + g.size ≤ 256 }
     ensures { result ≡ in_turn f g }
 {
-    let ff = f.first;
-    let gf = g.first;
-    let first = with_if(f.null, ff, gf);
-    let fl = f.last;
-    let gl = g.last;
-    let last = with_if(g.null, gl, fl);
     Fragment {
         size: f.size + g.size,
         null: f.null & g.null,
-        first,
-        last,
+        first: with_if(f.null, f.first, g.first),
+        last: with_if(g.null, g.last, f.last),
     }
 }
 
@@ -71,17 +65,11 @@ pub(super) fn choice(f: Fragment, g: Fragment) -> Fragment
     requires { f.size + g.size ≤ 256 }
     ensures { result ≡ choice_of f g }
 {
-    let ff = f.first;
-    let gf = g.first;
-    let first = sets::union(ff, gf);
-    let fl = f.last;
-    let gl = g.last;
-    let last = sets::union(fl, gl);
     Fragment {
         size: f.size + g.size,
         null: f.null | g.null,
-        first,
-        last,
+        first: sets::union(f.first, g.first),
+        last: sets::union(f.last, g.last),
     }
 }
 
@@ -89,12 +77,5 @@ pub(super) fn choice(f: Fragment, g: Fragment) -> Fragment
 pub(super) fn optional(f: Fragment) -> Fragment
     ensures { result ≡ optional_of f }
 {
-    let first = f.first;
-    let last = f.last;
-    Fragment {
-        size: f.size,
-        null: true,
-        first,
-        last,
-    }
+    Fragment { null: true, ..f }
 }

@@ -11,9 +11,7 @@ pub(super) fn then(f: Fragment, g: Fragment, follow: &mut [u64; 1024]) -> Fragme
     requires { f.size + g.size ≤ 256 }
     ensures { (result ≡ in_turn f g) × Joined f.last g.first 256 follow.old follow.new }
 {
-    let last = f.last;
-    let first = g.first;
-    rows::join(follow, last, first);
+    rows::join(follow, f.last, g.first);
     fragments::in_turn(f, g)
 }
 
@@ -21,7 +19,5 @@ pub(super) fn then(f: Fragment, g: Fragment, follow: &mut [u64; 1024]) -> Fragme
 pub(super) fn many(f: Fragment, follow: &mut [u64; 1024])
     ensures { Joined f.last f.first 256 follow.old follow.new }
 {
-    let last = f.last;
-    let first = f.first;
-    rows::join(follow, last, first);
+    rows::join(follow, f.last, f.first);
 }

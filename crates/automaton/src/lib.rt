@@ -60,8 +60,8 @@ fn whole(nodes: &[u64], root: usize, base: usize, world: u64) -> Parts
         positions: f.size,
         first,
         last,
-        follow: rows::front(follow, base * 4),
-        takes: rows::front(takes, base * 4),
+        follow: rows::front(&follow, base * 4),
+        takes: rows::front(&takes, base * 4),
     }
 }
 
@@ -71,10 +71,7 @@ pub fn build(nodes: &[u64], root: usize, base: usize, world: u64) -> Parts
     ensures { result ≡ parts_of (tree_at nodes.now root) base world }
 {
     let n = nodes::count(nodes, root) as usize;
-    if n > 256 {
-        return none();
-    }
-    if base > 256 - n {
+    if n > 256 || base > 256 - n {
         return none();
     }
     whole(nodes, root, base, world)

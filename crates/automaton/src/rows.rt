@@ -38,28 +38,24 @@ pub(super) fn add(rows: &mut [u64; 1024], p: usize, s: [u64; 4])
 pub(super) fn join(rows: &mut [u64; 1024], last: [u64; 4], first: [u64; 4])
     ensures { Joined last first 256 rows.old rows.new }
 {
-    if sets::is_empty(last) | sets::is_empty(first) {
+    if sets::is_empty(last) || sets::is_empty(first) {
         return;
     }
-    let mut p: usize = 0;
-    while p < 256 {
+    for p in 0..256 {
         if sets::contains(last, p as u8) {
             add(rows, p, first);
         }
-        p += 1;
     }
 }
 
 // The words from `at` on, moved to the front, and zeros.
-pub(super) fn front(rows: [u64; 1024], at: usize) -> [u64; 1024]
+pub(super) fn front(rows: &[u64; 1024], at: usize) -> [u64; 1024]
     requires { at ≤ 1024 }
-    ensures { result ≡ padded (drop at rows) }
+    ensures { result ≡ padded (drop at rows.now) }
 {
     let mut out = [0u64; 1024];
-    let mut i: usize = 0;
-    while i < 1024 - at {
+    for i in 0..1024 - at {
         out[i] = rows[at + i];
-        i += 1;
     }
     out
 }

@@ -1,16 +1,26 @@
 -- The two calls: the answer of each, and every lent byte or word afterwards. Assumes nothing: these
 -- are definitions.
-use Rattle.std.specs.Prelude.{Bool, cond, ◌&&◌, List, ◌++◌, ℕ, ◌+◌, ◌-◌, ◌*◌, eqb, ltb, length, get_or, take, drop}
+use Rattle.std.specs.Prelude.{Bool, Result, Ok, Err, cond, ◌&&◌, List, ◌++◌, ℕ, ◌+◌, ◌-◌, ◌*◌, eqb, ltb, length, get_or, take, drop}
 use Rattle.table.specs.Layout.{table_words}
 use Rattle.table.specs.Table.{all, is_table}
 use Rattle.card.specs.Bytes.{list_of, number_at}
 use Rattle.card.specs.Crc.{crc32}
 use Rattle.card.specs.Block.{block_bytes, payload_at, payload_bytes, crc_at, blocks, first_word, words_in, used_in, image_of}
-use Rattle.card.specs.declared.Stored.{Stored}
+use Rattle.refusals.specs.Refusal.{number_of}
+use Rattle.card.specs.declared.Misplaced.{Misplaced}
 
 -- an answer: 0 at 0, or the refusal's number and place
+pub record Stored : Type 0 where
+  pub number : ℕ
+  pub place : ℕ
+
 abbrev pub answer : (number place : ℕ) → Stored
 answer number place = record { number = number; place = place }
+
+-- what the call gives, as such an answer
+abbrev pub stored_of : {T : Type 0} → Result T Misplaced → Stored
+stored_of (Ok x) = answer 0 0
+stored_of (Err m) = answer (number_of m.refusal) m.place
 
 -- "a lent block not of 512 bytes, or a block number past the last, is 27"
 unfoldable pub fits : ℕ → List ℕ → Bool

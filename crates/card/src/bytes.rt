@@ -16,9 +16,7 @@ pub(crate) fn number_at(bytes: &[u8], at: usize, n: usize) -> u64
     ensures { result ≡ number_at bytes.now at n }
 {
     let mut x: u64 = 0;
-    let mut j = n;
-    while 0 < j {
-        j -= 1;
+    for j in (0..n).rev() {
         let b = bytes[at + j] as u64;
         x = x * 256 + b;
     }

@@ -19,11 +19,9 @@ pub(crate) fn crc_of(bytes: &[u8], n: usize) -> u32
 {
     let table = entries();
     let mut state: u32 = 0xffff_ffff;
-    let mut i = 0;
-    while i < n {
+    for i in 0..n {
         let at = (state ^ (bytes[i] as u32)) % 256;
         state = (state >> 8) ^ table[at as usize];
-        i += 1;
     }
     state ^ 0xffff_ffff
 }

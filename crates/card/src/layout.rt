@@ -27,18 +27,11 @@ pub const NUMBER_BYTES: usize = 2;
 
 pub const CRC_BYTES: usize = 4;
 
-// The number for a block that is not the one asked for.
-pub const NO_BLOCK: u32 = 27;
-
 // How many words block i has: in the last block what is left.
+#[tactic(auto, unfolding(crate::specs::Block::words_in))]
 pub(crate) fn words_in(i: usize) -> usize
     requires { i < blocks }
     ensures { result ≡ words_in i }
 {
-    let left = TABLE_WORDS - i * PAYLOAD_WORDS;
-    if left < PAYLOAD_WORDS {
-        left
-    } else {
-        PAYLOAD_WORDS
-    }
+    PAYLOAD_WORDS.min(TABLE_WORDS - i * PAYLOAD_WORDS)
 }

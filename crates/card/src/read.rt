@@ -19,12 +19,10 @@ fn zeros_at(bytes: &[u8], at: usize, n: usize) -> bool
     requires { at + n ≤ length bytes.now }
     ensures { result ≡ all n (λ k. eqb (get_or bytes.now (at + k) 0) 0) }
 {
-    let mut k: usize = 0;
-    while k < n {
+    for k in 0..n {
         if bytes[at + k] != 0 {
             return false;
         }
-        k += 1;
     }
     true
 }
@@ -60,9 +58,7 @@ pub(crate) fn put_payload(words: &mut [u64], i: usize, block: &[u8])
 {
     let first = i * PAYLOAD_WORDS;
     let n = words_in(i);
-    let mut j: usize = 0;
-    while j < n {
+    for j in 0..n {
         words[first + j] = number_at(block, PAYLOAD_AT + j * WORD_BYTES, WORD_BYTES);
-        j += 1;
     }
 }

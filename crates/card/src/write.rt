@@ -34,10 +34,8 @@ pub(crate) fn put_front(words: &[u64], i: usize, block: &mut [u8])
     requires { (table_words ≤ length words.now) × (i < blocks) × (length block.old ≡ block_bytes) }
     ensures { block.new ≡ front_put words.now i block.old }
 {
-    let mut k: usize = 0;
-    while k < CRC_AT {
+    for k in 0..CRC_AT {
         block[k] = front_byte(words, i, k);
-        k += 1;
     }
 }
 
@@ -47,9 +45,7 @@ pub(crate) fn put_crc(block: &mut [u8])
     ensures { block.new ≡ crc_put block.old }
 {
     let crc = crc_of(block, CRC_AT) as u64;
-    let mut k = CRC_AT;
-    while k < BLOCK_BYTES {
+    for k in CRC_AT..BLOCK_BYTES {
         block[k] = byte_of(crc, k - CRC_AT);
-        k += 1;
     }
 }

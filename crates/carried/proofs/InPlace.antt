@@ -12,14 +12,16 @@ use lib.Count.{count_trailing_zeros}
 use lib.ListN.{length, get_or, set, length-set}
 use lib.Seq.{ext_get_or, get_or-set_same, get_or-set_other}
 use Rattle.kinds.specs.declared.Side.{Side}
+use Rattle.std.proofs.Common.{Some}
 use Rattle.sets.specs.Set.{has}
+use Rattle.sets.specs.Walk.{GivesLowest}
 use Rattle.table.specs.Layout.{table_words, max_positions}
 use Rattle.table.specs.Gaps.{gap_of}
 use Rattle.table.specs.Automaton.{automaton}
 use Rattle.steps.specs.Step.{list_from, start_after, stepped_starts, OnlyIn, StartsInPlace}
 use Rattle.steps.specs.Invariants.{chosen_of, in_word, Put, Followed, Copied}
 use Rattle.steps.proofs.Bounds.{follow_rows}
-use Rattle.steps.proofs.Carrying.{digit, fits-still, asked_in, others-left, none_left, four-words, list_length, list_at, list-is, list_on_lem, list-off, stepped-at, carried}
+use Rattle.steps.proofs.Carrying.{some_left, taken, digit, fits-still, asked_in, others-left, none_left, in_words, words-none, words-more, words-all, changed-ext, changed-none, list_length, list_at, list-is, list_on_lem, list-off, stepped-at, carried}
 
 -- ---- copying starts
 
@@ -34,9 +36,9 @@ pub record CopyLeft (word₀ i : ℕ) (from old : List ℕ) (word : ℕ) (new : 
 pub copy-none : (word i : ℕ) (from old : List ℕ) → word < 2 ^ 64 → CopyLeft word i from old word old
 copy-none word i from old fits = record { small = fits; as_long = refl; same = λ full q lt. refl }
 
-pub copy-turn : (word₀ i : ℕ) (from old : List ℕ) (word : ℕ) (new : List ℕ) → CopyLeft word₀ i from old word new → ¬ (word ≡ 0) → i < 4
+copy-lowest : (word₀ i : ℕ) (from old : List ℕ) (word : ℕ) (new : List ℕ) → CopyLeft word₀ i from old word new → ¬ (word ≡ 0) → i < 4
     → CopyLeft word₀ i from old (bit_and word (word - 1)) (set new (i * 64 + count_trailing_zeros 64 word) (get_or from (i * 64 + count_trailing_zeros 64 word) 0))
-copy-turn word₀ i from old word new h some li = record {
+copy-lowest word₀ i from old word new h some li = record {
   small = fits-still word h.small some;
   as_long = length-set new (i * 64 + count_trailing_zeros 64 word) (get_or from (i * 64 + count_trailing_zeros 64 word) 0) ∙ h.as_long;
   same = λ full q lt. h.same full q lt ∙ go full q (ℕ_discrete q (i * 64 + count_trailing_zeros 64 word));
@@ -61,6 +63,11 @@ copy-turn word₀ i from old word new h some li = record {
         let at : ℕ = i * 64 + count_trailing_zeros 64 word in
         ap₂ (λ (b : Bool) (x : ℕ). cond b (get_or from q 0) x) (others-left word h.small some i q ne) (sym (get_or-set_other new at q (get_or from at 0) 0 ne))
 
+pub copy-turn : (word₀ i : ℕ) (from old : List ℕ) {word k rest : ℕ} (new : List ℕ) → CopyLeft word₀ i from old word new → GivesLowest word (Some k) rest → i < 4
+    → CopyLeft word₀ i from old rest (set new (i * 64 + k) (get_or from (i * 64 + k) 0))
+copy-turn word₀ i from old {word} new h g li =
+    taken g (λ k rest. CopyLeft word₀ i from old rest (set new (i * 64 + k) (get_or from (i * 64 + k) 0))) (copy-lowest word₀ i from old word new h (some_left g) li)
+
 pub copy-all : (word₀ i : ℕ) (from old : List ℕ) (word : ℕ) (new : List ℕ) → CopyLeft word₀ i from old word new → word ≡ 0
     → Copied (in_word word₀ i) from old new
 copy-all word₀ i from old word new h e = record {
@@ -82,17 +89,21 @@ copy-join f g from a b c h k = record {
     both false true v u = refl
     both false false v u = refl
 
-pub copy-set : (set from a b c d e : List ℕ) → Copied (in_word (get_or set 0 0) 0) from a b → Copied (in_word (get_or set 1 0) 1) from b c
-    → Copied (in_word (get_or set 2 0) 2) from c d → Copied (in_word (get_or set 3 0) 3) from d e → Copied (has set) from a e
-copy-set set from a b c d e h0 h1 h2 h3 =
-    let f : ℕ → Bool = λ q. in_word (get_or set 0 0) 0 q || in_word (get_or set 1 0) 1 q in
-    let g : ℕ → Bool = λ q. f q || in_word (get_or set 2 0) 2 q in
-    let all = copy-join g (in_word (get_or set 3 0) 3) from a d e
-    (copy-join f (in_word (get_or set 2 0) 2) from a c d (copy-join (in_word (get_or set 0 0) 0) (in_word (get_or set 1 0) 1) from a b c h0 h1) h2) h3 in
-    record {
-      as_long = all.as_long;
-      each = λ full q lt. all.each full q lt ∙ ap (λ (y : Bool). cond y (get_or from q 0) (get_or a q 0)) (four-words set q lt);
-    }
+module _ (set from : List ℕ) where
+  abbrev copied_in : (ℕ → Bool) → (q x : ℕ) → ℕ
+  copied_in test q x = cond (test q) (get_or from q 0) x
+
+  pub copy-first : (a : List ℕ) → Copied (in_words set 0) from a a
+  copy-first a = changed-none (copied_in (in_words set 0)) a (λ q x. ap (λ (b : Bool). cond b (get_or from q 0) x) (words-none set q))
+
+  pub copy-next : (i : ℕ) {a b c : List ℕ} → Copied (in_words set i) from a b → Copied (in_word (get_or set i 0) i) from b c → Copied (in_words set (i + 1)) from a c
+  copy-next i {a} {b} {c} h k =
+      changed-ext (copied_in (λ q. in_words set i q || in_word (get_or set i 0) i q)) (copied_in (in_words set (i + 1)))
+      (λ q x lt. ap (λ (t : Bool). cond t (get_or from q 0) x) (words-more set i q))
+      (copy-join (in_words set i) (in_word (get_or set i 0) i) from a b c h k)
+
+  pub copy-last : (i : ℕ) → i ≡ 4 → {a b : List ℕ} → Copied (in_words set i) from a b → Copied (has set) from a b
+  copy-last i all = changed-ext (copied_in (in_words set i)) (copied_in (has set)) (λ q x lt. ap (λ (t : Bool). cond t (get_or from q 0) x) (words-all set i q all lt))
 
 -- ---- starts in place
 

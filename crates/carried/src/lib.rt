@@ -6,7 +6,7 @@
 // byte makes of the live set.
 #![tactic(auto)]
 
-ghost use Rattle.std.specs.Prelude.{◌≡◌, true, cond, ◌+◌, ◌≤◌, ◌<◌, length};
+ghost use Rattle.std.specs.Prelude.{◌≡◌, ◌+◌, ◌≤◌, ◌<◌, length};
 ghost use Rattle.sets.specs.Set.{has, set_of, intersection_of};
 ghost use Rattle.table.specs.Layout.{table_words, max_rules, max_positions, row_has};
 ghost use Rattle.table.specs.Automaton.{automaton};
@@ -14,6 +14,7 @@ ghost use Rattle.steps.specs.Step.{list_on, stepped_starts, StartsInPlace, start
 ghost use Rattle.steps.specs.Invariants.{chosen_of, in_word, Put, Followed, Copied, least_owned};
 
 use kinds::Side;
+use sets::Digits;
 use table::gaps::{LAST_GAPS, gap_of};
 use table::layout::{FOLLOW_AT, FOLLOW_WORDS, LAST_AT, OWNERS_AT, SET_WORDS, TABLE_WORDS};
 
@@ -21,19 +22,17 @@ use table::layout::{FOLLOW_AT, FOLLOW_WORDS, LAST_AT, OWNERS_AT, SET_WORDS, TABL
 fn chosen(keep: bool, old: u64, new: u64) -> u64
     ensures { result ≡ chosen_of keep old new }
 {
-    if keep & (old < new) { old } else { new }
+    if keep { old.min(new) } else { new }
 }
 
 // Puts a start in for the positions of one word, the word i of a set.
-fn put_word(mut word: u64, i: usize, keep: bool, start: u64, starts: &mut [u64; 256])
+fn put_word(word: u64, i: usize, keep: bool, start: u64, starts: &mut [u64; 256])
     requires { i < 4 }
     ensures { Put (in_word word i) keep start starts.old starts.new }
 {
-    while word != 0 {
-        let q = i * 64 + u64::trailing_zeros(word) as usize;
-        let old = starts[q];
-        starts[q] = chosen(keep, old, start);
-        word = word & (word - 1);
+    for k in Digits(word) {
+        let q = i * 64 + k;
+        starts[q] = chosen(keep, starts[q], start);
     }
 }
 
@@ -41,13 +40,13 @@ fn put_word(mut word: u64, i: usize, keep: bool, start: u64, starts: &mut [u64; 
 fn put(set: [u64; 4], keep: bool, start: u64, starts: &mut [u64; 256])
     ensures { Put (has set) keep start starts.old starts.new }
 {
-    put_word(set[0], 0, keep, start, starts);
-    put_word(set[1], 1, keep, start, starts);
-    put_word(set[2], 2, keep, start, starts);
-    put_word(set[3], 3, keep, start, starts);
+    for i in 0..SET_WORDS {
+        put_word(set[i], i, keep, start, starts);
+    }
 }
 
-// The members of the set whose four words stand at `at` that are in another set.
+// The members of the set whose four words stand at `at` that are in another set. `table::row` would
+// ask the length for each position.
 fn met_row(words: &[u64], at: usize, set: [u64; 4]) -> [u64; 4]
     requires { at + 4 ≤ length words.now }
     ensures { result ≡ intersection_of (set_of (row_has words.now at)) set }
@@ -63,7 +62,7 @@ fn met_row(words: &[u64], at: usize, set: [u64; 4]) -> [u64; 4]
 // Carries the starts of the positions of one word, the word i of a live set, along their rows, to
 // the positions of `next`.
 fn follow_word(
-    mut word: u64,
+    word: u64,
     i: usize,
     next: [u64; 4],
     from: &[u64; 256],
@@ -74,12 +73,10 @@ fn follow_word(
     requires { (table_words ≤ length words.now) × (i < 4) × (rows ≤ 14336) }
     ensures { Followed (in_word word i) next from.now rows words.now starts.old starts.new }
 {
-    while word != 0 {
-        let p = i * 64 + u64::trailing_zeros(word) as usize;
+    for k in Digits(word) {
+        let p = i * 64 + k;
         let to = met_row(words, rows + p * SET_WORDS, next);
-        let start = from[p];
-        put(to, true, start, starts);
-        word = word & (word - 1);
+        put(to, true, from[p], starts);
     }
 }
 
@@ -95,10 +92,9 @@ fn follow(
     requires { (table_words ≤ length words.now) × (rows ≤ 14336) }
     ensures { Followed (has live) next from.now rows words.now starts.old starts.new }
 {
-    follow_word(live[0], 0, next, from, rows, words, starts);
-    follow_word(live[1], 1, next, from, rows, words, starts);
-    follow_word(live[2], 2, next, from, rows, words, starts);
-    follow_word(live[3], 3, next, from, rows, words, starts);
+    for i in 0..SET_WORDS {
+        follow_word(live[i], i, next, from, rows, words, starts);
+    }
 }
 
 // The starts after a byte, `taken` bytes into the stream: `live` are the positions before it that
@@ -127,15 +123,13 @@ pub fn step_starts(
 }
 
 // Copies the starts of the positions of one word, the word i of a set.
-fn copy_word(mut word: u64, i: usize, from: &[u64; 256], to: &mut [u64; 256])
+fn copy_word(word: u64, i: usize, from: &[u64; 256], to: &mut [u64; 256])
     requires { i < 4 }
     ensures { Copied (in_word word i) from.now to.old to.new }
 {
-    while word != 0 {
-        let q = i * 64 + u64::trailing_zeros(word) as usize;
-        let start = from[q];
-        to[q] = start;
-        word = word & (word - 1);
+    for k in Digits(word) {
+        let q = i * 64 + k;
+        to[q] = from[q];
     }
 }
 
@@ -143,10 +137,9 @@ fn copy_word(mut word: u64, i: usize, from: &[u64; 256], to: &mut [u64; 256])
 fn copy(set: [u64; 4], from: &[u64; 256], to: &mut [u64; 256])
     ensures { Copied (has set) from.now to.old to.new }
 {
-    copy_word(set[0], 0, from, to);
-    copy_word(set[1], 1, from, to);
-    copy_word(set[2], 2, from, to);
-    copy_word(set[3], 3, from, to);
+    for i in 0..SET_WORDS {
+        copy_word(set[i], i, from, to);
+    }
 }
 
 // Makes of the starts of the live positions what a byte makes of them: `live` are the positions
@@ -179,21 +172,10 @@ pub fn carry_starts(
     put(next, false, 0, spare);
 }
 
-// The smaller of two starts, if the second counts.
-fn lowered(counts: bool, least: u64, start: u64) -> u64
-    ensures { result ≡ cond counts (chosen_of true least start) least }
-{
-    if counts {
-        chosen(true, least, start)
-    } else {
-        least
-    }
-}
-
 // The smaller of a number and of the starts of the positions of one word, the word i of a set, that
 // have this owner.
 fn least_word(
-    mut word: u64,
+    word: u64,
     i: usize,
     owner: u64,
     starts: &[u64; 256],
@@ -203,25 +185,24 @@ fn least_word(
     requires { (table_words ≤ length words.now) × (i < 4) }
     ensures { result ≡ least_owned words.now (in_word word i) owner starts.now least }
 {
-    while word != 0 {
-        let p = i * 64 + u64::trailing_zeros(word) as usize;
-        let start = starts[p];
-        let own = words[OWNERS_AT + p] == owner;
-        least = lowered(own, least, start);
-        word = word & (word - 1);
+    for k in Digits(word) {
+        let p = i * 64 + k;
+        if words[OWNERS_AT + p] == owner {
+            least = least.min(starts[p]);
+        }
     }
     least
 }
 
 // The smaller of a number and of the starts of the positions of a set that have this owner.
-fn least_start(set: [u64; 4], owner: u64, starts: &[u64; 256], least: u64, words: &[u64]) -> u64
+fn least_start(set: [u64; 4], owner: u64, starts: &[u64; 256], mut least: u64, words: &[u64]) -> u64
     requires { table_words ≤ length words.now }
     ensures { result ≡ least_owned words.now (has set) owner starts.now least }
 {
-    let a = least_word(set[0], 0, owner, starts, least, words);
-    let b = least_word(set[1], 1, owner, starts, a, words);
-    let c = least_word(set[2], 2, owner, starts, b, words);
-    least_word(set[3], 3, owner, starts, c, words)
+    for i in 0..SET_WORDS {
+        least = least_word(set[i], i, owner, starts, least, words);
+    }
+    least
 }
 
 // The positions of a set that can end a match at a gap.
@@ -238,7 +219,7 @@ fn ending_in(gap: usize, set: [u64; 4], words: &[u64]) -> [u64; 4]
 // For each of some rules, a digit for each place, the smallest start of a match that ends at a gap
 // with a position of the set, or the number that is there for it, if that is smaller.
 pub fn rule_starts(
-    mut rules: u64,
+    rules: u64,
     gap: usize,
     set: [u64; 4],
     starts: &[u64; 256],
@@ -252,11 +233,8 @@ pub fn rule_starts(
         return new;
     }
     let found = ending_in(gap, set, words);
-    while rules != 0 {
-        let a = u64::trailing_zeros(rules);
-        let least = from[a as usize];
-        new[a as usize] = least_start(found, a as u64, starts, least, words);
-        rules = rules & (rules - 1);
+    for a in Digits(rules) {
+        new[a] = least_start(found, a as u64, starts, from[a], words);
     }
     new
 }

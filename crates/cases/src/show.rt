@@ -8,7 +8,7 @@ const SLOTS: usize = 2 * MAX_RULES as usize;
 
 // Empties the table.
 pub fn empty(rt: &impl Print, words: &mut [u64]) -> io::Result<()> {
-    table::empty(words);
+    let _ = table::empty(words);
     println!(rt; "empty table")
 }
 
@@ -35,17 +35,20 @@ fn reports(rt: &impl Print, ids: &[u32], offsets: &[u64], count: usize) -> io::R
 pub fn log(rt: &impl Print, words: &[u64], bytes: &[u8]) -> io::Result<()> {
     let mut ids = [0u32; SLOTS];
     let mut offsets = [0u64; SLOTS];
-    let opened = Stream::open(words);
-    let scanned = opened
-        .stream
-        .scan(words, NO_LIMIT, bytes, &mut ids, &mut offsets);
+    let opened = Stream::open(words).stream;
+    let (taken, count, stream) = match opened.scan(words, NO_LIMIT, bytes, &mut ids, &mut offsets) {
+        Ok(progress) => (progress.taken, progress.reports, progress.stream),
+        Err(_) => (0, 0, opened),
+    };
     let length = bytes.len();
-    let taken = scanned.taken;
     print!(rt; "log of {length} bytes, taken {taken}:")?;
-    reports(rt, &ids, &offsets, scanned.reports)?;
-    let closed = scanned.stream.close(words, &mut ids, &mut offsets);
+    reports(rt, &ids, &offsets, count)?;
+    let count = match stream.close(words, &mut ids, &mut offsets) {
+        Ok(ending) => ending.reports,
+        Err(_) => 0,
+    };
     print!(rt; "; closing:")?;
-    reports(rt, &ids, &offsets, closed.reports)?;
+    reports(rt, &ids, &offsets, count)?;
     println!(rt; "")
 }
 
@@ -59,7 +62,7 @@ pub fn shown<'a>(
     start: u64,
     end: u64,
 ) -> io::Result<()> {
-    let number = matched::matched_number(tail, block, offset, start, end);
+    let number = refusals::code(&matched::matched_number(tail, block, offset, start, end));
     print!(rt; "bytes {start} to {end} of a block at {offset}: {number} ")?;
     rt.write_all(matched::matched_bytes(tail, block, offset, start, end))?;
     println!(rt; "")

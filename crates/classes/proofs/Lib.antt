@@ -4,3 +4,4 @@ pub mod Keys
 pub mod Sizes
 pub mod Ranges
 pub mod Spellings
+pub mod Endings

@@ -15,7 +15,7 @@ use Rattle.atoms.proofs.Raws.{raw-besides}
 use Rattle.atoms.proofs.Sizes.{pick, byte-within, Stands, sound, unsound, escape-stands}
 use Rattle.classes.specs.Name.{Name, names, begins, name_among, name_of}
 use Rattle.classes.specs.Class.{bracket_of, member_of, joint_of, as_member, spelled_at, member_at}
-use Rattle.classes.specs.declared.Member.{Member}
+use Rattle.classes.specs.Class.{Member}
 
 -- a text that the bytes begin with has no more bytes than they
 pub begins-fits : (text v : List ℕ) → begins text v ≡ true → length text ≤ length v

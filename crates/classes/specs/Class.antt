@@ -5,11 +5,8 @@ use Rattle.kinds.specs.Kind.{is_kind, is_not_kind}
 use Rattle.kinds.specs.Case.{case_closed}
 use Rattle.atoms.specs.declared.Atom.{Atom}
 use Rattle.atoms.specs.declared.Atom.TheVariants.{Byte, OfKind, NotOfKind, Dot, NotNewline, Start, LastLine, End, Caret, Dollar, WordEdge, NoWordEdge}
-use Rattle.atoms.specs.declared.Part.{Part}
-use Rattle.classes.specs.declared.Member.{Member}
+use Rattle.atoms.specs.Escape.{Part}
 use Rattle.atoms.specs.declared.Gap.{Gap}
-use Rattle.classes.specs.declared.Joint.{Joint}
-use Rattle.classes.specs.declared.Class.{Class}
 use Rattle.atoms.specs.Fault.{lower}
 use Rattle.atoms.specs.Raw.{with_raw}
 use Rattle.atoms.specs.Escape.{good, bad, escape_of}
@@ -72,6 +69,13 @@ range_fault m n =
     cond (is_type m.atom || is_type n.atom) 9
     (cond (eqb m.fault 0 && (eqb n.fault 0 && ltb (byte_of n.atom) (byte_of m.atom))) 9 0)
 
+-- What may join two members to a range, the hyphen and the marks around it: whether it does, the
+-- bytes up to the second end, and whether that stands in a quote.
+pub record Joint : Type 0 where
+  pub is : Bool
+  pub size : ℕ
+  pub quoted : Bool
+
 -- "Hyphen is literal first (or after `^`), last, or right after a range; any other hyphen makes a
 -- range from the member before it, a literal hyphen included." Here v is what follows a member: a
 -- hyphen, and then something other than `]`, make a range. A hyphen that is first, or right after a
@@ -87,6 +91,15 @@ joint_of quoted v =
       size = n;
       quoted = h.quoted;
     }
+
+-- A class member, or a range with both its ends: its lowest fault or 0, the bytes it takes, what it
+-- adds, the bytes from low to high or a type, and whether a quote is open after it.
+pub record Member : Type 0 where
+  pub fault : ℕ
+  pub size : ℕ
+  pub low : Atom
+  pub high : Atom
+  pub quoted : Bool
 
 -- a member by itself
 abbrev pub as_member : Bool → Part → Member
@@ -132,6 +145,12 @@ joined set Caret high = set
 joined set Dollar high = set
 joined set WordEdge high = set
 joined set NoWordEdge high = set
+
+-- a class: number 0, the place after its `]`, and its set; or the refusal's number and place
+pub record Class : Type 0 where
+  pub number : ℕ
+  pub place : ℕ
+  pub set : List ℕ
 
 -- a refusal's number and place
 abbrev pub refused_class : ℕ → ℕ → Class

@@ -2,4 +2,5 @@
 -- ranges, the whole class). Invariants is for the private functions.
 pub mod Name
 pub mod Class
+pub mod Answer
 pub mod Invariants

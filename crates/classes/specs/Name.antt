@@ -8,7 +8,7 @@ use Rattle.kinds.specs.declared.Kind.{Kind}
 use Rattle.kinds.specs.declared.Kind.TheVariants.{Digit, Word, Space, Alpha, Lower, Upper, Alnum, Ascii, Blank, Cntrl, Graph, Print, Punct, Xdigit}
 use Rattle.atoms.specs.declared.Atom.{Atom}
 use Rattle.atoms.specs.declared.Atom.TheVariants.{OfKind, NotOfKind}
-use Rattle.atoms.specs.declared.Part.{Part}
+use Rattle.atoms.specs.Escape.{Part}
 use Rattle.atoms.specs.Escape.{good, bad}
 
 -- the bytes of a text: each character is the byte of its code, so `é` is 233

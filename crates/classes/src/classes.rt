@@ -2,11 +2,13 @@
 // closing bracket.
 ghost use Rattle.std.specs.Prelude.{◌≡◌, true, false, drop};
 ghost use Rattle.sets.specs.Set.{empty_set};
-ghost use Rattle.classes.specs.Class.{joined, refused_class, settled, members_of, class_of};
+ghost use Rattle.classes.specs.Answer.{class};
+ghost use Rattle.classes.specs.Class.{joined, settled, members_of, class_of};
 
 use crate::Class;
 use crate::members::{byte_of, member_at};
 use atoms::{Atom, cased, gap_at, is_mark, peek};
+use refusals::{Fault, Refusal};
 
 // A set with what a member adds.
 fn join(set: [u64; 4], low: Atom, high: Atom) -> [u64; 4]
@@ -31,25 +33,15 @@ fn settle(caseless: bool, negated: bool, set: [u64; 4]) -> [u64; 4]
     all
 }
 
-// A refused class.
-fn refused(number: u32, place: usize) -> Class
-    ensures { result ≡ refused_class number place }
-{
-    Class {
-        number,
-        place,
-        set: sets::empty(),
-    }
-}
-
 // The members from a place on, up to the closing bracket.
-fn members_at(s: &[u8], at: usize, caseless: bool, negated: bool) -> Class
-    ensures { result ≡ members_of caseless negated true false empty_set 0 (drop at s.now) at }
+fn members_at(s: &[u8], at: usize, caseless: bool, negated: bool) -> Result<Class, Fault>
+    ensures { class result ≡ members_of caseless negated true false empty_set 0 (drop at s.now) at }
 {
     let mut set = sets::empty();
     let mut first = true;
     let mut quoted = false;
     let mut i = at;
+    // A turn takes as many bytes as its member has: no `for`.
     while i < s.len() {
         let c = s[i];
         let after = i + 1;
@@ -59,31 +51,32 @@ fn members_at(s: &[u8], at: usize, caseless: bool, negated: bool) -> Class
             i += 2;
         } else {
             if (c == b']') & !(first | quoted) {
-                return Class {
-                    number: 0,
+                return Ok(Class {
                     place: after,
                     set: settle(caseless, negated, set),
-                };
+                });
             }
             let m = member_at(s, i, caseless, quoted);
-            if m.fault != 0 {
-                return refused(m.fault, i);
-            }
-            let low = m.low;
-            let high = m.high;
-            let more = join(set, low, high);
+            let ends = match m.ends {
+                Ok(ends) => ends,
+                Err(refusal) => return Err(Fault { refusal, place: i }),
+            };
+            let more = join(set, ends.low, ends.high);
             set = more;
             first = false;
             quoted = m.quoted;
             i += m.size;
         }
     }
-    refused(8, i)
+    Err(Fault {
+        refusal: Refusal::OpenClass,
+        place: i,
+    })
 }
 
 // The class at a place after its `[`.
-pub fn class_at(s: &[u8], at: usize, caseless: bool) -> Class
-    ensures { result ≡ class_of caseless (drop at s.now) at }
+pub fn class_at(s: &[u8], at: usize, caseless: bool) -> Result<Class, Fault>
+    ensures { class result ≡ class_of caseless (drop at s.now) at }
 {
     let g = gap_at(s, at, false);
     let from = at + g.size;

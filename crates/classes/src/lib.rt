@@ -10,36 +10,40 @@ mod names;
 use atoms::Atom;
 pub use classes::class_at;
 use kinds::Kind;
+use refusals::Refusal;
 
 // A class by name: its text with the `:]` that closes it, and zeros up to eight bytes; and the kind
 // of its bytes.
 #[derive(Clone, Copy)]
 pub struct Row(pub [u8; 8], pub Kind);
 
-// What may join two members to a range, the hyphen and the marks around it: whether it does, the
-// bytes up to the second end, and whether that stands in a quote.
+// What joins two members to a range, the hyphen and the marks around it: the bytes up to the second
+// end, and whether that stands in a quote.
 #[derive(Clone, Copy)]
 pub struct Joint {
-    pub is: bool,
     pub size: usize,
     pub quoted: bool,
 }
 
-// A class member, or a range with both its ends: its lowest fault or 0, the bytes it takes, what it
-// adds, the bytes from low to high or a type, and whether a quote is open after it.
+// What a member adds: the bytes from low to high, or the type that both are.
 #[derive(Clone, Copy)]
-pub struct Member {
-    pub fault: u32,
-    pub size: usize,
+pub struct Ends {
     pub low: Atom,
     pub high: Atom,
+}
+
+// A class member, or a range with both its ends: the bytes it takes, what it adds or its lowest
+// fault, and whether a quote is open after it.
+#[derive(Clone, Copy)]
+pub struct Member {
+    pub size: usize,
+    pub ends: Result<Ends, Refusal>,
     pub quoted: bool,
 }
 
-// A class: number 0 and its set, and the place after its `]`; or the refusal's number and place.
+// A class: the place after its `]`, and its set.
 #[derive(Clone, Copy)]
 pub struct Class {
-    pub number: u32,
     pub place: usize,
     pub set: [u64; 4],
 }

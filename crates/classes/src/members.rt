@@ -1,31 +1,35 @@
 // Class members and ranges. A member, or a range with both its ends, is one token, so the lowest of
 // its faults is given.
-ghost use Rattle.std.specs.Prelude.{◌≡◌, ◌+◌, ◌≤◌, ◌<◌, ◌^◌, length, drop};
+ghost use Rattle.std.specs.Prelude.{◌≡◌, ◌+◌, ◌≤◌, ◌<◌, ◌^◌, not, eqb, length, drop};
+ghost use Rattle.refusals.specs.Refusal.{code_of};
+ghost use Rattle.atoms.specs.Answer.{fault, part, atom_of};
+ghost use Rattle.classes.specs.Invariants.{Told, joint, joins};
 ghost use Rattle.classes.specs.Class.{bracket_of, member_of, is_type, byte_of, range_fault, joint_of, as_member, as_range, spelled_at, member_at};
 
 use crate::names::name_at;
-use crate::{Joint, Member};
+use crate::{Ends, Joint, Member};
 use atoms::{Atom, Part, escape_at, faulty, gap_at, lower, peek, sound, with_raw};
+use refusals::Refusal;
 
 // After a `[` in a class.
 fn bracket(s: &[u8], at: usize, caseless: bool) -> Part
-    ensures { result ≡ bracket_of caseless (drop at s.now) }
+    ensures { part result ≡ bracket_of caseless (drop at s.now) }
 {
     let c = peek(s, at);
     match c {
         b':' => name_at(s, at + 1, caseless),
-        b'.' => faulty(14, 2),
-        b'=' => faulty(14, 2),
+        b'.' => faulty(Refusal::Unsupported, 2),
+        b'=' => faulty(Refusal::Unsupported, 2),
         _ => sound(1, Atom::Byte(b'[')),
     }
 }
 
 // The member at a place, or an end of a range.
 fn member_part(s: &[u8], at: usize, caseless: bool, quoted: bool) -> Part
-    ensures { result ≡ member_of caseless quoted (drop at s.now) }
+    ensures { part result ≡ member_of caseless quoted (drop at s.now) }
 {
     if s.len() <= at {
-        return faulty(6, 0);
+        return faulty(Refusal::BadEscape, 0);
     }
     let c = s[at];
     if quoted {
@@ -58,25 +62,35 @@ pub(super) fn byte_of(atom: Atom) -> u8
     }
 }
 
-// The fault of two ends as a range.
-fn range_fault(m: Part, n: Part) -> u32
-    ensures { result ≡ range_fault m n }
+// What a part stands for; byte 0 where it is faulty.
+fn atom_of(p: Part) -> Atom
+    ensures { result ≡ atom_of p.atom }
 {
-    let low = m.atom;
-    let high = n.atom;
-    if is_type(low) | is_type(high) {
-        return 9;
+    match p.atom {
+        Ok(atom) => atom,
+        Err(_) => Atom::Byte(0),
     }
-    if (m.fault == 0) & ((n.fault == 0) & (byte_of(high) < byte_of(low))) {
-        return 9;
-    }
-    0
 }
 
-// What may join a member that ends at a place to another.
-fn joint_at(s: &[u8], at: usize, quoted: bool) -> Joint
+// The fault of two ends as a range.
+fn range_fault(m: Part, n: Part) -> Option<Refusal>
+    ensures { fault result ≡ range_fault (part m) (part n) }
+{
+    let low = atom_of(m);
+    let high = atom_of(n);
+    if is_type(low) | is_type(high) {
+        return Some(Refusal::BadRange);
+    }
+    if m.atom.is_ok() & (n.atom.is_ok() & (byte_of(high) < byte_of(low))) {
+        return Some(Refusal::BadRange);
+    }
+    None
+}
+
+// What joins a member that ends at a place to another, if anything does.
+fn joint_at(s: &[u8], at: usize, quoted: bool) -> Option<Joint>
     requires { at ≤ length s.now }
-    ensures { result ≡ joint_of quoted (drop at s.now) }
+    ensures { result ≡ joins (joint_of quoted (drop at s.now)) }
 {
     let g = gap_at(s, at, quoted);
     let inside = g.quoted;
@@ -85,72 +99,96 @@ fn joint_at(s: &[u8], at: usize, quoted: bool) -> Joint
     let size = g.size + (1 + h.size);
     let last = peek(s, at + size) == b']';
     let rest = s.len() - at;
-    Joint {
-        is: !inside & ((peek(s, hyphen) == b'-') & ((size < rest) & (h.quoted | !last))),
-        size,
-        quoted: h.quoted,
+    let is = !inside & ((peek(s, hyphen) == b'-') & ((size < rest) & (h.quoted | !last)));
+    if is {
+        return Some(Joint {
+            size,
+            quoted: h.quoted,
+        });
     }
+    None
 }
 
 // A part as a member.
 fn single(m: Part, quoted: bool) -> Member
-    ensures { result ≡ as_member quoted m }
+    ensures { Told result (as_member quoted (part m)) }
 {
-    let atom = m.atom;
-    Member {
-        fault: m.fault,
-        size: m.size,
-        low: atom,
-        high: atom,
-        quoted,
+    match m.atom {
+        Ok(atom) => Member {
+            size: m.size,
+            ends: Ok(Ends {
+                low: atom,
+                high: atom,
+            }),
+            quoted,
+        },
+        Err(refusal) => Member {
+            size: m.size,
+            ends: Err(refusal),
+            quoted,
+        },
     }
 }
 
-// Two parts and what joins them as a range.
+// Two parts and what joins them as a range: the lowest of its faults.
 fn range(m: Part, j: Joint, n: Part) -> Member
     requires { m.size + (j.size + n.size) < 2 ^ 63 }
-    ensures { result ≡ as_range m j n }
+    ensures { Told result (as_range (part m) (joint j) (part n)) }
 {
-    let low = m.atom;
-    let high = n.atom;
-    Member {
-        fault: lower(m.fault, lower(n.fault, range_fault(m, n))),
-        size: m.size + (j.size + n.size),
-        low,
-        high,
-        quoted: j.quoted,
+    let size = m.size + (j.size + n.size);
+    match lower(m.atom.err(), lower(n.atom.err(), range_fault(m, n))) {
+        Some(refusal) => Member {
+            size,
+            ends: Err(refusal),
+            quoted: j.quoted,
+        },
+        None => Member {
+            size,
+            ends: Ok(Ends {
+                low: atom_of(m),
+                high: atom_of(n),
+            }),
+            quoted: j.quoted,
+        },
+    }
+}
+
+// Whether a part has an end, after which a hyphen may stand.
+fn has_end(p: Part) -> bool
+    ensures { result ≡ not (eqb (code_of p.atom) 6) }
+{
+    match p.atom {
+        Ok(_) => true,
+        Err(refusal) => refusal != Refusal::BadEscape,
     }
 }
 
 // The member or range at a place, with its faults but that of a raw control byte.
 fn spelled_at(s: &[u8], at: usize, caseless: bool, quoted: bool) -> Member
-    ensures { result ≡ spelled_at caseless quoted (drop at s.now) }
+    ensures { Told result (spelled_at caseless quoted (drop at s.now)) }
 {
     let m = member_part(s, at, caseless, quoted);
-    if m.fault == 6 {
+    if !has_end(m) {
         return single(m, quoted);
     }
     let end = at + m.size;
-    let j = joint_at(s, end, quoted);
-    if j.is {
-        let n = member_part(s, end + j.size, caseless, j.quoted);
-        return range(m, j, n);
+    match joint_at(s, end, quoted) {
+        Some(j) => range(m, j, member_part(s, end + j.size, caseless, j.quoted)),
+        None => single(m, quoted),
     }
-    single(m, quoted)
 }
 
 // The member or range at a place.
 pub(super) fn member_at(s: &[u8], at: usize, caseless: bool, quoted: bool) -> Member
-    ensures { result ≡ member_at caseless quoted (drop at s.now) }
+    ensures { Told result (member_at caseless quoted (drop at s.now)) }
 {
     let m = spelled_at(s, at, caseless, quoted);
-    let low = m.low;
-    let high = m.high;
-    Member {
-        fault: with_raw(s, at, m.size, m.fault),
-        size: m.size,
-        low,
-        high,
-        quoted: m.quoted,
+    match with_raw(s, at, m.size, m.ends.err()) {
+        None => m,
+        Some(refusal) => Member {
+            size: m.size,
+            ends: Err(refusal),
+            quoted: m.quoted,
+        },
     }
 }

@@ -1,12 +1,14 @@
 // Classes by name, `[:alpha:]` and `[:^alpha:]`: one table of names, each with the `:]` that closes
 // it, and the kind of each.
 ghost use Rattle.std.specs.Prelude.{◌≡◌, cond, ◌≤◌, ◌<◌, length, drop};
+ghost use Rattle.atoms.specs.Answer.{part};
 ghost use Rattle.classes.specs.Name.{names, named, begins, name_among, name_of, name_at};
 ghost use Rattle.classes.specs.Invariants.{unpadded};
 
 use crate::Row;
 use atoms::{Atom, Part, faulty, peek, sound};
 use kinds::Kind;
+use refusals::Refusal;
 
 // How many names there are.
 const NAMES: usize = 14;
@@ -67,16 +69,13 @@ fn spelled(s: &[u8], at: usize, text: [u8; 8]) -> usize
     requires { at ≤ length s.now }
     ensures { result ≡ cond (begins (unpadded text) (drop at s.now)) (length (unpadded text)) 0 }
 {
-    let mut k: usize = 0;
-    while k < 8 {
-        let c = text[k];
-        if c == 0 {
+    for (k, c) in text.iter().enumerate() {
+        if *c == 0 {
             return k;
         }
-        if peek(s, at + k) != c {
+        if peek(s, at + k) != *c {
             return 0;
         }
-        k += 1;
     }
     8
 }
@@ -95,26 +94,22 @@ fn atom_of(caseless: bool, negated: bool, kind: Kind) -> Atom
 // The name at a place, after so many bytes of its opening.
 fn name_among(s: &[u8], at: usize, caseless: bool, negated: bool, lead: usize) -> Part
     requires { (at ≤ length s.now) × (lead < 4) }
-    ensures { result ≡ name_among names caseless negated lead (drop at s.now) }
+    ensures { part result ≡ name_among names caseless negated lead (drop at s.now) }
 {
-    let mut number: usize = 0;
-    while number < NAMES {
+    for number in 0..NAMES {
         let name = row(number);
-        let text = name.0;
-        let kind = name.1;
-        let size = spelled(s, at, text);
+        let size = spelled(s, at, name.0);
         if size != 0 {
-            return sound(lead + size, atom_of(caseless, negated, kind));
+            return sound(lead + size, atom_of(caseless, negated, name.1));
         }
-        number += 1;
     }
-    faulty(14, 2)
+    faulty(Refusal::Unsupported, 2)
 }
 
 // After `[:`.
 pub(super) fn name_at(s: &[u8], at: usize, caseless: bool) -> Part
     requires { at ≤ length s.now }
-    ensures { result ≡ name_of caseless (drop at s.now) }
+    ensures { part result ≡ name_of caseless (drop at s.now) }
 {
     if peek(s, at) == b'^' {
         return name_among(s, at + 1, caseless, true, 3);

@@ -17,18 +17,15 @@ use Rattle.table.specs.Automaton.{Automaton, automaton}
 use Rattle.table.proofs.Test.{passes}
 use Rattle.steps.specs.Step.{list_from}
 use Rattle.stream.specs.declared.Stream.{Stream}
-use Rattle.stream.specs.declared.Scanned.{Scanned}
-use Rattle.stream.specs.declared.Closed.{Closed}
 use Rattle.stream.specs.Byte.{after, reports_by, cost_by, fits_by, state_after, reports_of, cost_of, fits, two_reports, held_test, end_test}
 use Rattle.stream.specs.Byte as stream-byte
 use Rattle.stream.specs.Valid as stream
 use Rattle.stream.specs.Valid.{sound, needs_starts, pending_late, begun}
 use Rattle.stream.specs.Calls as stream-calls
-use Rattle.stream.specs.Calls.{column, over_limit, space_number, shut}
+use Rattle.stream.specs.Calls.{Scanned, Closed, column, over_limit, space_number, shut}
 use Rattle.stream.proofs.Accepting.{Fitting, fitting, Accepted, accepted}
 use Rattle.stream.proofs.Accepting as accepting
-use Rattle.traced.specs.declared.Scanned as of-scan
-use Rattle.traced.specs.declared.Closed as of-close
+use Rattle.traced.specs.Calls.{Scanned as Trace-scanned, Closed as Trace-closed}
 use Rattle.traced.specs.Byte.{Report, traced, close_reports}
 use Rattle.traced.specs.Valid as traced-valid
 use Rattle.starts.specs.Order.{starts_ok}
@@ -145,7 +142,7 @@ module _ (first : ℕ) (new : List stream-byte.Report) (l : Lists) where
 
 -- ---- a scan
 
-abbrev lifted : Scanned → of-scan.Scanned
+abbrev lifted : Scanned → Trace-scanned
 lifted a = record { number = a.number; taken = a.taken; reports = a.reports; used = a.used; traced = bare a.stream }
 
 module _ (t : List ℕ) (needs : needs_starts (automaton t) ≡ false) (s : Stream) (c : Call) (room : Roomy c.slots) where
@@ -198,7 +195,7 @@ module _ (t : List ℕ) (needs : needs_starts (automaton t) ≡ false) (s : Stre
   scan-alike =
       ap (λ (n : ℕ). cond (eqb n 0) mine (refused n)) number_same ∙ go (eqb number 0) refl
     where
-      mine : of-scan.Scanned
+      mine : Trace-scanned
       mine = record {
         number = 0;
         taken = first;
@@ -207,7 +204,7 @@ module _ (t : List ℕ) (needs : needs_starts (automaton t) ≡ false) (s : Stre
         traced = after (traced w) (bare s) c.block first;
       }
 
-      refused : ℕ → of-scan.Scanned
+      refused : ℕ → Trace-scanned
       refused n = record { number = n; taken = 0; reports = 0; used = 0; traced = bare s }
 
       go : (b : Bool) → eqb number 0 ≡ b
@@ -273,7 +270,7 @@ module _ (t : List ℕ) (needs : needs_starts (automaton t) ≡ false) (s : Stre
       ∙ go (eqb told 0) refl
     where
       go : (b : Bool) → eqb told 0 ≡ b
-          → cond {A = of-close.Closed} b (record { number = 0; reports = length (close_reports v (bare s)); traced = bare (shut s) }) (record { number = told; reports = 0; traced = bare s })
+          → cond {A = Trace-closed} b (record { number = 0; reports = length (close_reports v (bare s)); traced = bare (shut s) }) (record { number = told; reports = 0; traced = bare s })
           ≡ record {
             number = (cond {A = Closed} b (record { number = 0; reports = length last; stream = shut s }) (record { number = told; reports = 0; stream = s })).number;
             reports = (cond {A = Closed} b (record { number = 0; reports = length last; stream = shut s }) (record { number = told; reports = 0; stream = s })).reports;

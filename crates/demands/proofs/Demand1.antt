@@ -13,7 +13,7 @@ use Rattle.table.proofs.is_table.Met.{met as is_table-met}
 use Rattle.rules.proofs.Checks.{accepted-place}
 use Rattle.rules.proofs.add.Met.{met as add-met}
 use Rattle.rules.proofs.add_within.Met.{met as add-within-met}
-use Rattle.card.specs.declared.Stored.{Stored}
+use Rattle.card.specs.Calls.{Stored}
 use Rattle.card.proofs.Theorems.{write_kept}
 use Rattle.card.proofs.write_block.Met.{met as card-write-met}
 use Rattle.matched.specs.Matched.{in_block, in_tail, matched_bytes, matched_number}
@@ -22,12 +22,8 @@ use Rattle.matched.proofs.matched_number.Met.{met as matched-number-met}
 use Rattle.matched.proofs.matched_part.Met.{met as matched-part-met}
 use Rattle.card.proofs.read_block.Met.{met as card-read-met}
 use Rattle.stream.specs.declared.Stream.{Stream}
-use Rattle.stream.specs.declared.Opened.{Opened}
-use Rattle.stream.specs.declared.Scanned.{Scanned}
-use Rattle.stream.specs.declared.Closed.{Closed}
-use Rattle.stream.specs.Calls.{fresh, opened, space, close_number, call_number, scanned_lists, closed_lists}
-use Rattle.traced.specs.declared.Scanned.{Scanned as Trace-scanned}
-use Rattle.traced.specs.declared.Closed.{Closed as Trace-closed}
+use Rattle.stream.specs.Calls.{Opened, Scanned, Closed, fresh, opened, space, close_number, call_number, scanned_lists, closed_lists}
+use Rattle.traced.specs.Calls.{Scanned as Trace-scanned, Closed as Trace-closed}
 use Rattle.traced.specs.Calls as traced
 use Rattle.stream.proofs.Results.{accepted-scan, refused-scan, accepted-close, refused-close}
 use Rattle.stream.proofs.Stream.«open».Met.{met as open-met}

@@ -13,9 +13,8 @@ use Rattle.table.specs.Automaton.{automaton}
 use Rattle.rules.specs.Add.{Addition, add_answer, add_words}
 use Rattle.rules.proofs.Checks.{accepted-rules, accepted-passes}
 use Rattle.stream.specs.declared.Stream.{Stream}
-use Rattle.stream.specs.declared.Closed.{Closed}
 use Rattle.stream.specs.Valid.{sound, valid}
-use Rattle.stream.specs.Calls.{space, space_number, scan_number, close_number, closed, over_limit}
+use Rattle.stream.specs.Calls.{Closed, space, space_number, scan_number, close_number, closed, over_limit}
 use Rattle.stream.proofs.Accepting.{fitting, valid-parts, accepted, close-number}
 use Rattle.stream.proofs.Results.{scan-number, close-number-is, accepted-close, closed-valid}
 use Rattle.traced.specs.declared.Traced.{Traced}

@@ -9,7 +9,7 @@ use lib.ListN.{length, drop}
 use borrow.Author.Tests.{ne_eqb}
 use Rattle.table.specs.Layout.{table_words}
 use Rattle.table.specs.Table.{empty_number, emptied}
-use Rattle.card.specs.declared.Stored.{Stored}
+use Rattle.card.specs.Calls.{Stored}
 use Rattle.card.proofs.Theorems.{read_kept}
 use Rattle.rules.specs.Add.{add_answer, add_words}
 use Rattle.rules.specs.Additions.{Narrow}

@@ -15,11 +15,9 @@ use Rattle.table.specs.Layout.{rules_of}
 use Rattle.table.specs.Table.{is_table}
 use Rattle.table.specs.Automaton.{Automaton, automaton}
 use Rattle.stream.specs.declared.Stream.{Stream}
-use Rattle.stream.specs.declared.Scanned.{Scanned}
-use Rattle.stream.specs.declared.Closed.{Closed}
 use Rattle.stream.specs.Byte.{reports_by, plain, state_after, cost_of, close_reports}
 use Rattle.stream.specs.Valid.{stream_limit, needs_starts, valid}
-use Rattle.stream.specs.Calls.{Lists, lists, Call, space, space_number, scan_number, close_number, call_number, taken_by, written, scanned, scanned_lists, shut, closed, closed_lists, over_limit}
+use Rattle.stream.specs.Calls.{Scanned, Closed, Lists, lists, Call, space, space_number, scan_number, close_number, call_number, taken_by, written, scanned, scanned_lists, shut, closed, closed_lists, over_limit}
 use Rattle.stream.proofs.Accepting.{fitting, valid-parts, accepted, close-number}
 use Rattle.stream.proofs.Blocks.{cost-some, cost-few}
 use Rattle.stream.proofs.Results.{scan-number, taken-within, accepted-scan, refused-scan, progress, scanned-valid, close-number-is, accepted-close, refused-close, closed-valid}

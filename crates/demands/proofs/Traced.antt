@@ -21,8 +21,7 @@ use Rattle.stream.specs.Calls.{over_limit, fresh}
 use Rattle.stream.proofs.Accepting.{fitting}
 use Rattle.stream.proofs.Blocks.{taken-after, cost-some, cost-few}
 use Rattle.traced.specs.declared.Traced.{Traced}
-use Rattle.traced.specs.declared.Scanned.{Scanned}
-use Rattle.traced.specs.declared.Closed.{Closed}
+use Rattle.traced.specs.Calls.{Scanned, Closed}
 use Rattle.traced.specs.Byte.{Start, none, Report as Trace, given, late_long, own_long, end_long, byte_reports, traced, late_start, own_start, end_start, close_reports}
 use Rattle.traced.specs.Byte as starts
 use Rattle.traced.specs.Valid.{valid}

@@ -18,7 +18,7 @@ use lib.Seq.{take-suc, take_all, length-take-le}
 use borrow.Author.Tests.{eq-eqb, ne_eqb, eqb-true}
 use Rattle.sets.specs.Set.{on, has, any, empty_set, union_of}
 use Rattle.sets.proofs.Laws.{has-set_of, has-empty, has-union, any_at, any_some, on-zero}
-use Rattle.sets.proofs.Digits.{on-word_of}
+use Rattle.sets.proofs.Bits.{on-word_of}
 use Rattle.kinds.specs.declared.Side.TheVariants.{Newline}
 use Rattle.kinds.specs.Side.{side_of}
 use Rattle.table.specs.Layout.{max_positions}

@@ -13,7 +13,7 @@ use native.Mathlib.Omega.{arith}
 use native.Mathlib.Decide.{ℕ_discrete, dec_lt}
 use lib.Dec.{T, T_not, not_T, ltb, lt→ltb}
 use Rattle.sets.specs.Set.{on}
-use Rattle.sets.proofs.Digits.{on-word_of}
+use Rattle.sets.proofs.Bits.{on-word_of}
 use Rattle.table.specs.Automaton.{Automaton, single}
 use Rattle.stream.specs.Byte.{due, run_marks, two_marks}
 use Rattle.meaning.specs.Rule.{Rule, ByteSet}

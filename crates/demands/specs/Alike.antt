@@ -4,8 +4,7 @@
 use Rattle.std.specs.Prelude.{◌≡◌, false, List, [], ◌∷◌, ◌++◌, ℕ, zero, suc, pos, drop}
 use Rattle.table.specs.Automaton.{automaton}
 use Rattle.stream.specs.declared.Stream.{Stream}
-use Rattle.stream.specs.declared.Scanned.{Scanned}
-use Rattle.stream.specs.declared.Closed.{Closed}
+use Rattle.stream.specs.Calls.{Scanned, Closed}
 use Rattle.stream.specs.Valid.{needs_starts}
 use Rattle.stream.specs.Calls as stream
 use Rattle.traced.specs.declared.Traced.{Traced}

@@ -35,7 +35,7 @@ use Rattle.rules.specs.declared.Added.{Added}
 use Rattle.rules.proofs.Encodes.{distinct}
 use Rattle.rules.proofs.Readings.{reads}
 use Rattle.rules.proofs.Additions.{built-none, answer-built}
-use Rattle.plain.specs.declared.Matched.{Matched}
+use Rattle.plain.specs.Answer.{Matched}
 use Rattle.plain.specs.Run.{Lent, lent}
 use Rattle.plain.specs.Answer.{Question, known_flags, longest_log, least_space, has_single, has_leftmost, verdict, rule_of, Reports, Answered}
 use Rattle.plain.proofs.matches.Met.{met as matches-met}

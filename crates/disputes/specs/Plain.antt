@@ -9,7 +9,7 @@ use Rattle.table.specs.Table.{emptied}
 use Rattle.meaning.specs.Ordered.{Report, of_id}
 use Rattle.rules.specs.Add.{Addition, addition_in, answer, add_answer}
 use Rattle.rules.specs.Additions.{Accepted, accepted_after}
-use Rattle.plain.specs.declared.Matched.{Matched}
+use Rattle.plain.specs.Answer.{Matched}
 use Rattle.plain.specs.Run.{Lent}
 use Rattle.plain.specs.Answer.{Question, longest_log, least_space, Matches}
 use Rattle.plain.proofs.matches.Statement.{statement as matches}

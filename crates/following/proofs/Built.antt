@@ -11,7 +11,7 @@ use lib.Dec.{eqb, ltb}
 use lib.ListN.{length, get_or}
 use borrow.Author.Tests.{lt-ltb, le-ltb, ltb-true, eqb-true, eq-eqb, not-true, le-leb}
 use Rattle.sets.specs.Set.{on, has, as_one, set_of, any, count, empty_set, is_empty, intersection_of, complement_of, size_of}
-use Rattle.sets.proofs.Digits.{on-word_of}
+use Rattle.sets.proofs.Bits.{on-word_of}
 use Rattle.sets.proofs.Laws.{Words, empty-is, any-never, any_none, has-intersection, has-complement, same-members, words-set_of}
 use Rattle.kinds.specs.declared.Side.{Side}
 use Rattle.kinds.specs.declared.Side.TheVariants.{Other, Word, Newline}

@@ -10,7 +10,7 @@ use lib.Dec.{eqb, ltb}
 use lib.ListN.{get_or}
 use borrow.Author.Tests.{lt-ltb, ltb-true, eqb-true, not-false}
 use Rattle.sets.specs.Set.{on, has, is_empty, set_of}
-use Rattle.sets.proofs.Digits.{on_and, on-zero, on-word_of}
+use Rattle.sets.proofs.Bits.{on_and, on-zero, on-word_of}
 use Rattle.sets.proofs.Laws.{Words, words-set_of, has-set_of, set_of-has, set_of-ext, any_none}
 use Rattle.kinds.specs.Side.{side_of}
 use Rattle.table.specs.Layout.{max_positions, max_rules}

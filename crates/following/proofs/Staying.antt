@@ -10,16 +10,15 @@ use lib.Dec.{eqb, leb, ltb}
 use lib.ListN.{length, get_or}
 use borrow.Author.Tests.{lt-ltb, le-leb, eqb-false}
 use Rattle.sets.specs.Set.{on, any, is_empty}
-use Rattle.sets.proofs.Digits.{on-zero}
+use Rattle.sets.proofs.Bits.{on-zero}
 use Rattle.sets.proofs.Laws.{any-never}
 use Rattle.table.specs.Layout.{rules_of, positions_of}
 use Rattle.table.specs.Table.{is_table}
 use Rattle.table.specs.Automaton.{Automaton, automaton}
 use Rattle.table.proofs.Test.{all-at}
 use Rattle.stream.specs.declared.Stream.{Stream}
-use Rattle.stream.specs.declared.Scanned.{Scanned}
 use Rattle.stream.specs.Byte.{after, reports_by, cost_by, fits_by, byte_state}
-use Rattle.stream.specs.Calls.{Call, space, scan_number}
+use Rattle.stream.specs.Calls.{Scanned, Call, space, scan_number}
 use Rattle.stream.specs.Valid.{stream_limit, live_inside, marks_single, held_inside, pending_inside, pending_late, begun, valid}
 use Rattle.stream.proofs.Accepting.{Fitting, accepted, fitted, valid-is}
 use Rattle.stream.proofs.Results.{fitting-next}

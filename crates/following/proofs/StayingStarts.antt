@@ -23,9 +23,8 @@ use Rattle.stream.proofs.Results.{fitting-next}
 use Rattle.stream.proofs.Machines.{fits_le}
 use Rattle.starts.specs.Order.{start_ok, starts_ok}
 use Rattle.traced.specs.declared.Traced.{Traced}
-use Rattle.traced.specs.declared.Scanned.{Scanned}
 use Rattle.traced.specs.Byte.{counted, late_long, own_long, stream_next, next_state}
-use Rattle.traced.specs.Calls.{Call, space, scan_number, no_starts}
+use Rattle.traced.specs.Calls.{Scanned, Call, space, scan_number, no_starts}
 use Rattle.traced.specs.Valid.{valid}
 use Rattle.traced.proofs.Accepting.{accepted, in_order}
 use Rattle.traced.proofs.Ordered.{order-after}

@@ -4,9 +4,8 @@ use Rattle.std.specs.Prelude.{cond, List, ℕ, eqb, length}
 use Rattle.table.specs.Table.{is_table}
 use Rattle.table.specs.Automaton.{automaton}
 use Rattle.stream.specs.declared.Stream.{Stream}
-use Rattle.stream.specs.declared.Scanned.{Scanned}
 use Rattle.stream.specs.Byte.{after, reports_by, cost_by, fits_by}
-use Rattle.stream.specs.Calls.{Lists, Call, space, written, scan_number}
+use Rattle.stream.specs.Calls.{Scanned, Lists, Call, space, written, scan_number}
 use Rattle.second.specs.Second.{is_second}
 use Rattle.following.specs.Follow.{looked_up, following}
 

@@ -7,9 +7,8 @@ use Rattle.table.specs.Automaton.{Automaton, automaton}
 use Rattle.stream.specs.Byte as stream
 use Rattle.stream.specs.Byte.{Machine, busy_of, two_reports, after, reports_by, cost_by, fits_by}
 use Rattle.traced.specs.declared.Traced.{Traced}
-use Rattle.traced.specs.declared.Scanned.{Scanned}
 use Rattle.traced.specs.Byte.{Report, none, next_state, byte_reports}
-use Rattle.traced.specs.Calls.{Lists, Call, space, written, scan_number, no_starts}
+use Rattle.traced.specs.Calls.{Scanned, Lists, Call, space, written, scan_number, no_starts}
 use Rattle.second.specs.Second.{is_second}
 use Rattle.following.specs.Follow.{Place, at, resting, away, stretch, leads, arrives, rest_entry, standing, late_by, own_by, step_to}
 

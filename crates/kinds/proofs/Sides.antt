@@ -8,7 +8,7 @@ use native.Mathlib.Omega.{arith}
 use borrow.Author.Tests.{eq-eqb, ne_eqb, eqb-true}
 use lib.Dec.{eqb}
 use Rattle.sets.specs.Set.{on, word_of}
-use Rattle.sets.proofs.Digits.{on-word_of}
+use Rattle.sets.proofs.Bits.{on-word_of}
 use Rattle.kinds.specs.Kind.{is_word, is_lower, is_upper, is_digit}
 use Rattle.kinds.specs.Side.{side_of, side_in, side_word}
 use Rattle.kinds.specs.Invariants.{word_digits}

@@ -16,43 +16,43 @@ ghost use Rattle.kinds.specs.Side.{side_of, side_in, side_word};
 ghost use Rattle.kinds.specs.Invariants.{Ruled, bit_of, word_digits};
 
 // The bit of each kind in an entry of the table, in the order of specs/Kind.antt's list of kinds.
-pub const DIGIT: u32 = 1;
+const DIGIT: u32 = 1;
 
-pub const WORD: u32 = 2;
+const WORD: u32 = 2;
 
-pub const SPACE: u32 = 4;
+const SPACE: u32 = 4;
 
-pub const HORIZONTAL: u32 = 8;
+const HORIZONTAL: u32 = 8;
 
-pub const VERTICAL: u32 = 16;
+const VERTICAL: u32 = 16;
 
-pub const LOWER: u32 = 32;
+const LOWER: u32 = 32;
 
-pub const UPPER: u32 = 64;
+const UPPER: u32 = 64;
 
-pub const ALPHA: u32 = 128;
+const ALPHA: u32 = 128;
 
-pub const ALNUM: u32 = 256;
+const ALNUM: u32 = 256;
 
-pub const ASCII: u32 = 512;
+const ASCII: u32 = 512;
 
-pub const BLANK: u32 = 1024;
+const BLANK: u32 = 1024;
 
-pub const CNTRL: u32 = 2048;
+const CNTRL: u32 = 2048;
 
-pub const GRAPH: u32 = 4096;
+const GRAPH: u32 = 4096;
 
-pub const PRINT: u32 = 8192;
+const PRINT: u32 = 8192;
 
-pub const PUNCT: u32 = 16384;
+const PUNCT: u32 = 16384;
 
-pub const XDIGIT: u32 = 32768;
+const XDIGIT: u32 = 32768;
 
 // How far a lower-case letter stands above its upper-case one.
 const CASE_STEP: u8 = 32;
 
 // The types `\d`, `\w`, `\s`, `\h` and `\v`, and the classes by name that are none of these.
-#[derive(Clone, Copy)]
+#[derive(Clone, Copy, Debug, PartialEq, Eq)]
 pub enum Kind {
     Digit,
     Word,
@@ -87,6 +87,13 @@ pub fn kinds_of(b: u8) -> u32
     kinds[b as usize]
 }
 
+// Whether b is of a kind.
+pub fn is(b: u8, k: Kind) -> bool
+    ensures { result ≡ is_kind k b }
+{
+    kinds_of(b) & bit_of(k) != 0
+}
+
 // The bit of a kind.
 fn bit_of(k: Kind) -> u32
     ensures { result ≡ bit_of k }
@@ -116,22 +123,9 @@ pub fn uncased(k: Kind) -> Kind
     ensures { result ≡ uncased k }
 {
     match k {
-        Kind::Digit => Kind::Digit,
-        Kind::Word => Kind::Word,
-        Kind::Space => Kind::Space,
-        Kind::Horizontal => Kind::Horizontal,
-        Kind::Vertical => Kind::Vertical,
-        Kind::Alpha => Kind::Alpha,
         Kind::Lower => Kind::Alpha,
         Kind::Upper => Kind::Alpha,
-        Kind::Alnum => Kind::Alnum,
-        Kind::Ascii => Kind::Ascii,
-        Kind::Blank => Kind::Blank,
-        Kind::Cntrl => Kind::Cntrl,
-        Kind::Graph => Kind::Graph,
-        Kind::Print => Kind::Print,
-        Kind::Punct => Kind::Punct,
-        Kind::Xdigit => Kind::Xdigit,
+        _ => k,
     }
 }
 
@@ -142,13 +136,11 @@ pub fn of_kind(k: Kind) -> [u64; 4]
     let kinds = kind_table();
     let bit = bit_of(k);
     let mut s = sets::empty();
-    let mut i: usize = 0;
-    while i < 256 {
-        if kinds[i] & bit != 0 {
-            let t = sets::insert(s, i as u8);
+    for b in 0..=u8::MAX {
+        if kinds[b as usize] & bit != 0 {
+            let t = sets::insert(s, b);
             s = t;
         }
-        i += 1;
     }
     s
 }
@@ -187,20 +179,17 @@ pub fn close_case(s: [u64; 4]) -> [u64; 4]
 {
     let kinds = kind_table();
     let mut t = sets::empty();
-    let mut i: usize = 0;
-    while i < 256 {
-        let b = i as u8;
-        if sets::contains(s, b) | sets::contains(s, swap_case(b, kinds[i])) {
+    for b in 0..=u8::MAX {
+        if sets::contains(s, b) || sets::contains(s, swap_case(b, kinds[b as usize])) {
             let u = sets::insert(t, b);
             t = u;
         }
-        i += 1;
     }
     t
 }
 
 // What a byte is to an assertion that looks at it from a gap beside it.
-#[derive(Clone, Copy)]
+#[derive(Clone, Copy, Debug, PartialEq, Eq)]
 pub enum Side {
     Other,
     Word,
@@ -244,27 +233,28 @@ const WORD_SIDE: u64 = 1;
 
 const NEWLINE_SIDE: u64 = 2;
 
-// The side that a word names.
-pub fn side_in(word: u64) -> Side
-    ensures { result ≡ side_in word }
-{
-    if word == WORD_SIDE {
-        return Side::Word;
-    }
-    if word == NEWLINE_SIDE {
-        Side::Newline
-    } else {
-        Side::Other
+// The side that a word names: each word names one.
+impl From<u64> for Side {
+    ghost from_gives = { λ word side. side ≡ side_in word };
+
+    fn from(word: u64) -> Side {
+        match word {
+            WORD_SIDE => Side::Word,
+            NEWLINE_SIDE => Side::Newline,
+            _ => Side::Other,
+        }
     }
 }
 
 // The word that names a side.
-pub fn side_word(side: Side) -> u64
-    ensures { result ≡ side_word side }
-{
-    match side {
-        Side::Other => 0,
-        Side::Word => WORD_SIDE,
-        Side::Newline => NEWLINE_SIDE,
+impl From<Side> for u64 {
+    ghost from_gives = { λ side word. word ≡ side_word side };
+
+    fn from(side: Side) -> u64 {
+        match side {
+            Side::Other => 0,
+            Side::Word => WORD_SIDE,
+            Side::Newline => NEWLINE_SIDE,
+        }
     }
 }

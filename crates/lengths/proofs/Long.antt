@@ -8,7 +8,7 @@ use lib.Dec.{eqb, leb}
 use lib.ListN.{get_or}
 use borrow.Author.Tests.{ne_eqb}
 use Rattle.sets.specs.Set.{on, has, any, empty_set}
-use Rattle.sets.proofs.Digits.{on-word_of, word_of-lt}
+use Rattle.sets.proofs.Bits.{on-word_of, word_of-lt}
 use Rattle.sets.proofs.Laws.{Words, has-at, four_of, four_of-set_of, has-set_of, has-empty, set_of-has, set_of-ext, any_none, any-never}
 use Rattle.table.specs.Layout.{max_positions, keepers_at, lengths_of, shortest_at, row_has}
 use Rattle.table.specs.Automaton.{Automaton, automaton}

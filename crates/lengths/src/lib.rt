@@ -8,10 +8,10 @@ ghost use Rattle.std.specs.Prelude.{◌≡◌, ◌+◌, ◌≤◌, ◌<◌, leb,
 ghost use Rattle.table.specs.Layout.{table_words};
 ghost use Rattle.table.specs.Automaton.{automaton};
 ghost use Rattle.steps.specs.Step.{set_on};
-ghost use Rattle.steps.specs.Invariants.{Sifted};
 ghost use Rattle.lengths.specs.Long.{long_in};
 ghost use Rattle.lengths.specs.Invariants.{long_word};
 
+use sets::Digits;
 use table::layout::{KEEPERS_AT, LENGTHS_AT, SHORTEST_AT, TABLE_WORDS};
 
 // Whether a match from a start to an end offset has at least this length.
@@ -24,17 +24,6 @@ fn is_long(start: u64, least: u64, end: u64) -> bool
     least <= end - start
 }
 
-// A word without the digit k, unless that stays.
-fn sift(found: u64, k: usize, stays: bool) -> u64
-    requires { k < 64 }
-    ensures { Sifted found k stays result }
-{
-    if stays {
-        return found;
-    }
-    found & !(1 << k)
-}
-
 // Of the positions of one word, the word i of a set, those that are long enough; `keeping` are
 // those that keep a start, and every other stays.
 fn long_word(word: u64, keeping: u64, i: usize, starts: &[u64; 256], end: u64, words: &[u64]) -> u64
@@ -42,15 +31,12 @@ fn long_word(word: u64, keeping: u64, i: usize, starts: &[u64; 256], end: u64, w
     ensures { result ≡ long_word words.now starts.now end word keeping i }
 {
     let mut found = word;
-    let mut left = word & keeping;
-    while left != 0 {
-        let k = u64::trailing_zeros(left) as usize;
+    for k in Digits(word & keeping) {
         let q = i * 64 + k;
-        let start = starts[q];
-        let least = words[SHORTEST_AT + q];
-        let kept = sift(found, k, is_long(start, least, end));
-        found = kept;
-        left = left & (left - 1);
+        let long = is_long(starts[q], words[SHORTEST_AT + q], end);
+        if !long {
+            found &= !(1 << k);
+        }
     }
     found
 }

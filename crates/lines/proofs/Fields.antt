@@ -12,6 +12,9 @@ use borrow.Author.Tests.{leb-true, ltb-true, eqb-true, le-leb, lt-ltb, eq-eqb}
 use lib.Dec.{leb, ltb}
 use lib.ListN.{length, get_or, drop, get_or-eq_default, length-drop}
 use lib.Seq.{get_or-drop}
+use Rattle.std.specs.Prelude.{Option, None, Some}
+use Rattle.lines.specs.declared.Field.{Field}
+use Rattle.lines.specs.Invariants.{Found}
 use Rattle.lines.specs.Lines.{digits_of, value_from, is_field, field_value, field_size, malformed, rule_line_of}
 
 -- the four properties, as facts
@@ -78,29 +81,20 @@ module _ (s : List ℕ) (from value end : ℕ) (r : Read s from value end) where
     pub space-within : end < length s
     space-within = omega (arith, field-within (drop from s) g, next_of, length-drop from s)
 
--- what is read of a field at a place: whether it is one, its value and where the rest begins
-abbrev pub Found : (v : List ℕ) (from : ℕ) (good : Bool) (value next : ℕ) → Type 0
-Found v from good value next =
-    (good ≡ is_field (drop from v)) × ((value ≡ cond good (field_value (drop from v)) 0) × (next ≡ cond good (from + field_size (drop from v)) 0))
-
 -- a rule line, by its two fields
-module _ (v : List ℕ) (g : Bool) (i next : ℕ) (first : Found v 0 g i next) where
-  pub no-id : g ≡ false → malformed ≡ rule_line_of v
+module _ (v : List ℕ) where
+  pub no-id : Found v 0 None → malformed ≡ rule_line_of v
   unfolding rule_line_of
-  no-id e = rw (sym first.0 ∙ e)
+  no-id e = rw e
 
-  module _ (e : g ≡ true) (h : Bool) (f p : ℕ) (second : Found v next h f p) where
-    rest : next ≡ field_size v
-    rest = first.1.1 ∙ ap (λ (t : Bool). cond t (0 + field_size v) 0) e ∙ zero-add (field_size v)
+  module _ (f : Field) (first : Found v 0 (Some f)) where
+    rest : f.next ≡ field_size v
+    rest = first.1.1 ∙ zero-add (field_size v)
 
-    pub no-flags : h ≡ false → malformed ≡ rule_line_of v
+    pub no-flags : Found v f.next None → malformed ≡ rule_line_of v
     unfolding rule_line_of
-    no-flags k = rw (sym first.0 ∙ e, ← rest, sym second.0 ∙ k)
+    no-flags k = rw (first.0, ← rest, k)
 
-    pub both : h ≡ true → record { good = true; id = i; flags = f; pattern = p } ≡ rule_line_of v
+    pub both : (g : Field) → Found v f.next (Some g) → record { good = true; id = f.value; flags = g.value; pattern = g.next } ≡ rule_line_of v
     unfolding rule_line_of
-    both k =
-        let vi : i ≡ field_value v = first.1.0 ∙ ap (λ (t : Bool). cond t (field_value v) 0) e in
-        let vf : f ≡ field_value (drop next v) = second.1.0 ∙ ap (λ (t : Bool). cond t (field_value (drop next v)) 0) k in
-        let vp : p ≡ next + field_size (drop next v) = second.1.1 ∙ ap (λ (t : Bool). cond t (next + field_size (drop next v)) 0) k in
-        rw (sym first.0 ∙ e, ← rest, sym second.0 ∙ k, vi, vf, vp)
+    both g second = rw (first.0, ← rest, second.0, first.1.0, second.1.0, second.1.1)

@@ -9,8 +9,7 @@ use lib.Dec.{eqb}
 use lib.ListN.{length, get_or, take, drop, length-drop}
 use lib.Seq.{take-append_seam}
 use Rattle.stream.specs.Valid.{stream_limit}
-use Rattle.lines.specs.Lines.{line_length, line_end, value_from, is_field, field_size, rule_line_of}
-use Rattle.lines.specs.declared.RuleLine.{RuleLine}
+use Rattle.lines.specs.Lines.{line_length, line_end, value_from, is_field, field_size, ReadLine, rule_line_of}
 use Rattle.lines.specs.Numbers.{decimal_of, written, askable}
 use Rattle.lines.proofs.Fields.{good-field, field-within}
 use Rattle.lines.proofs.Decimals.{within-some, within-most, within-bytes, within-leading, within-value}
@@ -45,13 +44,13 @@ fields_within v e =
 -- a good rule line's pattern begins at or before the line's end; a malformed one has 0 there
 pub pattern-within : (v : List ℕ) → (rule_line_of v).pattern ≤ length v
 unfolding rule_line_of
-pattern-within v = picked (λ (x : RuleLine). x.pattern ≤ length v) (is_field v && is_field (drop (field_size v) v)) _ _ (fields_within v) (λ e. omega arith)
+pattern-within v = picked (λ (x : ReadLine). x.pattern ≤ length v) (is_field v && is_field (drop (field_size v) v)) _ _ (fields_within v) (λ e. omega arith)
 
 -- a good rule line's id has 32 bits
 pub good-id : (v : List ℕ) → (rule_line_of v).id < 2 ^ 32
 unfolding rule_line_of
 good-id v =
-    picked (λ (x : RuleLine). x.id < 2 ^ 32) (is_field v && is_field (drop (field_size v) v)) _ _
+    picked (λ (x : ReadLine). x.id < 2 ^ 32) (is_field v && is_field (drop (field_size v) v)) _ _
     (λ e. (good-field v ((and-eq-true_iff (is_field v) (is_field (drop (field_size v) v))).0 e).0).small) (λ e. omega arith)
 
 -- ---- numbers in decimal

@@ -1,7 +1,7 @@
 -- A line placed in a buffer. The bytes that a copy has placed are a `paste`; a copy of all of them
 -- is the line placed. A text is a buffer of 80 bytes that ends in zeros, so that what is placed
 -- after it stands in place of zeros.
-use mathlib.Core.Path.{◌≡◌, ap, ◌∙◌}
+use mathlib.Core.Path.{◌≡◌, refl, sym, ap, ◌∙◌}
 use mathlib.Core.List.{List, [], ◌++◌}
 use Prim.Native.Nat.{ℕ, zero, suc, ◌+◌, ◌-◌, ◌≤◌, ◌<◌}
 use native.Mathlib.Nat.{sub-zero}
@@ -16,6 +16,8 @@ use Rattle.lines.specs.Invariants.{text_of, joined}
 use Rattle.lines.specs.declared.Decimal.{Decimal}
 use Rattle.lines.specs.declared.output.Text.{Text}
 use Rattle.lines.proofs.Laws.{written-digits}
+use borrow.Rule.Slice.PartMut.{put_mid}
+use Rattle.std.proofs.lemmas.Slice.{put_mid-paste}
 
 -- ---- a copy
 
@@ -28,22 +30,11 @@ placed-all : (out : List ℕ) (at : ℕ) (line : List ℕ) (n : ℕ) → at + le
 unfolding placed
 placed-all out at line n h e = rw (le-leb _ _ h, e, take_all (length line) line (omega arith))
 
--- what a copy keeps
-abbrev pub Copied : (out : List ℕ) (at : ℕ) (line now : List ℕ) (i : ℕ) → Type 0
-Copied out at line now i = (at + length line ≤ length out) × ((i ≤ length line) × (now ≡ paste out at line i))
-
-pub copied-length : (out : List ℕ) (at : ℕ) (line now : List ℕ) (i : ℕ) → Copied out at line now i → length now ≡ length out
-copied-length out at line now i v = ap length v.1.1 ∙ length-paste out at line i (omega arith) v.1.0
-
--- one byte more is copied
-pub copied-one : (out : List ℕ) (at : ℕ) (line now : List ℕ) (i : ℕ) → Copied out at line now i → i < length line
-    → Copied out at line (set now (at + i) (get_or line i 0)) (i + 1)
-copied-one out at line now i v l =
-    (v.0, (omega arith, rw (v.1.1, add-one) (paste-suc out at line i 0 (omega arith) l)))
-
-pub copied_all : (out : List ℕ) (at : ℕ) (line now : List ℕ) (i : ℕ) → Copied out at line now i → length line ≤ i
-    → buffer (at + i) now ≡ placed (buffer at out) line
-copied_all out at line now i v g = ap (buffer (at + i)) v.1.1 ∙ placed-all out at line i v.0 (omega arith)
+-- a part is written over by the line
+pub copied : (out : List ℕ) (at k : ℕ) (line now : List ℕ) → at + length line ≤ length out → k ≡ length line → now ≡ line
+    → buffer (at + length line) (put_mid at k out now) ≡ placed (buffer at out) line
+copied out at k line now h e f =
+    ap (buffer (at + length line)) (put_mid-paste at k out now line (length line) f (sym e) refl) ∙ placed-all out at line (length line) h refl
 
 -- ---- a text
 

@@ -1,5 +1,8 @@
--- What the private functions of the output keep: a line is put together in an array of its own.
-use Rattle.std.specs.Prelude.{List, ◌++◌, ℕ, ◌-◌, length, replicate}
+-- What the private functions promise one another. Those of the output keep a line in an array of its
+-- own.
+use Rattle.std.specs.Prelude.{◌≡◌, Option, None, Some, true, false, List, ◌++◌, ℕ, ◌+◌, ◌-◌, length, replicate, drop}
+use Rattle.lines.specs.Lines.{is_field, field_value, field_size}
+use Rattle.lines.specs.declared.Field.{Field}
 use Rattle.lines.specs.Output.{Buffer, buffer, placed}
 use Rattle.lines.specs.declared.output.Text.{Text}
 
@@ -13,3 +16,8 @@ as_text b = record { bytes = b.bytes; size = b.next }
 
 unfoldable pub joined : Text → List ℕ → Text
 joined t more = as_text (placed (buffer t.size t.bytes) more)
+
+-- what is read of a field at a place: its value and where the rest begins, if there is one
+abbrev pub Found : (v : List ℕ) (from : ℕ) → Option Field → Type 0
+Found v from None = is_field (drop from v) ≡ false
+Found v from (Some f) = (is_field (drop from v) ≡ true) × ((f.value ≡ field_value (drop from v)) × (f.next ≡ from + field_size (drop from v)))

@@ -1,5 +1,5 @@
 -- Lines of a text, and rule lines. Assumes nothing: these are definitions.
-use Rattle.std.specs.Prelude.{Bool, true, false, cond, ◌&&◌, List, [], ◌∷◌, ℕ, suc, ◌+◌, ◌-◌, ◌*◌, ◌^◌, eqb, leb, ltb, length, get_or, drop}
+use Rattle.std.specs.Prelude.{Bool, Option, None, Some, true, false, cond, ◌&&◌, List, [], ◌∷◌, ℕ, suc, ◌+◌, ◌-◌, ◌*◌, ◌^◌, eqb, leb, ltb, length, get_or, drop}
 use Rattle.lines.specs.declared.RuleLine.{RuleLine}
 
 -- how many bytes stand before the first byte 10: "Lines end at byte 10; the last may lack it."
@@ -35,13 +35,25 @@ field_value v = value_from 0 (digits_of v)
 unfoldable pub field_size : List ℕ → ℕ
 field_size v = length (digits_of v) + 1
 
+-- what is read of a line: whether it is a rule line, its id, its flags, and where its pattern begins
+pub record ReadLine : Type 0 where
+  pub good : Bool
+  pub id : ℕ
+  pub flags : ℕ
+  pub pattern : ℕ
+
 -- what a line that is no rule line gives
-abbrev pub malformed : RuleLine
+abbrev pub malformed : ReadLine
 malformed = record { good = false; id = 0; flags = 0; pattern = 0 }
+
+-- what the reading of a line gives, as such a record
+abbrev pub read_as : Option RuleLine → ReadLine
+read_as None = malformed
+read_as (Some r) = record { good = true; id = r.id; flags = r.flags; pattern = r.pattern }
 
 -- "per line a decimal id, a space, decimal flags, a space, the pattern"; "anything else, an empty
 -- line included, is malformed"
-unfoldable pub rule_line_of : List ℕ → RuleLine
+unfoldable pub rule_line_of : List ℕ → ReadLine
 rule_line_of v =
     let rest : List ℕ = drop (field_size v) v in
     cond (is_field v && is_field rest)

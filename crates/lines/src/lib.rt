@@ -6,9 +6,10 @@
 
 mod output;
 
-ghost use Rattle.std.specs.Prelude.{◌≡◌, cond, ◌&&◌, ◌+◌, ◌^◌, ◌<◌, min, length, get_or, drop, leb};
-ghost use Rattle.lines.specs.Lines.{line_end, digits_of, is_field, field_value, field_size, malformed, rule_line_of};
+ghost use Rattle.std.specs.Prelude.{◌≡◌, ◌&&◌, ◌+◌, ◌^◌, ◌<◌, min, length, get_or, drop, leb};
+ghost use Rattle.lines.specs.Lines.{line_end, digits_of, field_value, read_as, rule_line_of};
 ghost use Rattle.lines.specs.Numbers.{written, askable};
+ghost use Rattle.lines.specs.Invariants.{Found};
 
 pub use output::{put_end, put_refused, put_report, put_reports};
 use stream::STREAM_LIMIT;
@@ -32,16 +33,15 @@ const LARGEST: u64 = 4_294_967_295;
 // Where a number that is read stops growing, so that digits without end wrap nothing.
 const CAP: u64 = 4_294_967_296;
 
-// A rule line: its id, its flags, and where its pattern begins; or malformed, and zeros.
-#[derive(Clone, Copy)]
+// A rule line: its id, its flags, and where its pattern begins.
+#[derive(Clone, Copy, Debug, PartialEq, Eq)]
 pub struct RuleLine {
-    pub good: bool,
     pub id: u32,
     pub flags: u32,
     pub pattern: usize,
 }
 
-// A number in decimal: the first `size` bytes are its digits, the rest zeros.
+// A number in decimal: the first `size` bytes are its digits, the rest zeros. No heap: no `Vec`.
 #[derive(Clone, Copy)]
 pub struct Decimal {
     pub digits: [u8; 20],
@@ -56,10 +56,9 @@ struct Digits {
 }
 
 // A number of a rule line with the space after it: its value, and where the rest of the line
-// begins; or malformed, and zeros.
+// begins.
 #[derive(Clone, Copy)]
 struct Field {
-    good: bool,
     value: u32,
     next: usize,
 }
@@ -68,42 +67,26 @@ struct Field {
 pub fn line_end(text: &[u8], from: usize) -> usize
     ensures { result ≡ line_end text.now from }
 {
-    let mut at = from;
-    while at < text.len() {
+    for at in from..text.len() {
         if text[at] == NEWLINE {
             return at;
         }
-        at += 1;
     }
-    at
+    from.max(text.len())
 }
 
 // The byte at a place; 0 past the end.
 fn byte_at(line: &[u8], at: usize) -> u8
     ensures { result ≡ get_or line.now at 0 }
 {
-    if at < line.len() { line[at] } else { 0 }
+    line.get(at).copied().unwrap_or(0)
 }
 
 // Whether b is a decimal digit.
 fn is_digit(b: u8) -> bool
     ensures { result ≡ (leb 48 b && leb b 57) }
 {
-    (ZERO <= b) & (b <= NINE)
-}
-
-// b as a longer number.
-fn wide(b: u8) -> u64
-    ensures { result ≡ b }
-{
-    b as u64
-}
-
-// A number, or CAP where that is less.
-fn capped(value: u64) -> u64
-    ensures { result ≡ min (2 ^ 32) value }
-{
-    if value < CAP { value } else { CAP }
+    ZERO <= b && b <= NINE
 }
 
 // The digits at a place, of any length.
@@ -112,23 +95,22 @@ fn digits_at(line: &[u8], from: usize) -> Digits
     ensures end { result.end ≡ from + length (digits_of (drop from line.now)) }
 {
     let mut value: u64 = 0;
-    let mut at = from;
-    while at < line.len() {
+    for at in from..line.len() {
         let b = line[at];
         if !is_digit(b) {
             return Digits { value, end: at };
         }
-        value = capped(value * 10 + wide(b - ZERO));
-        at += 1;
+        value = CAP.min(value * 10 + (b - ZERO) as u64);
     }
-    Digits { value, end: at }
+    Digits {
+        value,
+        end: from.max(line.len()),
+    }
 }
 
 // The number of a rule line at a place, with its space.
-fn field_at(line: &[u8], from: usize) -> Field
-    ensures good { result.good ≡ is_field (drop from line.now) }
-    ensures value { result.value ≡ cond result.good (field_value (drop from line.now)) 0 }
-    ensures next { result.next ≡ cond result.good (from + field_size (drop from line.now)) 0 }
+fn field_at(line: &[u8], from: usize) -> Option<Field>
+    ensures { Found line.now from result }
 {
     let digits = digits_at(line, from);
     let value = digits.value;
@@ -136,51 +118,26 @@ fn field_at(line: &[u8], from: usize) -> Field
     let size = end - from;
     let after = byte_at(line, end);
     if 1 <= size && size <= MOST_DIGITS && value <= LARGEST && after == SPACE {
-        let number = value as u32;
-        let next = end + 1;
-        return Field {
-            good: true,
-            value: number,
-            next,
-        };
+        return Some(Field {
+            value: value as u32,
+            next: end + 1,
+        });
     }
-    Field {
-        good: false,
-        value: 0,
-        next: 0,
-    }
-}
-
-// A malformed rule line.
-fn no_rule_line() -> RuleLine
-    ensures { result ≡ malformed }
-{
-    RuleLine {
-        good: false,
-        id: 0,
-        flags: 0,
-        pattern: 0,
-    }
+    None
 }
 
 // A rule line, without its newline: a decimal id, a space, decimal flags, a space, the pattern.
-pub fn rule_line(line: &[u8]) -> RuleLine
-    ensures { result ≡ rule_line_of line.now }
+// Nothing where it is malformed.
+pub fn rule_line(line: &[u8]) -> Option<RuleLine>
+    ensures { read_as result ≡ rule_line_of line.now }
 {
-    let id = field_at(line, 0);
-    if !id.good {
-        return no_rule_line();
-    }
-    let flags = field_at(line, id.next);
-    if !flags.good {
-        return no_rule_line();
-    }
-    RuleLine {
-        good: true,
+    let id = field_at(line, 0)?;
+    let flags = field_at(line, id.next)?;
+    Some(RuleLine {
         id: id.value,
         flags: flags.value,
         pattern: flags.next,
-    }
+    })
 }
 
 // The digit of a number below ten.
@@ -209,6 +166,7 @@ pub fn decimal_of(n: u64) -> Decimal
 }
 
 // How many bytes may be asked for with room for so many, when `taken` of the stream are taken.
+#[tactic(auto, unfolding(crate::specs::Numbers::askable))]
 pub fn askable(taken: u64, room: usize) -> usize
     ensures { result ≡ askable taken room }
 {
@@ -216,5 +174,5 @@ pub fn askable(taken: u64, room: usize) -> usize
         return 0;
     }
     let left = (STREAM_LIMIT - taken) as usize;
-    if left < room { left } else { room }
+    room.min(left)
 }

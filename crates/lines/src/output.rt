@@ -8,7 +8,7 @@ ghost use Rattle.lines.specs.Invariants.{text_of, joined};
 
 use crate::decimal_of;
 
-// A text: the first `size` bytes, the rest zeros. No line has more than 80.
+// A text: the first `size` bytes, the rest zeros. No line has more than 80. No heap: no `Vec`.
 #[derive(Clone, Copy)]
 struct Text {
     bytes: [u8; 80],
@@ -25,12 +25,9 @@ fn place(out: &mut [u8], at: usize, bytes: &[u8]) -> usize
     if out.len() - at < bytes.len() {
         return at;
     }
-    let mut i = 0;
-    while i < bytes.len() {
-        out[at + i] = bytes[i];
-        i += 1;
-    }
-    at + i
+    let end = at + bytes.len();
+    out[at..end].copy_from_slice(bytes);
+    end
 }
 
 // No bytes.
@@ -125,23 +122,14 @@ pub fn put_end(out: &mut [u8], at: usize, taken: u64) -> usize
     place_text(out, at, end_text(taken))
 }
 
-// The smaller of two numbers.
-fn least(a: usize, b: usize) -> usize
-    ensures { result ≡ min a b }
-{
-    if a < b { a } else { b }
-}
-
 // Places the lines of the first `count` reports of two lists in turn; where the next line goes.
 pub fn put_reports(out: &mut [u8], at: usize, ids: &[u32], offsets: &[u64], count: usize) -> usize
     ensures { buffer result out.new ≡ reports_placed (buffer at out.old) ids.now offsets.now (min count (min (length ids.now) (length offsets.now))) }
 {
-    let reports = least(count, least(ids.len(), offsets.len()));
+    let reports = count.min(ids.len().min(offsets.len()));
     let mut next = at;
-    let mut i = 0;
-    while i < reports {
+    for i in 0..reports {
         next = put_report(out, next, ids[i], offsets[i]);
-        i += 1;
     }
     next
 }

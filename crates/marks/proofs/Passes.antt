@@ -4,10 +4,10 @@
 use mathlib.Core.Path.{◌≡◌, refl, sym, subst, ap, ap₂, ◌∙◌}
 use mathlib.Core.Bool.{Bool, true, false, cond}
 use mathlib.Core.List.{List}
-use Prim.Native.Nat.{ℕ, suc, ◌+◌, ◌*◌, ◌-◌, min, ◌≤◌, ◌<◌}
+use Prim.Native.Nat.{ℕ, suc, ◌+◌, ◌-◌, min, ◌≤◌, ◌<◌}
 use native.Mathlib.Omega.{arith}
 use native.Mathlib.Decide.{dec_lt, ℕ_discrete}
-use borrow.Author.Tests.{eq-eqb, ne_eqb}
+use borrow.Author.Tests.{ne_eqb}
 use lib.Dec.{eqb}
 use lib.ListN.{length, get_or, set, length-set}
 use lib.Seq.{get_or-set_same, get_or-set_other}
@@ -16,7 +16,9 @@ use Rattle.marks.specs.Marks.{none, when, ends, moved}
 use Rattle.marks.specs.Parts.{Part, one, then, or, doors_of, size_of, last_of, core_p, ends_p, entered_p, moved_p}
 use Rattle.marks.specs.Gaps.{inner_world, outer_world}
 use Rattle.nodes.specs.Invariants.{Written, form_at}
-use Rattle.marks.specs.Invariants.{has_byte, hits_of, Shows, at, Laid, Plays, core_word, Looked, top_of, entered_at, handed_down, Turned, Moved, Took}
+use Rattle.marks.specs.Invariants.{has_byte, hits_of, Shows, at, Laid, Plays, kind_in, core_word, Looked, top_of, entered_at, handed_down, Turned, Moved, Took}
+use Rattle.marks.specs.declared.parts.Kind.{Kind}
+use Rattle.marks.specs.declared.parts.Kind.TheVariants.{Item, Then, Or}
 use Rattle.meaning.specs.Rule.{Assertion}
 use Rattle.marks.proofs.Skips.{ends-none, moved_none}
 use Rattle.marks.proofs.Laid.{front_at, back_at, round-at}
@@ -177,50 +179,64 @@ module _ (ps : List ℕ) (g : ℕ) (hits : ℕ → Bool) (rs : List ℕ) where
 
 -- ---- what the code reads and writes
 
+-- what can end in a row, and what it does with what comes to its inside, by what the row says
+abbrev core_kind : Kind → (g : ℕ) → (ms es : List ℕ) → ℕ
+core_kind (Item node position) g ms es = min (get_or ms position 0) none
+core_kind (Then left right x y) g ms es = min (when (on y g) (get_or es left 0)) (get_or es right 0)
+core_kind (Or left right) g ms es = min (get_or es left 0) (get_or es right 0)
+
+abbrev marks_kind : Kind → (hits : ℕ → Bool) → List ℕ → ℕ → List ℕ
+marks_kind (Item node position) hits ms i = set ms position (when (hits node) i)
+marks_kind (Then left right x y) hits ms i = ms
+marks_kind (Or left right) hits ms i = ms
+
+abbrev comes_kind : Kind → (g : ℕ) → (es is : List ℕ) → ℕ → List ℕ
+comes_kind (Item node position) g es is i = is
+comes_kind (Then left right x y) g es is i = set (set is left i) right (min (when (on x g) i) (get_or es left 0))
+comes_kind (Or left right) g es is i = set (set is left i) right i
+
 module _ (ps : List ℕ) (j : ℕ) where
-  what-at : {w : ℕ} → w ≡ get_or ps (j * 8) 0 → at ps j 0 ≡ w
-  what-at e = let z : j * 8 + 0 ≡ j * 8 = omega arith in ap (λ (i : ℕ). get_or ps i 0) z ∙ sym e
+  module _ {r k : Kind} (said : r ≡ kind_in ps j) (is_k : r ≡ k) where
+    kind_is : kind_in ps j ≡ k
+    kind_is = sym said ∙ is_k
 
-  module _ (g : ℕ) (ms es : List ℕ) {w y : ℕ} (ew : w ≡ get_or ps (j * 8) 0) (ey : y ≡ at ps j 2) where
-    pub core-item : {m r : ℕ} → w ≡ 0 → m ≡ get_or ms y 0 → r ≡ min m none → r ≡ core_word ps j g ms es
-    core-item z em er = rw (eq-eqb _ 0 (what-at ew ∙ z)) (er ∙ ap (λ (v : ℕ). min v none) (em ∙ ap (λ (i : ℕ). get_or ms i 0) ey))
+    pub core-is : (g : ℕ) (ms es : List ℕ) → core_kind k g ms es ≡ core_word ps j g ms es
+    core-is g ms es = ap (λ (m : Kind). core_kind m g ms es) (sym kind_is) ∙ go (eqb (at ps j 0) 0) (eqb (at ps j 0) 1)
+      where
+        go : (c d : Bool)
+            → core_kind (cond c (Item (at ps j 1) (at ps j 2)) (cond d (Then (at ps j 3) (at ps j 4) (at ps j 1) (at ps j 2)) (Or (at ps j 3) (at ps j 4)))) g ms es
+            ≡ cond c (min (get_or ms (at ps j 2) 0) none) (cond d (min (when (on (at ps j 2) g) (get_or es (at ps j 3) 0)) (get_or es (at ps j 4) 0)) (min (get_or es (at ps j 3) 0) (get_or es (at ps j 4) 0)))
+        go true d = refl
+        go false true = refl
+        go false false = refl
 
-    module _ {a b left right : ℕ} (no : w ≡ 0 → ⊥) (ea : a ≡ at ps j 3) (eb : b ≡ at ps j 4) (el : left ≡ get_or es a 0) (er : right ≡ get_or es b 0) where
-      pub core-then : {h : Bool} {o r : ℕ} → w ≡ 1 → h ≡ on y g → o ≡ when h left → r ≡ min o right → r ≡ core_word ps j g ms es
-      core-then z eh eo e =
-          rw (ne_eqb _ 0 (λ q. no (sym (what-at ew) ∙ q)), eq-eqb _ 1 (what-at ew ∙ z))
-          (e ∙ ap₂ min (eo ∙ ap₂ (λ (c : Bool) (v : ℕ). when c v) (eh ∙ ap (λ (c : ℕ). on c g) ey) (el ∙ ap (λ (i : ℕ). get_or es i 0) ea)) (er ∙ ap (λ (i : ℕ). get_or es i 0) eb))
+    module _ (a : List ℕ) (g x : ℕ) (cs es is ms : List ℕ) where
+      marks-is : (i : ℕ) → marks_kind k (hits_of a x) ms i ≡ cond (eqb (at ps j 0) 0) (set ms (at ps j 2) (when (hits_of a x (at ps j 1)) i)) ms
+      marks-is i = ap (λ (m : Kind). marks_kind m (hits_of a x) ms i) (sym kind_is) ∙ go (eqb (at ps j 0) 0) (eqb (at ps j 0) 1)
+        where
+          go : (c d : Bool)
+              → marks_kind (cond c (Item (at ps j 1) (at ps j 2)) (cond d (Then (at ps j 3) (at ps j 4) (at ps j 1) (at ps j 2)) (Or (at ps j 3) (at ps j 4)))) (hits_of a x) ms i
+              ≡ cond c (set ms (at ps j 2) (when (hits_of a x (at ps j 1)) i)) ms
+          go true d = refl
+          go false true = refl
+          go false false = refl
 
-      pub core-or : {r : ℕ} → (w ≡ 1 → ⊥) → r ≡ min left right → r ≡ core_word ps j g ms es
-      core-or n e =
-          rw (ne_eqb _ 0 (λ q. no (sym (what-at ew) ∙ q)), ne_eqb _ 1 (λ q. n (sym (what-at ew) ∙ q)))
-          (e ∙ ap₂ min (el ∙ ap (λ (i : ℕ). get_or es i 0) ea) (er ∙ ap (λ (i : ℕ). get_or es i 0) eb))
+      comes-is : (i : ℕ) → comes_kind k g es is i ≡ cond (eqb (at ps j 0) 0) is (handed_down ps j g es is i)
+      comes-is i = ap (λ (m : Kind). comes_kind m g es is i) (sym kind_is) ∙ go (eqb (at ps j 0) 0) (eqb (at ps j 0) 1)
+        where
+          go : (c d : Bool)
+              → comes_kind (cond c (Item (at ps j 1) (at ps j 2)) (cond d (Then (at ps j 3) (at ps j 4) (at ps j 1) (at ps j 2)) (Or (at ps j 3) (at ps j 4)))) g es is i
+              ≡ cond c is (set (set is (at ps j 3) i) (at ps j 4) (cond d (min (when (on (at ps j 1) g) i) (get_or es (at ps j 3) 0)) i))
+          go true d = refl
+          go false true = refl
+          go false false = refl
 
-  module _ (g : ℕ) (es is : List ℕ) (i : ℕ) {w a b : ℕ} (ew : w ≡ get_or ps (j * 8) 0) (ea : a ≡ at ps j 3) (eb : b ≡ at ps j 4) where
-    pub hand-then : {x m v : ℕ} {h : Bool} {us vs : List ℕ} → w ≡ 1 → x ≡ at ps j 1 → h ≡ on x g → m ≡ get_or es a 0 → v ≡ min (when h i) m
-        → us ≡ set is a i → vs ≡ set us b v → vs ≡ handed_down ps j g es is i
-    hand-then z ex eh em ev eu e =
-        rw (eq-eqb _ 1 (what-at ew ∙ z), ← ea, ← eb)
-        (e ∙ ap₂ (λ (l : List ℕ) (c : ℕ). set l b c) eu (ev ∙ ap₂ (λ (c : Bool) (d : ℕ). min (when c i) d) (eh ∙ ap (λ (c : ℕ). on c g) ex) em))
-
-    pub hand-or : {us vs : List ℕ} → (w ≡ 1 → ⊥) → us ≡ set is a i → vs ≡ set us b i → vs ≡ handed_down ps j g es is i
-    hand-or n eu e = rw (ne_eqb _ 1 (λ q. n (sym (what-at ew) ∙ q)), ← ea, ← eb) (e ∙ ap (λ (l : List ℕ). set l b i) eu)
-
-  module _ (a : List ℕ) (g x : ℕ) (cs es is ms : List ℕ) {w : ℕ} (ew : w ≡ get_or ps (j * 8) 0) {i : ℕ} (ei : i ≡ entered_at ps j g cs is) where
-    pub turn-item : {k b v : ℕ} {h : Bool} {ns : List ℕ} → w ≡ 0 → k ≡ at ps j 1 → b ≡ at ps j 2 → h ≡ hits_of a x k → v ≡ when h i → ns ≡ set ms b v
-        → Turned a ps j g x cs es ms ns is is
-    turn-item z ek eb eh ev e =
-        let q : eqb (at ps j 0) 0 ≡ true = eq-eqb _ 0 (what-at ew ∙ z) in record {
-          marks = rw q (e ∙ ap₂ (λ (c d : ℕ). set ms c d) eb (ev ∙ ap₂ (λ (c : Bool) (d : ℕ). when c d) (eh ∙ ap (hits_of a x) ek) ei));
-          comes = rw q;
-        }
-
-    pub turn-pair : {us : List ℕ} → (w ≡ 0 → ⊥) → us ≡ handed_down ps j g es is i → Turned a ps j g x cs es ms ms is us
-    turn-pair n e =
-        let q : eqb (at ps j 0) 0 ≡ false = ne_eqb _ 0 (λ z. n (sym (what-at ew) ∙ z)) in record {
-          marks = rw q;
-          comes = rw q (e ∙ ap (handed_down ps j g es is) ei);
-        }
+      pub turned : {i : ℕ} {ns us : List ℕ} → i ≡ entered_at ps j g cs is → ns ≡ marks_kind k (hits_of a x) ms i → us ≡ comes_kind k g es is i
+          → Turned a ps j g x cs es ms ns is us
+      turned {i} ei en eu = record {
+        marks = rw (← ei) (en ∙ marks-is i);
+        comes = rw (← ei) (eu ∙ comes-is i);
+      }
 
   pub turned-length : {a : List ℕ} {g x : ℕ} {cs es ms ns is us : List ℕ} → Turned a ps j g x cs es ms ns is us → (length ns ≡ length ms) × (length us ≡ length is)
   turned-length {a} {g} {x} {cs} {es} {ms} {ns} {is} {us} t =

@@ -13,6 +13,8 @@ use Rattle.marks.specs.Gaps.{inner_world, outer_world, taken}
 use Rattle.marks.specs.Parts.{world_of, all, Doors, Part, one, then, or, size_of, last_of, core_p, ends_p, moved_p}
 use Rattle.marks.specs.declared.byte.Ends.{Ends}
 use Rattle.marks.specs.declared.write_out.Piece.{Piece}
+use Rattle.marks.specs.declared.parts.Kind.{Kind}
+use Rattle.marks.specs.declared.parts.Kind.TheVariants.{Item, Then, Or}
 
 -- ---- gaps
 
@@ -54,6 +56,18 @@ pub record Row (ps : List ℕ) (j what x y : ℕ) (d : Doors) : Type 0 where
   pub front : at ps j 5 ≡ d.front
   pub back : at ps j 6 ≡ d.back
   pub round : at ps j 7 ≡ d.round
+
+-- what row j says, and the words that say it, the doors open but the way round
+abbrev pub kind_in : List ℕ → ℕ → Kind
+kind_in ps j =
+    cond (eqb (at ps j 0) 0) (Item (at ps j 1) (at ps j 2))
+    (cond (eqb (at ps j 0) 1) (Then (at ps j 3) (at ps j 4) (at ps j 1) (at ps j 2))
+    (Or (at ps j 3) (at ps j 4)))
+
+abbrev pub words_of : Kind → List ℕ
+words_of (Item node position) = 0 ∷ node ∷ position ∷ 0 ∷ 0 ∷ all ∷ all ∷ 0 ∷ []
+words_of (Then left right x y) = 1 ∷ x ∷ y ∷ left ∷ right ∷ all ∷ all ∷ 0 ∷ []
+words_of (Or left right) = 2 ∷ 0 ∷ 0 ∷ left ∷ right ∷ all ∷ all ∷ 0 ∷ []
 
 -- the part stands in the rows from n on, its positions numbered from b on
 unfoldable pub Laid : List ℕ → (n b : ℕ) → Part → Type 0

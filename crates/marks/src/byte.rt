@@ -17,6 +17,11 @@ pub struct Ends {
     pub own: u64,
 }
 
+const NOTHING: Ends = Ends {
+    late: NONE,
+    own: NONE,
+};
+
 // What can end in the last of the rows, which is the whole.
 fn top(ends: &[u64], rows: usize) -> u64
     ensures { result ≡ top_of rows ends.now }
@@ -27,59 +32,46 @@ fn top(ends: &[u64], rows: usize) -> u64
     word(ends, rows - 1)
 }
 
-// Takes the byte at offset k, which the log has.
-fn pass(
-    a: &[u64],
-    root: usize,
-    parts: &[u64],
-    rows: usize,
-    marks: &mut [u64; 256],
-    log: &[u8],
-    k: usize,
-    last: bool,
-) -> Ends
-    requires { (k < length log.now) × (rows < 512) }
-    ensures { Taking a.now root parts.now rows log.now k → Took (form_at a.now root) log.now k last marks.old marks.new result }
-{
-    let mut cores = [NONE; ROWS];
-    let mut ends = [NONE; ROWS];
-    let inner = gaps::inner(log, k, last);
-    moves::look(parts, rows, inner, marks, &mut cores, &mut ends);
-    let late = top(&ends, rows);
-    moves::step(
-        a, parts, rows, inner, log[k], marks, &cores, &ends, k as u64,
-    );
-    let outer = gaps::outer(log, k, last);
-    moves::look(parts, rows, outer, marks, &mut cores, &mut ends);
-    let own = top(&ends, rows);
-    Ends { late, own }
+// A rule that is written out: its nodes and their root, and its rows in words.
+#[derive(Clone, Copy)]
+pub struct Rule<'a> {
+    pub nodes: &'a [u64],
+    pub root: usize,
+    pub parts: &'a [u64],
+    pub rows: usize,
 }
 
-// Takes the byte at offset k; `last` says that the log is known to end with it. Nothing ends at a
-// byte that the log has not.
-pub fn take_byte(
-    a: &[u64],
-    root: usize,
-    parts: &[u64],
-    rows: usize,
-    marks: &mut [u64; 256],
-    log: &[u8],
-    k: usize,
-    last: bool,
-) -> Ends
-    ensures { Taking a.now root parts.now rows log.now k → Took (form_at a.now root) log.now k last marks.old marks.new result }
-{
-    if k >= log.len() {
-        return Ends {
-            late: NONE,
-            own: NONE,
-        };
+impl<'a> Rule<'a> {
+    // Takes the byte at offset k, which the log has.
+    fn pass(&self, marks: &mut [u64; 256], log: &[u8], k: usize, last: bool) -> Ends
+        requires { (k < length log.now) × (self.now.rows < 512) }
+        ensures { Taking self.now.nodes.now self.now.root self.now.parts.now self.now.rows log.now k → Took (form_at self.now.nodes.now self.now.root) log.now k last marks.old marks.new result }
+    {
+        let mut cores = [NONE; ROWS];
+        let mut ends = [NONE; ROWS];
+        let inner = gaps::inner(log, k, last);
+        moves::look(self.parts, self.rows, inner, marks, &mut cores, &mut ends);
+        let late = top(&ends, self.rows);
+        moves::step(
+            self.nodes, self.parts, self.rows, inner, log[k], marks, &cores, &ends, k as u64,
+        );
+        let outer = gaps::outer(log, k, last);
+        moves::look(self.parts, self.rows, outer, marks, &mut cores, &mut ends);
+        let own = top(&ends, self.rows);
+        Ends { late, own }
     }
-    if rows >= ROWS {
-        return Ends {
-            late: NONE,
-            own: NONE,
-        };
+
+    // Takes the byte at offset k; `last` says that the log is known to end with it. Nothing ends at
+    // a byte that the log has not.
+    pub fn take_byte(&self, marks: &mut [u64; 256], log: &[u8], k: usize, last: bool) -> Ends
+        ensures { Taking self.now.nodes.now self.now.root self.now.parts.now self.now.rows log.now k → Took (form_at self.now.nodes.now self.now.root) log.now k last marks.old marks.new result }
+    {
+        if k >= log.len() {
+            return NOTHING;
+        }
+        if self.rows >= ROWS {
+            return NOTHING;
+        }
+        self.pass(marks, log, k, last)
     }
-    pass(a, root, parts, rows, marks, log, k, last)
 }

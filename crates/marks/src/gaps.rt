@@ -3,13 +3,13 @@
 ghost use Rattle.std.specs.Prelude.{◌≡◌, ◌≤◌, ◌<◌, length, take, get_or};
 ghost use Rattle.kinds.specs.Side.{side_of};
 ghost use Rattle.meaning.specs.Gap.{Known, known_before};
-ghost use Rattle.nodes.specs.Nodes.{assertion_of};
+ghost use Rattle.nodes.specs.Node.{meant};
 ghost use Rattle.marks.specs.Parts.{mask_of, side_code};
 ghost use Rattle.marks.specs.Gaps.{inner_world, outer_world};
 ghost use Rattle.marks.specs.Invariants.{Shows};
 
 use kinds::Side;
-use nodes::layout;
+use nodes::layout::Assertion;
 
 // Before a gap stands the start of the log, 0, or a byte: a newline 1, one of `\w` 2, another 3.
 // After it a newline 0, one of `\w` 1, another byte 2, the newline that is the last byte 3, the end
@@ -27,8 +27,7 @@ pub(super) const ALL: u64 = 0xFF_FFFF;
 fn side(x: u8) -> u64
     ensures { result ≡ side_code (Known.byte (side_of x)) }
 {
-    let side = kinds::side_of(x);
-    match side {
+    match kinds::side_of(x) {
         Side::Newline => 1,
         Side::Word => 2,
         Side::Other => 3,
@@ -71,17 +70,17 @@ pub(super) fn outer(log: &[u8], k: usize, last: bool) -> u64
     UNKNOWN + side
 }
 
-// The gaps at which the assertion of this number holds; every number above the last stands for it.
-pub(super) fn assertion(x: u64) -> u64
-    ensures { result ≡ mask_of (assertion_of x) }
+// The gaps at which an assertion holds.
+pub(super) fn assertion(assertion: Assertion) -> u64
+    ensures { result ≡ mask_of (meant assertion) }
 {
-    match x {
-        layout::AT_START => 0x11_1111,
-        layout::AT_END => 0x0F_0000,
-        layout::AT_LAST_LINE => 0x0F_F000,
-        layout::LINE_START => 0x11_3333,
-        layout::LINE_END => 0x0F_F00F,
-        layout::WORD_EDGE => 0x04_44B4,
-        _ => 0x0B_BB4B,
+    match assertion {
+        Assertion::AtStart => 0x11_1111,
+        Assertion::AtEnd => 0x0F_0000,
+        Assertion::AtLastLine => 0x0F_F000,
+        Assertion::LineStart => 0x11_3333,
+        Assertion::LineEnd => 0x0F_F00F,
+        Assertion::WordEdge => 0x04_44B4,
+        Assertion::NoWordEdge => 0x0B_BB4B,
     }
 }

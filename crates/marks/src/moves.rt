@@ -1,12 +1,12 @@
 // One gap of the log, over the rows. `look` goes up, children first: what can end in each part.
 // `step` goes down: what comes to each part, and each item takes the next byte. Starts are least
 // starts, and NONE stands for no start.
-ghost use Rattle.std.specs.Prelude.{◌≡◌, ◌+◌, ◌*◌, ◌<◌, ◌≤◌, length, set};
+ghost use Rattle.std.specs.Prelude.{◌≡◌, ◌<◌, set};
 ghost use Rattle.sets.specs.Set.{on, has};
 ghost use Rattle.nodes.specs.Invariants.{set_at};
-ghost use Rattle.marks.specs.Invariants.{core_word, entered_at, handed_down, Looks, Turned, Moving, Moved};
+ghost use Rattle.marks.specs.Invariants.{core_word, entered_at, Looks, Turned, Moving, Moved};
 
-use crate::parts::WORDS;
+use crate::parts::Kind;
 use crate::starts::NONE;
 use crate::{parts, starts};
 use nodes::layout::word;
@@ -35,8 +35,7 @@ fn put(s: &mut [u64], k: usize, v: u64)
 fn takes(a: &[u64], k: usize, byte: u8) -> bool
     ensures { result ≡ has (set_at a.now k) byte }
 {
-    let from = if k < 4 { 0 } else { k - 4 };
-    word(a, from + byte as usize / 64) >> (byte % 64) & 1 == 1
+    word(a, k.saturating_sub(4) + byte as usize / 64) >> (byte % 64) & 1 == 1
 }
 
 // What can end in row j behind its doors, where `ends` has it of the rows below.
@@ -44,18 +43,16 @@ fn core(parts: &[u64], j: usize, g: u64, marks: &[u64], ends: &[u64]) -> u64
     requires { (j < 512) × (g < 24) }
     ensures { result ≡ core_word parts.now j g marks.now ends.now }
 {
-    let i = j * 8;
-    let what = word(parts, i);
-    let y = word(parts, i + parts::Y);
-    if what == parts::ITEM {
-        return starts::least(word(marks, y as usize), NONE);
+    match parts::read(parts, j) {
+        Kind::Item { position, .. } => word(marks, position).min(NONE),
+        Kind::Then {
+            left,
+            right,
+            right_null,
+            ..
+        } => starts::passed(has(right_null, g), word(ends, left), word(ends, right)),
+        Kind::Or { left, right } => word(ends, left).min(word(ends, right)),
     }
-    let left = word(ends, word(parts, i + parts::LEFT) as usize);
-    let right = word(ends, word(parts, i + parts::RIGHT) as usize);
-    if what == parts::THEN {
-        return starts::least(starts::only(has(y, g), left), right);
-    }
-    starts::least(left, right)
 }
 
 // What can end in each of the first n rows at gap g, behind its doors and before them.
@@ -70,12 +67,10 @@ pub(super) fn look(
     requires { (n < 512) × (g < 24) }
     ensures { Looks parts.now n g marks.now cores.old cores.new ends.old ends.new }
 {
-    let mut j: usize = 0;
-    while j < n {
+    for j in 0..n {
         let c = core(parts, j, g, marks, ends);
         cores[j] = c;
         ends[j] = starts::only(has(word(parts, j * 8 + parts::BACK), g), c);
-        j += 1;
     }
 }
 
@@ -86,34 +81,11 @@ fn entered(parts: &[u64], j: usize, g: u64, cores: &[u64], comes: &[u64]) -> u64
 {
     let i = j * 8;
     let come = starts::only(has(word(parts, i + parts::FRONT), g), word(comes, j));
-    starts::least(
-        come,
-        starts::only(has(word(parts, i + parts::ROUND), g), word(cores, j)),
-    )
+    come.min(starts::only(has(word(parts, i + parts::ROUND), g), word(cores, j)))
 }
 
-// Hands what comes to the inside of row j, no item, to the rows of its two parts.
-fn hand_down(parts: &[u64], j: usize, g: u64, ends: &[u64], comes: &mut [u64], come: u64)
-    requires { (j < 512) × (g < 24) }
-    ensures { comes.new ≡ handed_down parts.now j g ends.now comes.old come }
-{
-    let i = j * 8;
-    let left = word(parts, i + parts::LEFT) as usize;
-    let right = word(parts, i + parts::RIGHT) as usize;
-    put(comes, left, come);
-    if word(parts, i) == parts::THEN {
-        let x = word(parts, i + parts::X);
-        put(
-            comes,
-            right,
-            starts::passed(has(x, g), come, word(ends, left)),
-        );
-    } else {
-        put(comes, right, come);
-    }
-}
-
-// Row j: an item takes the byte, another part hands down what comes.
+// Row j: an item takes the byte, another part hands what comes to its inside down to the rows of
+// its two parts.
 fn turn(
     a: &[u64],
     parts: &[u64],
@@ -128,14 +100,29 @@ fn turn(
     requires { (j < 512) × (g < 24) }
     ensures { Turned a.now parts.now j g byte cores.now ends.now marks.old marks.new comes.old comes.new }
 {
-    let i = entered(parts, j, g, cores, comes);
-    if word(parts, j * 8) == parts::ITEM {
-        let k = word(parts, j * 8 + parts::X) as usize;
-        let p = word(parts, j * 8 + parts::Y) as usize;
-        put(marks, p, starts::only(takes(a, k, byte), i));
-        return;
+    let come = entered(parts, j, g, cores, comes);
+    match parts::read(parts, j) {
+        Kind::Item { node, position } => {
+            put(marks, position, starts::only(takes(a, node, byte), come));
+        }
+        Kind::Then {
+            left,
+            right,
+            left_null,
+            ..
+        } => {
+            put(comes, left, come);
+            put(
+                comes,
+                right,
+                starts::passed(has(left_null, g), come, word(ends, left)),
+            );
+        }
+        Kind::Or { left, right } => {
+            put(comes, left, come);
+            put(comes, right, come);
+        }
     }
-    hand_down(parts, j, g, ends, comes, i);
 }
 
 // The marks once each item has taken the byte, where `come` comes to the whole.
@@ -154,9 +141,7 @@ pub(super) fn step(
     ensures { Moved a.now parts.now n g byte marks.old marks.new come }
 {
     let mut comes = [come; ROWS];
-    let mut j = n;
-    while j > 0 {
-        j -= 1;
+    for j in (0..n).rev() {
         turn(a, parts, j, g, byte, marks, cores, ends, &mut comes);
     }
 }

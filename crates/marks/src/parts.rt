@@ -6,46 +6,78 @@ ghost use Rattle.std.specs.Prelude.{◌≡◌, [], ◌∷◌, ◌+◌, ◌*◌, 
 ghost use Rattle.std.specs.Int.Bits.{bit_and, bit_or};
 ghost use Rattle.std.proofs.lemmas.List.Edits.{sets};
 ghost use Rattle.marks.specs.Parts.{all};
-ghost use Rattle.marks.specs.Invariants.{widened};
+ghost use Rattle.marks.specs.Invariants.{kind_in, words_of, widened};
 
 use crate::gaps::ALL;
+use nodes::layout::word;
 
 // Words for the rows of any rule, eight a row.
 pub const WORDS: usize = 4096;
 
-// What a part is.
-pub(super) const ITEM: u64 = 0;
+// What a row says of its part, but for the doors.
+#[derive(Clone, Copy, Debug, PartialEq, Eq)]
+pub(super) enum Kind {
+    // the item of a node, and its position
+    Item {
+        node: usize,
+        position: usize,
+    },
+    // the parts of two rows, one after the other, and the gaps at which each of them can be passed
+    // without a byte
+    Then {
+        left: usize,
+        right: usize,
+        left_null: u64,
+        right_null: u64,
+    },
+    // one of the parts of two rows
+    Or {
+        left: usize,
+        right: usize,
+    },
+}
 
-pub(super) const THEN: u64 = 1;
+// The first word of a row by its kind.
+const ITEM: u64 = 0;
 
-pub(super) const OR: u64 = 2;
+const THEN: u64 = 1;
 
-// The words of a row: what it is; an item's node, or the gaps at which the left part can be passed
-// without a byte; an item's position, or the same of the right part; the rows of both; the doors.
-pub(super) const X: usize = 1;
+const OR: u64 = 2;
 
-pub(super) const Y: usize = 2;
-
-pub(super) const LEFT: usize = 3;
-
-pub(super) const RIGHT: usize = 4;
-
+// The words of the doors.
 pub(super) const FRONT: usize = 5;
 
 pub(super) const BACK: usize = 6;
 
 pub(super) const ROUND: usize = 7;
 
+// What row j says.
+pub(super) fn read(parts: &[u64], j: usize) -> Kind
+    requires { j < 512 }
+    ensures { result ≡ kind_in parts.now j }
+{
+    let i = j * 8;
+    let x = word(parts, i + 1);
+    let y = word(parts, i + 2);
+    let left = word(parts, i + 3) as usize;
+    let right = word(parts, i + 4) as usize;
+    match word(parts, i) {
+        ITEM => Kind::Item {
+            node: x as usize,
+            position: y as usize,
+        },
+        THEN => Kind::Then {
+            left,
+            right,
+            left_null: x,
+            right_null: y,
+        },
+        _ => Kind::Or { left, right },
+    }
+}
+
 // Writes row j, its doors open but the way round.
-pub(super) fn put(
-    parts: &mut [u64; WORDS],
-    j: usize,
-    what: u64,
-    x: u64,
-    y: u64,
-    left: u64,
-    right: u64,
-)
+fn store(parts: &mut [u64; WORDS], j: usize, what: u64, x: u64, y: u64, left: usize, right: usize)
     requires { j < 512 }
     ensures { parts.new ≡ sets parts.old (j * 8) (what ∷ x ∷ y ∷ left ∷ right ∷ all ∷ all ∷ 0 ∷ []) }
 {
@@ -53,11 +85,28 @@ pub(super) fn put(
     parts[i] = what;
     parts[i + 1] = x;
     parts[i + 2] = y;
-    parts[i + 3] = left;
-    parts[i + 4] = right;
-    parts[i + 5] = ALL;
-    parts[i + 6] = ALL;
-    parts[i + 7] = 0;
+    parts[i + 3] = left as u64;
+    parts[i + 4] = right as u64;
+    parts[i + FRONT] = ALL;
+    parts[i + BACK] = ALL;
+    parts[i + ROUND] = 0;
+}
+
+// Writes what row j says, its doors open but the way round.
+pub(super) fn put(parts: &mut [u64; WORDS], j: usize, kind: Kind)
+    requires { j < 512 }
+    ensures { parts.new ≡ sets parts.old (j * 8) (words_of kind) }
+{
+    match kind {
+        Kind::Item { node, position } => store(parts, j, ITEM, node as u64, position as u64, 0, 0),
+        Kind::Then {
+            left,
+            right,
+            left_null,
+            right_null,
+        } => store(parts, j, THEN, left_null, right_null, left, right),
+        Kind::Or { left, right } => store(parts, j, OR, 0, 0, left, right),
+    }
 }
 
 // Shuts a door of row j but at these gaps.
@@ -66,7 +115,7 @@ pub(super) fn narrow(parts: &mut [u64; WORDS], j: usize, door: usize, mask: u64)
     ensures { parts.new ≡ set parts.old (j * 8 + door) (bit_and (get_or parts.old (j * 8 + door) 0) mask) }
 {
     let i = j * 8 + door;
-    parts[i] = parts[i] & mask;
+    parts[i] &= mask;
 }
 
 // Opens the way round at the gaps at which row j can be left and entered.
@@ -75,5 +124,5 @@ pub(super) fn widen(parts: &mut [u64; WORDS], j: usize)
     ensures { parts.new ≡ widened parts.old j }
 {
     let i = j * 8;
-    parts[i + 7] = parts[i + 7] | parts[i + 5] & parts[i + 6];
+    parts[i + ROUND] |= parts[i + FRONT] & parts[i + BACK];
 }

@@ -6,13 +6,6 @@ ghost use Rattle.marks.specs.Marks.{when};
 // No start: more than any offset of a log.
 pub const NONE: u64 = 65535;
 
-// The earlier of two starts.
-pub(super) fn least(x: u64, y: u64) -> u64
-    ensures { result ≡ min x y }
-{
-    if x < y { x } else { y }
-}
-
 // A start where b holds.
 pub(super) fn only(b: bool, x: u64) -> u64
     ensures { result ≡ when b x }
@@ -25,5 +18,5 @@ pub(super) fn only(b: bool, x: u64) -> u64
 pub(super) fn passed(null: bool, come: u64, ends: u64) -> u64
     ensures { result ≡ min (when null come) ends }
 {
-    least(only(null, come), ends)
+    only(null, come).min(ends)
 }

@@ -1,22 +1,26 @@
 // The written-out form, node by node: each function writes the rows of its form from row `at` on,
 // its positions numbered from b on, and says how many positions it has and at which gaps it can be
 // passed without a byte. The node number falls; within a repeat the number of copies does.
-ghost use Rattle.std.specs.Prelude.{◌≡◌, ◌+◌, ◌*◌, ◌<◌, ◌≤◌};
+ghost use Rattle.std.specs.Prelude.{◌≡◌, ◌^◌, ◌<◌, ◌≤◌};
 ghost use Rattle.meaning.specs.Form.{seq, alt, repeated};
 ghost use Rattle.nodes.specs.Invariants.{form_at, child_form, extra};
 ghost use Rattle.marks.specs.Invariants.{Room, Made, Wrote, rows_of, open_if, Joined, seq_piece, seq_rows, alt_piece, alt_rows};
 
 use crate::gaps::ALL;
-use crate::parts::WORDS;
+use crate::parts::{Kind, WORDS};
 use crate::{gaps, parts};
-use nodes::layout;
-use nodes::layout::word;
+use nodes::layout::{Node, node_at};
 
 // What a form is to those around it.
 #[derive(Clone, Copy)]
 struct Piece {
     pub size: usize,
     pub null: u64,
+}
+
+impl Piece {
+    // What takes no byte, and can be passed at every gap.
+    const BARE: Piece = Piece { size: 0, null: ALL };
 }
 
 // How many rows so many positions have.
@@ -59,11 +63,12 @@ fn then(f: Piece, g: Piece, at: usize, out: &mut [u64; WORDS]) -> Piece
     parts::put(
         out,
         right,
-        parts::THEN,
-        f.null,
-        g.null,
-        (left - 1) as u64,
-        (right - 1) as u64,
+        Kind::Then {
+            left: left - 1,
+            right: right - 1,
+            left_null: f.null,
+            right_null: g.null,
+        },
     );
     r
 }
@@ -85,25 +90,25 @@ fn or(f: Piece, g: Piece, at: usize, out: &mut [u64; WORDS]) -> Piece
     parts::put(
         out,
         right,
-        parts::OR,
-        0,
-        0,
-        (left - 1) as u64,
-        (right - 1) as u64,
+        Kind::Or {
+            left: left - 1,
+            right: right - 1,
+        },
     );
     r
 }
 
 // Child x of node k: one that is not smaller is empty.
 #[cycle(child_copies_node)]
-fn child(a: &[u64], k: usize, x: u64, b: usize, at: usize, out: &mut [u64; WORDS]) -> Piece
+fn child(a: &[u64], k: usize, x: usize, b: usize, at: usize, out: &mut [u64; WORDS]) -> Piece
     requires { Room (child_form a.now k x) b at out.old }
     ensures { Made a.now (child_form a.now k x) b at out.old out.new result }
 {
-    if x < k as u64 {
-        return node(a, x as usize, b, at, out);
+    if x < k {
+        node(a, x, b, at, out)
+    } else {
+        Piece::BARE
     }
-    Piece { size: 0, null: ALL }
 }
 
 // n copies of child x, and then any number or up to j more. One that takes no byte stands for all.
@@ -111,7 +116,7 @@ fn child(a: &[u64], k: usize, x: u64, b: usize, at: usize, out: &mut [u64; WORDS
 fn copies(
     a: &[u64],
     k: usize,
-    x: u64,
+    x: usize,
     n: u64,
     endless: bool,
     j: u64,
@@ -119,11 +124,11 @@ fn copies(
     at: usize,
     out: &mut [u64; WORDS],
 ) -> Piece
-    requires { (n < 131072) × (j < 2147483648) × Room (repeated (child_form a.now k x) n (extra endless j)) b at out.old }
+    requires { (n < 2 ^ 17) × (j < 2 ^ 31) × Room (repeated (child_form a.now k x) n (extra endless j)) b at out.old }
     ensures { Made a.now (repeated (child_form a.now k x) n (extra endless j)) b at out.old out.new result }
 {
     if (n == 0) & (j == 0) & !endless {
-        return Piece { size: 0, null: ALL };
+        return Piece::BARE;
     }
     let f = child(a, k, x, b, at, out);
     let null = open_if(n == 0, f.null);
@@ -153,33 +158,38 @@ fn node(a: &[u64], k: usize, b: usize, at: usize, out: &mut [u64; WORDS]) -> Pie
     requires { Room (form_at a.now k) b at out.old }
     ensures { Made a.now (form_at a.now k) b at out.old out.new result }
 {
-    let w = word(a, k);
-    let op = w % 8;
-    let x = w / 8 % 8192;
-    let y = w / 65536 % 131072;
-    let z = w / 8589934592;
-    if op == layout::ITEM {
-        parts::put(out, at, parts::ITEM, k as u64, b as u64, 0, 0);
-        return Piece { size: 1, null: 0 };
-    }
-    if op == layout::ASSERTION {
-        return Piece {
-            size: 0,
-            null: gaps::assertion(x),
-        };
-    }
-    if (op == layout::THEN) | (op == layout::OR) {
-        let f = child(a, k, x, b, at, out);
-        let g = child(a, k, y, b + f.size, at + rows(f.size), out);
-        if op == layout::THEN {
-            return then(f, g, at, out);
+    match node_at(a, k) {
+        Node::Empty => Piece::BARE,
+        Node::Item => {
+            parts::put(
+                out,
+                at,
+                Kind::Item {
+                    node: k,
+                    position: b,
+                },
+            );
+            Piece { size: 1, null: 0 }
         }
-        return or(f, g, at, out);
+        Node::Assertion(assertion) => Piece {
+            size: 0,
+            null: gaps::assertion(assertion),
+        },
+        Node::Then(x, y) => {
+            let f = child(a, k, x, b, at, out);
+            let g = child(a, k, y, b + f.size, at + rows(f.size), out);
+            then(f, g, at, out)
+        }
+        Node::Or(x, y) => {
+            let f = child(a, k, x, b, at, out);
+            let g = child(a, k, y, b + f.size, at + rows(f.size), out);
+            or(f, g, at, out)
+        }
+        Node::Repeat { child, least, more } => match more {
+            None => copies(a, k, child, least, true, 0, b, at, out),
+            Some(j) => copies(a, k, child, least, false, j, b, at, out),
+        },
     }
-    if op == layout::REPEAT {
-        return copies(a, k, x, y, z == layout::ENDLESS, z, b, at, out);
-    }
-    Piece { size: 0, null: ALL }
 }
 
 // The whole rule, from row 0 on; how many rows it has. One of more than 256 positions has none.

@@ -5,7 +5,10 @@
 #![tactic(auto)]
 
 ghost use Rattle.std.specs.Prelude.{◌≡◌};
+ghost use Rattle.refusals.specs.Refusal.{code_of};
 ghost use Rattle.matched.specs.Matched.{in_block, in_tail, matched_bytes, matched_part, matched_number};
+
+use refusals::Refusal;
 
 // Whether the block holds the offsets from `start` up to `end`. The difference is taken where it
 // cannot wrap.
@@ -52,7 +55,7 @@ pub fn matched_bytes<'a>(
 }
 
 // Where bytes stand: in the tail or in the block, from which place on, and how many.
-#[derive(Clone, Copy)]
+#[derive(Clone, Copy, Debug, PartialEq, Eq)]
 pub struct Part {
     pub tail: bool,
     pub place: usize,
@@ -84,15 +87,21 @@ pub fn matched_part(tail: &[u8], block: &[u8], offset: u64, start: u64, end: u64
     }
 }
 
-// The number of the same question: 25 where neither holds them all.
-pub fn matched_number(tail: &[u8], block: &[u8], offset: u64, start: u64, end: u64) -> u32
-    ensures { result ≡ matched_number tail.now block.now offset start end }
+// The answer to the same question: refused where neither holds them all.
+pub fn matched_number(
+    tail: &[u8],
+    block: &[u8],
+    offset: u64,
+    start: u64,
+    end: u64,
+) -> Result<(), Refusal>
+    ensures { code_of result ≡ matched_number tail.now block.now offset start end }
 {
     if in_block(block, offset, start, end) {
-        return 0;
+        return Ok(());
     }
     if in_tail(tail, offset, start, end) {
-        return 0;
+        return Ok(());
     }
-    25
+    Err(Refusal::NotKept)
 }

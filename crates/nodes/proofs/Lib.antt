@@ -2,5 +2,6 @@
 -- (a node and its written-out form by its word).
 pub mod Base
 pub mod Trees
+pub mod Nodes
 pub mod Counts
 pub mod Forms

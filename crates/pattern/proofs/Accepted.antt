@@ -13,12 +13,12 @@ use borrow.Author.Tests.{eqb-false, leb-true, ltb-true, ne_eqb, le-leb, lt-ltb, 
 use lib.Dec.{T, eqb, leb, ltb}
 use lib.ListN.{length, get_or, drop, length-drop}
 use lib.Seq.{get_or-drop, drop-drop}
-use Rattle.classes.specs.declared as declared
+use Rattle.classes.specs.Class as classes
 use Rattle.tokens.specs.declared.Options.{Options}
-use Rattle.classes.specs.declared.Member.{Member}
-use Rattle.tokens.specs.declared.Token.{Token}
-use Rattle.tokens.specs.declared.Token.TheVariants.{Finish, Bar, Close, Class, One, Open, Set, Note, Unclosed, Repeat, Bad}
-use Rattle.tokens.specs.declared.Lexeme.{Lexeme}
+use Rattle.classes.specs.Class.{Member}
+use Rattle.tokens.specs.Lexeme.{Token}
+use Rattle.tokens.specs.Lexeme.{Finish, Bar, Close, Class, One, Open, Set, Note, Unclosed, Repeat, Bad}
+use Rattle.tokens.specs.Lexeme.{Lexeme}
 use Rattle.atoms.specs.Fault.{lower}
 use Rattle.atoms.specs.Quote.{opens_quote}
 use Rattle.classes.specs.Class.{spelled_at, member_at, joined, members_of, class_of}
@@ -132,7 +132,7 @@ module _ (s : List ℕ) (o : Options) where
       (λ e z. Reason.member_raw p caseless quoted M (is_T _ e))
       (λ z. absurd (z refl)))
 
-  abbrev ClassExplained : declared.Class.Class → Type 0
+  abbrev ClassExplained : classes.Class → Type 0
   ClassExplained c = Explained c.place c.number
 
   module _ (caseless : Bool) (bracket : ℕ) (C : ClassAt s o caseless bracket) (inside : bracket + 1 ≤ length s) where
@@ -379,8 +379,8 @@ module _ (s : List ℕ) (o : Options) where
       ∙ O.same
       ∙ members-fault caseless O.negated M.is_first quoted O.set s at M.inside M.unmarked m M.member refl (λ z. omega (arith, f.some)) in
       class-refuses M.bracket C.state C.stands n at C.token
-      (subst (AtMost n) (sym (ap (λ (c : declared.Class.Class). c.number) e)) f)
-      (ap (λ (c : declared.Class.Class). c.place) e)
+      (subst (AtMost n) (sym (ap (λ (c : classes.Class). c.number) e)) f)
+      (ap (λ (c : classes.Class). c.place) e)
 
   unclosed-refuses : (at bracket : ℕ) (caseless b q : Bool) → ClassAt s o caseless bracket → InClass s caseless (bracket + 1) at b q → length s ≤ at → Refuses 8 (length s) whole
   unclosed-refuses at bracket caseless b q C i h =
@@ -389,8 +389,8 @@ module _ (s : List ℕ) (o : Options) where
       let inside : bracket < length s = inside-token s bracket C.state Class C.token (λ y. let w : ◌≡◌ {A = ℕ} 0 1 = cc in omega arith) in
       let place : at ≡ length s = omega (arith, class-fits caseless s (bracket + 1) at b q i (omega arith)) in
       class-refuses bracket C.state C.stands 8 (length s) C.token
-      (subst (AtMost 8) (sym (ap (λ (c : declared.Class.Class). c.number) e)) (record { some = omega arith; most = omega arith }))
-      (ap (λ (c : declared.Class.Class). c.place) e ∙ place)
+      (subst (AtMost 8) (sym (ap (λ (c : classes.Class). c.number) e)) (record { some = omega arith; most = omega arith }))
+      (ap (λ (c : classes.Class). c.place) e ∙ place)
 
   finished-walk : (t : Syntax) → Finished s o t → walk s 0 0 (begin o) ≡ tree t
   finished-walk t F =

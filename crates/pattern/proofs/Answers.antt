@@ -12,9 +12,9 @@ use lib.ListN.{length, drop, replicate}
 use Rattle.tokens.specs.declared.Options.{Options}
 use Rattle.atoms.specs.declared.Atom.{Atom}
 use Rattle.atoms.specs.declared.Atom.TheVariants.{Byte, OfKind, NotOfKind, Dot, NotNewline, Start, LastLine, End, Caret, Dollar, WordEdge, NoWordEdge}
-use Rattle.tokens.specs.declared.Token.{Token}
-use Rattle.tokens.specs.declared.Token.TheVariants.{Finish, Bar, Close, Class, One, Open, Set, Note, Unclosed, Repeat, Bad}
-use Rattle.tokens.specs.declared.Lexeme.{Lexeme}
+use Rattle.tokens.specs.Lexeme.{Token}
+use Rattle.tokens.specs.Lexeme.{Finish, Bar, Close, Class, One, Open, Set, Note, Unclosed, Repeat, Bad}
+use Rattle.tokens.specs.Lexeme.{Lexeme}
 use Rattle.atoms.specs.Fault.{lower}
 use Rattle.classes.specs.Class.{class_of}
 use Rattle.tokens.specs.Token.{lexeme_of}
@@ -22,8 +22,7 @@ use Rattle.meaning.specs.Tree.{empty, item, then, or}
 use Rattle.meaning.specs.Count.{limit, saturating, nullable}
 use Rattle.nodes.specs.Nodes.{Syntax, tree_at, width}
 use Rattle.pattern.specs.Walk.{Target, nothing, single, Frame, State, Read, tree, refused, Next, stop, go, chained, chosen, branch_of, group_of, with_item, one, deepest, repeating, closing, opening, act, context, next, finish, walk, begin}
-use Rattle.pattern.specs.Read.{longest, too_long, judged, read_of, limited_read, room, answer_of}
-use Rattle.pattern.specs.declared.Reading.{Reading}
+use Rattle.pattern.specs.Read.{longest, too_long, judged, read_of, limited_read, room, Answer, answer_of}
 use Rattle.nodes.specs.Invariants.{Tidy}
 use Rattle.pattern.proofs.Base.{either}
 use Rattle.pattern.proofs.Lexemes.{Right, lexeme-sound}
@@ -238,7 +237,7 @@ read-good s o =
 
 -- Of an accepted reading: its words hold its tree at its root, its items' sets are four 64-bit
 -- words (`Tidy`), and the rest of what it says.
-pub record Accepted (r : Reading) (t : Syntax) : Type 0 where
+pub record Accepted (r : Answer) (t : Syntax) : Type 0 where
   pub tree : tree_at r.nodes r.root ≡ t
   pub tidy : Tidy t
   pub root : r.root < r.size
@@ -275,9 +274,9 @@ within s o t = go (too_long s) refl
     go false p e = (ltb-false longest (length s) p, e)
 
 -- a reading with number 0 has a tree
-pub accepted-tree : (s : List ℕ) (o : Options) (r : Reading) → r ≡ answer_of (limited_read s o) → r.number ≡ 0 → (t : Syntax) × (limited_read s o ≡ tree t) × Accepted r t
+pub accepted-tree : (s : List ℕ) (o : Options) (r : Answer) → r ≡ answer_of (limited_read s o) → r.number ≡ 0 → (t : Syntax) × (limited_read s o ≡ tree t) × Accepted r t
 accepted-tree s o r e z = go (limited_read s o) refl (read-good s o)
   where
     go : (x : Read) → limited_read s o ≡ x → Good x → (t : Syntax) × (limited_read s o ≡ tree t) × Accepted r t
     go (tree t) q g = (t, q, rw (e, q) (answer-accepted t g))
-    go (refused number place) q g = absurd (refusal-number number place g (sym (ap (λ (x : Reading). x.number) (e ∙ ap answer_of q)) ∙ z))
+    go (refused number place) q g = absurd (refusal-number number place g (sym (ap (λ (x : Answer). x.number) (e ∙ ap answer_of q)) ∙ z))

@@ -1,130 +1,75 @@
--- What an arm of a match knows, by the variants that it takes. Assumes nothing.
-use mathlib.Core.Path.{◌≡◌, refl, sym}
+-- What an arm of a match knows of a token, by the variants that it takes. Assumes nothing.
+use mathlib.Core.Path.{◌≡◌, refl, ap}
 use mathlib.Core.Bool.{true, false}
-use mathlib.Core.List.{List, [], ◌∷◌}
-use Prim.Native.Nat.{ℕ}
-use native.Mathlib.Omega.{arith}
-use lib.ListN.{get_or, drop}
-use types.Run.{OneOf, miss}
-use denote.Enum.Declared.{tag_of}
-use Rattle.tokens.specs.contracts.Token as token
-use Rattle.atoms.specs.contracts.Atom as atom
+use mathlib.Core.Logic.{◌⊎◌, inl, inr}
+use Rattle.std.specs.Prelude.{Result}
+use Rattle.refusals.specs.declared.Refusal.{Refusal}
 use Rattle.atoms.specs.declared.Atom.{Atom}
-use Rattle.atoms.specs.declared.Atom.TheVariants.{Byte, OfKind, NotOfKind, Dot, NotNewline, Start, LastLine, End, Caret, Dollar, WordEdge, NoWordEdge}
-use Rattle.tokens.specs.declared.Token.{Token}
-use Rattle.tokens.specs.declared.Token.TheVariants.{Finish, Bar, Close, Class, One, Open, Set, Note, Unclosed, Repeat, Bad}
-use Rattle.tokens.specs.declared.Lexeme.{Lexeme}
 use Rattle.tokens.specs.declared.Options.{Options}
-use Rattle.tokens.specs.Token.{lexeme_of}
-use Rattle.pattern.specs.Invariants.{fault_for, fault_of, begins}
+use Rattle.tokens.specs.declared.Copies.{Copies}
+use Rattle.tokens.specs.declared as written
+use Rattle.tokens.specs.declared.Token.TheVariants as code
+use Rattle.tokens.specs.Lexeme.{Class}
+use Rattle.tokens.specs.Answer.{token}
+use Rattle.pattern.specs.Invariants.{begins}
 use Rattle.pattern.proofs.Base.{true-not-false}
-use Rattle.pattern.proofs.Lexemes.{Right}
-use Rattle.pattern.proofs.Steps.{last, at-token, Ends, Other}
-use Rattle.pattern.proofs.Returns.{Takes}
+use Rattle.pattern.proofs.Steps.{Ends, Other}
+use Rattle.pattern.proofs.Returns.{Passes}
 
-abbrev Among : List ℕ → Token → Type 0
-Among keys t = OneOf keys (tag_of token.the_type t)
+-- a token that is not this variant
+abbrev NotNote : written.Token.Token → Type 0
+NotNote t = (o : Options) → t ≡ code.Note o → ⊥
 
--- all but quantifiers
-pub other-fault : (f : ℕ) (t : Token) → Among (0 ∷ 1 ∷ 2 ∷ 3 ∷ 4 ∷ 5 ∷ 6 ∷ 7 ∷ 8 ∷ 10 ∷ []) t → f ≡ fault_for f t
-other-fault f Finish h = refl
-other-fault f Bar h = refl
-other-fault f Close h = refl
-other-fault f Class h = refl
-other-fault f (One a) h = refl
-other-fault f (Open o) h = refl
-other-fault f (Set o) h = refl
-other-fault f (Note o) h = refl
-other-fault f Unclosed h = refl
-other-fault f (Repeat n j) h = absurd (miss (0 ∷ 1 ∷ 2 ∷ 3 ∷ 4 ∷ 5 ∷ 6 ∷ 7 ∷ 8 ∷ 10 ∷ []) 9 tt h)
-other-fault f Bad h = refl
+abbrev NotRepeat : written.Token.Token → Type 0
+NotRepeat t = (c : Result Copies Refusal) → t ≡ code.Repeat c → ⊥
 
 -- all but quantifiers and notes
-pub other-token : (t : Token) → Among (0 ∷ 1 ∷ 2 ∷ 3 ∷ 4 ∷ 5 ∷ 6 ∷ 8 ∷ 10 ∷ []) t → Other t
-other-token Finish h = tt
-other-token Bar h = tt
-other-token Close h = tt
-other-token Class h = tt
-other-token (One a) h = tt
-other-token (Open o) h = tt
-other-token (Set o) h = tt
-other-token (Note o) h = miss (0 ∷ 1 ∷ 2 ∷ 3 ∷ 4 ∷ 5 ∷ 6 ∷ 8 ∷ 10 ∷ []) 7 tt h
-other-token Unclosed h = tt
-other-token (Repeat n j) h = miss (0 ∷ 1 ∷ 2 ∷ 3 ∷ 4 ∷ 5 ∷ 6 ∷ 8 ∷ 10 ∷ []) 9 tt h
-other-token Bad h = tt
-
--- all but assertions
-pub takes-byte : (x : Atom) → OneOf (0 ∷ 1 ∷ 2 ∷ 3 ∷ 4 ∷ []) (tag_of atom.the_type x) → Takes x
-takes-byte (Byte b) h = tt
-takes-byte (OfKind k) h = tt
-takes-byte (NotOfKind k) h = tt
-takes-byte Dot h = tt
-takes-byte NotNewline h = tt
-takes-byte Start h = miss (0 ∷ 1 ∷ 2 ∷ 3 ∷ 4 ∷ []) 5 tt h
-takes-byte LastLine h = miss (0 ∷ 1 ∷ 2 ∷ 3 ∷ 4 ∷ []) 6 tt h
-takes-byte End h = miss (0 ∷ 1 ∷ 2 ∷ 3 ∷ 4 ∷ []) 7 tt h
-takes-byte Caret h = miss (0 ∷ 1 ∷ 2 ∷ 3 ∷ 4 ∷ []) 8 tt h
-takes-byte Dollar h = miss (0 ∷ 1 ∷ 2 ∷ 3 ∷ 4 ∷ []) 9 tt h
-takes-byte WordEdge h = miss (0 ∷ 1 ∷ 2 ∷ 3 ∷ 4 ∷ []) 10 tt h
-takes-byte NoWordEdge h = miss (0 ∷ 1 ∷ 2 ∷ 3 ∷ 4 ∷ []) 11 tt h
+pub other-token : (t : written.Token.Token) → NotNote t → NotRepeat t → Other (token t)
+other-token code.Finish h k = tt
+other-token code.Bar h k = tt
+other-token code.Close h k = tt
+other-token code.Class h k = tt
+other-token (code.One a) h k = tt
+other-token (code.Open o) h k = tt
+other-token (code.Set o) h k = tt
+other-token (code.Note o) h k = h o refl
+other-token code.Unclosed h k = tt
+other-token (code.Repeat c) h k = k c refl
 
 -- the tokens that end a branch
-pub ends : (t : Token) → Among (0 ∷ 1 ∷ 2 ∷ []) t → Ends t
-ends Finish h = tt
-ends Bar h = tt
-ends Close h = tt
-ends Class h = miss (0 ∷ 1 ∷ 2 ∷ []) 3 tt h
-ends (One a) h = miss (0 ∷ 1 ∷ 2 ∷ []) 4 tt h
-ends (Open o) h = miss (0 ∷ 1 ∷ 2 ∷ []) 5 tt h
-ends (Set o) h = miss (0 ∷ 1 ∷ 2 ∷ []) 6 tt h
-ends (Note o) h = miss (0 ∷ 1 ∷ 2 ∷ []) 7 tt h
-ends Unclosed h = miss (0 ∷ 1 ∷ 2 ∷ []) 8 tt h
-ends (Repeat n j) h = miss (0 ∷ 1 ∷ 2 ∷ []) 9 tt h
-ends Bad h = miss (0 ∷ 1 ∷ 2 ∷ []) 10 tt h
+pub ends : (t : written.Token.Token) → (t ≡ code.Finish) ⊎ ((t ≡ code.Bar) ⊎ (t ≡ code.Close)) → Ends (token t)
+ends t (inl e) = rw e tt
+ends t (inr (inl e)) = rw e tt
+ends t (inr (inr e)) = rw e tt
+
+-- an option setting or a note
+pub passes : (t : written.Token.Token) (i : Options) → (t ≡ code.Set i) ⊎ (t ≡ code.Note i) → Passes (token t) i
+passes t i (inl e) = inl (ap token e)
+passes t i (inr e) = inr (ap token e)
 
 -- those that neither end a branch, nor set options, nor are notes
-pub beginning : (t : Token) → Among (3 ∷ 4 ∷ 5 ∷ 9 ∷ 10 ∷ []) t → begins t ≡ true
-beginning Finish h = absurd (miss (3 ∷ 4 ∷ 5 ∷ 9 ∷ 10 ∷ []) 0 tt h)
-beginning Bar h = absurd (miss (3 ∷ 4 ∷ 5 ∷ 9 ∷ 10 ∷ []) 1 tt h)
-beginning Close h = absurd (miss (3 ∷ 4 ∷ 5 ∷ 9 ∷ 10 ∷ []) 2 tt h)
-beginning Class h = refl
-beginning (One a) h = refl
-beginning (Open o) h = refl
-beginning (Set o) h = absurd (miss (3 ∷ 4 ∷ 5 ∷ 9 ∷ 10 ∷ []) 6 tt h)
-beginning (Note o) h = absurd (miss (3 ∷ 4 ∷ 5 ∷ 9 ∷ 10 ∷ []) 7 tt h)
-beginning Unclosed h = absurd (miss (3 ∷ 4 ∷ 5 ∷ 9 ∷ 10 ∷ []) 8 tt h)
-beginning (Repeat n j) h = refl
-beginning Bad h = refl
+pub beginning : (t : written.Token.Token) → (t ≡ code.Finish → ⊥) → (t ≡ code.Bar → ⊥) → (t ≡ code.Close → ⊥) → ((o : Options) → t ≡ code.Set o → ⊥) → NotNote t → (t ≡ code.Unclosed → ⊥)
+    → begins (token t) ≡ true
+beginning code.Finish a b c d e f = absurd (a refl)
+beginning code.Bar a b c d e f = absurd (b refl)
+beginning code.Close a b c d e f = absurd (c refl)
+beginning code.Class a b c d e f = refl
+beginning (code.One x) a b c d e f = refl
+beginning (code.Open o) a b c d e f = refl
+beginning (code.Set o) a b c d e f = absurd (d o refl)
+beginning (code.Note o) a b c d e f = absurd (e o refl)
+beginning code.Unclosed a b c d e f = absurd (f refl)
+beginning (code.Repeat x) a b c d e f = refl
 
-pub not_last : (t : Token) → begins t ≡ true → last t ≡ false
-not_last Finish h = sym h
-not_last Bar h = refl
-not_last Close h = refl
-not_last Class h = refl
-not_last (One a) h = refl
-not_last (Open o) h = refl
-not_last (Set o) h = refl
-not_last (Note o) h = refl
-not_last Unclosed h = refl
-not_last (Repeat n j) h = refl
-not_last Bad h = refl
-
--- of those without a fault, all but atoms and openings: classes
-module _ (c f : ℕ) where
-  class-left : (t : Token) → Right c f t → begins t ≡ true → fault_for f t ≡ 0 → Among (0 ∷ 1 ∷ 2 ∷ 3 ∷ 6 ∷ 7 ∷ 8 ∷ 9 ∷ 10 ∷ []) t → t ≡ Class
-  class-left Finish r b z h = absurd r
-  class-left Bar r b z h = true-not-false false b refl
-  class-left Close r b z h = true-not-false false b refl
-  class-left Class r b z h = refl
-  class-left (One a) r b z h = absurd (miss (0 ∷ 1 ∷ 2 ∷ 3 ∷ 6 ∷ 7 ∷ 8 ∷ 9 ∷ 10 ∷ []) 4 tt h)
-  class-left (Open o) r b z h = absurd (miss (0 ∷ 1 ∷ 2 ∷ 3 ∷ 6 ∷ 7 ∷ 8 ∷ 9 ∷ 10 ∷ []) 5 tt h)
-  class-left (Set o) r b z h = true-not-false false b refl
-  class-left (Note o) r b z h = true-not-false false b refl
-  class-left Unclosed r b z h = true-not-false false b refl
-  class-left (Repeat n j) r b z h = absurd (omega arith)
-  class-left Bad r b z h = absurd (r z)
-
-pub only-class : (s : List ℕ) (at : ℕ) (o : Options) (l : Lexeme) → lexeme_of o (drop at s) ≡ l → begins l.token ≡ true → fault_of l ≡ 0 → Among (0 ∷ 1 ∷ 2 ∷ 3 ∷ 6 ∷ 7 ∷ 8 ∷ 9 ∷ 10 ∷ []) l.token → l.token ≡ Class
-unfolding fault_of
-only-class s at o l e b z h =
-    class-left (get_or s at 0) l.fault l.token (at-token s at o l l.token e refl (not_last l.token b)).sound.right b z h
+-- of those that begin an item, all but atoms, openings and quantifiers: classes
+pub only-class : (t : written.Token.Token) → begins (token t) ≡ true → ((a : Atom) → t ≡ code.One a → ⊥) → ((o : Options) → t ≡ code.Open o → ⊥) → NotRepeat t → token t ≡ Class
+only-class code.Finish b h k r = true-not-false false b refl
+only-class code.Bar b h k r = true-not-false false b refl
+only-class code.Close b h k r = true-not-false false b refl
+only-class code.Class b h k r = refl
+only-class (code.One a) b h k r = absurd (h a refl)
+only-class (code.Open o) b h k r = absurd (k o refl)
+only-class (code.Set o) b h k r = true-not-false false b refl
+only-class (code.Note o) b h k r = true-not-false false b refl
+only-class code.Unclosed b h k r = true-not-false false b refl
+only-class (code.Repeat c) b h k r = absurd (r c refl)

@@ -12,11 +12,11 @@ use borrow.Author.Tests.{eqb-true, eqb-false, ltb-true}
 use lib.Dec.{eqb, leb, ltb}
 use lib.ListN.{length, get_or, take, drop}
 use Rattle.tokens.specs.declared.Options.{Options}
-use Rattle.atoms.specs.declared.Part.{Part}
-use Rattle.tokens.specs.declared.Form.{Form}
-use Rattle.tokens.specs.declared.Token.{Token}
-use Rattle.tokens.specs.declared.Token.TheVariants.{Finish, Bar, Close, Class, One, Open, Set, Note, Unclosed, Repeat, Bad}
-use Rattle.tokens.specs.declared.Lexeme.{Lexeme}
+use Rattle.atoms.specs.Escape.{Part}
+use Rattle.tokens.specs.Quantifier.{Form}
+use Rattle.tokens.specs.Lexeme.{Token}
+use Rattle.tokens.specs.Lexeme.{Finish, Bar, Close, Class, One, Open, Set, Note, Unclosed, Repeat, Bad}
+use Rattle.tokens.specs.Lexeme.{Lexeme}
 use Rattle.atoms.specs.Number.{cap, numeral_of}
 use Rattle.atoms.specs.Escape.{escape_of}
 use Rattle.atoms.specs.Fault.{lower}

@@ -1,100 +1,105 @@
--- What each return of a reader owes, over plain lists and numbers: one law for each return. The
--- walk's steps are chained; the words are one run of stores after another. Assumes nothing.
+-- What each return of a reader owes: one law for each return, over the parser before, p, and those
+-- after the calls, q and u. The walk's steps are chained; the words are one run of stores after
+-- another. Assumes nothing.
 use mathlib.Core.Path.{◌≡◌, refl, sym, ap, subst, ◌∙◌}
-use mathlib.Core.Bool.{false}
 use mathlib.Core.List.{List, [], ◌∷◌, ◌++◌}
 use mathlib.Core.Logic.{◌⊎◌, inl, inr}
 use Prim.Native.Nat.{ℕ, suc, ◌+◌, ◌*◌, ◌-◌, ◌≤◌, ◌<◌}
 use native.Mathlib.Omega.{arith}
 use native.Mathlib.Numerals.{add-one}
 use borrow.Author.Tests.{eq-eqb, ne_eqb}
-use lib.ListN.{length, get_or, drop, set, length-drop}
+use lib.ListN.{length, get_or, drop, length-drop}
 use lib.Seq.{sets, length-sets}
+use Rattle.std.specs.Prelude.{Option, Some, None, Result, Ok, Err}
+use Rattle.refusals.specs.Refusal.{number_of}
+use Rattle.refusals.specs.declared.Refusal.{Refusal}
+use Rattle.refusals.specs.declared.Refusal.TheVariants.{BadGroup, BadQuantifier, DeepGroup}
+use Rattle.refusals.specs.declared.Fault.{Fault}
+use Rattle.refusals.proofs.Laws.{number-above}
 use Rattle.sets.proofs.Laws.{Words}
-use Rattle.classes.specs.declared as declared
+use Rattle.classes.specs.Class as classes
 use Rattle.tokens.specs.declared.Options.{Options}
 use Rattle.atoms.specs.declared.Atom.{Atom}
 use Rattle.atoms.specs.declared.Atom.TheVariants.{Byte, OfKind, NotOfKind, Dot, NotNewline, Start, LastLine, End, Caret, Dollar, WordEdge, NoWordEdge}
-use Rattle.tokens.specs.declared.Token.{Token}
-use Rattle.tokens.specs.declared.Token.TheVariants.{Class, One, Open, Set, Note, Unclosed, Repeat}
-use Rattle.tokens.specs.declared.Lexeme.{Lexeme}
+use Rattle.tokens.specs.Lexeme.{Token}
+use Rattle.tokens.specs.Lexeme.{Class, One, Open, Set, Note, Unclosed, Repeat, Bad}
+use Rattle.tokens.specs.Lexeme.{Lexeme}
 use Rattle.classes.specs.Class.{class_of}
+use Rattle.classes.specs.Answer.{class}
 use Rattle.atoms.specs.Number.{cap}
 use Rattle.tokens.specs.Token.{lexeme_of, item_set}
 use Rattle.atoms.proofs.Suffixes.{inside}
 use Rattle.meaning.specs.Tree.{empty, item, assertion, then, or, repeat}
-use Rattle.meaning.specs.Rule.{Assertion, at_start, at_last_line, at_end, line_start, line_end, word_edge, no_word_edge}
+use Rattle.meaning.specs.Rule.{Assertion}
 use Rattle.nodes.specs.Nodes.{Syntax, word, code_of, tree_at, width, lay, extra_of}
-use Rattle.pattern.specs.Walk.{nothing, single, Frame, Read, refused, chained, chosen, one, closing}
+use Rattle.pattern.specs.Walk.{nothing, single, Frame, refused, chained, chosen, one, closing}
 use Rattle.nodes.specs.Invariants.{Tidy}
-use Rattle.pattern.specs.Invariants.{lent, Room, state, from, group_ends, class_ends, refusal, got, onward, Read-up, Said, SaysBranches, SaysSequence, SaysItem, SaysOne, SaysClass, SaysQuantified, SaidBranches, SaidSequence, SaidItem, SaidOne, SaidClass, SaidQuantified, fault_of}
-use Rattle.pattern.specs.declared.items.Got.{Got}
+use Rattle.pattern.specs.Invariants.{lent, pushed, pushed_item, Room, onward, told, state, from, group_ends, class_ends, Read-up, Reads, Said, room_from, SaysBranches, SaysSequence, SaysOne, SaysQuantified, SaidBranches, SaidSequence, SaidItem, SaidOne, SaidClass, SaidQuantified, assertion_for, in_code}
+use Rattle.pattern.specs.declared.writer.Arena.{Arena}
+use Rattle.pattern.specs.declared.items.Parser.{Parser}
+use Rattle.nodes.specs.Node.{named, meant}
+use Rattle.nodes.specs.declared.layout.Assertion as code
+use Rattle.nodes.proofs.Nodes.{meant-named}
 use Rattle.nodes.proofs.Trees.{laid-tree, both-laid, one-laid, number-extra, extra-number}
 use Rattle.pattern.proofs.Sets.{words-item, Closed, class-closed}
-use Rattle.pattern.proofs.Steps.{lex, At, last, at-token, Ends, Other, from_one, from-set, from-note, from-unclosed, from-open, from_deep, from-class, from-fault, from-repeat, from-repeat-fault, free_other, branch-bar, branch-last, group-closes, group_open, past, from_end}
+use Rattle.pattern.proofs.Steps.{lex, At, at-token, Ends, Other, from_one, from-set, from-note, from-unclosed, from-open, from_deep, from-class, from-fault, from-repeat, from-repeat-fault, free_other, branch-bar, branch-last, group-closes, group_open, from_end}
 
--- ---- a refusal stands
+-- ---- the parser with a part changed
 
-pub on-ok : (g : Got) (w : Read) → g.fault ≡ 0 → onward g w ≡ w
-unfolding onward
-on-ok g w e = rw (eq-eqb g.fault 0 e)
+abbrev pub moved : Parser → ℕ → Options → Parser
+moved p at o = record { at = at; options = o; tree = p.tree }
 
-pub on-no : (g : Got) (w : Read) → (g.fault ≡ 0 → ⊥) → onward g w ≡ refused g.fault g.at
-unfolding onward
-on-no g w e = rw (ne_eqb g.fault 0 e)
+abbrev pub with_tree : Parser → Arena → Parser
+with_tree p b = record { at = p.at; options = p.options; tree = b }
 
-on_both : (g : Got) (w w' : Read) → (g.fault ≡ 0 → ⊥) → onward g w ≡ onward g w'
-on_both g w w' e = on-no g w e ∙ sym (on-no g w' e)
+abbrev pub fault_at : Refusal → ℕ → Fault
+fault_at r place = record { refusal = r; place = place }
 
--- a walk that is refused is what a refusal says
-refuses : (g : Got) (f p : ℕ) (v w : Read) → g ≡ refusal f p → (f ≡ 0 → ⊥) → v ≡ refused f p → v ≡ onward g w
-refuses g f p v w e bad h = h ∙ sym (rw e (on-no (refusal f p) w bad))
-
-bad-refusal : (g : Got) (f p : ℕ) → g ≡ refusal f p → (f ≡ 0 → ⊥) → g.fault ≡ 0 → ⊥
-bad-refusal g f p e bad z = bad (sym (ap (λ (x : Got). x.fault) e) ∙ z)
+no-zero : (r : Refusal) → number_of r ≡ 0 → ⊥
+no-zero r z = omega (arith, number-above r)
 
 -- ---- making an answer's record
 
-module _ (P : Syntax → Type 0) (s a b : List ℕ) (lo n room : ℕ) (g : Got) where
-  said-no : (g.fault ≡ 0 → ⊥) → P (tree_at b g.root) → Said P s a b lo n room g
-  said-no bad p = record { says = p; reads = λ z. absurd (bad z) }
+-- a tree that was read is the one of its node
+module _ (P : Syntax → Type 0) (s : List ℕ) (a : Arena) (q : Parser) (lo room : ℕ) where
+  said-yes : (t : Syntax) (root : ℕ) → length a.words ≡ lent → q.tree.n ≤ lent → Read-up s a q lo room t root → P t → Said P s a q lo room (Ok root)
+  said-yes t root l h r k =
+      let e : t ≡ tree_at q.tree.words root =
+      sym (laid-tree t a.words q.tree.words a.n root (omega (arith, r.count, r.top)) (omega (arith, r.count)) (omega (arith, r.count)) r.tidy r.words) in
+      record { says = subst P e k; reads = subst (λ (x : Syntax). Read-up s a q lo room x root) e r }
 
-  said-yes : (t : Syntax) → length a ≡ lent → g.n ≤ lent → Read-up s a b lo n room t g → P t → Said P s a b lo n room g
-  said-yes t l h r p =
-      let e : t ≡ tree_at b g.root =
-      sym (laid-tree t a b n g.root (omega (arith, r.count, r.top)) (omega (arith, r.count)) (omega (arith, r.count)) r.tidy r.words) in
-      record { says = subst P e p; reads = λ z. subst (λ (x : Syntax). Read-up s a b lo n room x g) e r }
-
-weaker : (s a b : List ℕ) (lo lo' n room room' : ℕ) (t : Syntax) (g : Got) → lo' ≤ lo → room ≤ room' → Read-up s a b lo n room t g → Read-up s a b lo' n room' t g
-weaker s a b lo lo' n room room' t g h k r =
+weaker : (s : List ℕ) (a : Arena) (q : Parser) (lo lo' room room' : ℕ) (r : Result ℕ Fault) → lo' ≤ lo → room ≤ room' → Reads s a q lo room r → Reads s a q lo' room' r
+weaker s a q lo lo' room room' (Ok root) h k r =
     record { words = r.words; tidy = r.tidy; count = r.count; top = r.top; on = omega (arith, r.on); inside = r.inside; space = omega (arith, r.space) }
+weaker s a q lo lo' room room' (Err f) h k r = tt
 
 -- the words stay as many
-same-long : (s a b : List ℕ) (lo n room : ℕ) (t : Syntax) (g : Got) → Read-up s a b lo n room t g → length a ≡ lent → length b ≡ lent
-same-long s a b lo n room t g r l = ap length r.words ∙ length-sets a n (lay n t) ∙ l
+same-long : (s : List ℕ) (a : Arena) (q : Parser) (lo room : ℕ) (t : Syntax) (root : ℕ) → Read-up s a q lo room t root → length a.words ≡ lent → length q.tree.words ≡ lent
+same-long s a q lo room t root r l = ap length r.words ∙ length-sets a.words a.n (lay a.n t) ∙ l
 
--- what a node with two children asks
-abbrev Joins : ℕ → Got → Got → Type 0
-Joins op g h = (h.n < lent) × (op < 8) × (g.root < h.n) × (h.root < h.n)
+-- what a node with two children asks, where n is its number
+abbrev Joins : (g h n : ℕ) → Type 0
+Joins g h n = (n < lent) × (g < n) × (h < n)
 
 -- a node without children, at the first free word
-module _ (P : Syntax → Type 0) (s a : List ℕ) (at n more : ℕ) (o : Options) (room : Room s a at n more) (some : 1 ≤ more) where
-  leaf-said : (t : Syntax) (w : ℕ) → lay n t ≡ w ∷ [] → width t ≡ 1 → Tidy t → P t → Said P s a (set a n w) at n (n + 6 * (length s - at) + more) (got at (n + 1) n o)
-  leaf-said t w l k d p =
-      said-yes P s a (set a n w) at n (n + 6 * (length s - at) + more) (got at (n + 1) n o) t room.long (omega (arith, room.space))
-      (record { words = rw l; tidy = d; count = omega arith; top = refl; on = omega arith; inside = room.inside; space = omega arith }) p
+module _ (P : Syntax → Type 0) (s : List ℕ) (p : Parser) (more : ℕ) (room : Room s p more) (some : 1 ≤ more) where
+  leaf-said : (t : Syntax) (w : ℕ) → lay p.tree.n t ≡ w ∷ [] → width t ≡ 1 → Tidy t → P t
+      → Said P s p.tree (with_tree p (pushed p.tree w)) p.at (room_from s p p.at more) (Ok p.tree.n)
+  leaf-said t w l k d h =
+      said-yes P s p.tree (with_tree p (pushed p.tree w)) p.at (room_from s p p.at more) t p.tree.n room.long (omega (arith, room.space))
+      (record { words = rw l; tidy = d; count = omega arith; top = refl; on = omega arith; inside = room.inside; space = omega arith }) h
 
 -- a node above two trees, of which the second was read after the first
-module _ (s a b c : List ℕ) (at n : ℕ) (g h : Got) (x y : Syntax) (lx rx ly ry : ℕ) (X : Read-up s a b lx n rx x g) (Y : Read-up s b c ly g.n ry y h) where
-  both-up : (op : ℕ) (t : Syntax) (room : ℕ)
-      → lay n t ≡ (lay n x ++ lay (n + width x) y) ++ (word op (n + width x - 1) (n + width x + width y - 1) 0 ∷ [])
-      → width t ≡ width x + width y + 1 → Tidy t → at ≤ h.at → h.n + 1 + 6 * (length s - h.at) ≤ room
-      → Read-up s a (set c h.n (word op g.root h.root 0)) at n room t (got h.at (h.n + 1) h.n h.options)
-  both-up op t room l k d o m =
-      let p : n + width x - 1 ≡ g.root = omega (arith, X.count, X.top) in
-      let q : n + width x + width y - 1 ≡ h.root = omega (arith, X.count, Y.count, Y.top) in
+module _ (s : List ℕ) (a : Arena) (q u : Parser) (g h : ℕ) (x y : Syntax) (lx rx ly ry : ℕ) (X : Read-up s a q lx rx x g) (Y : Read-up s q.tree u ly ry y h) where
+  both-up : (op : ℕ) (t : Syntax) (lo room : ℕ)
+      → lay a.n t ≡ (lay a.n x ++ lay (a.n + width x) y) ++ (word op (a.n + width x - 1) (a.n + width x + width y - 1) 0 ∷ [])
+      → width t ≡ width x + width y + 1 → Tidy t → lo ≤ u.at → u.tree.n + 1 + 6 * (length s - u.at) ≤ room
+      → Read-up s a (with_tree u (pushed u.tree (word op g h 0))) lo room t u.tree.n
+  both-up op t lo room l k d o m =
+      let p : a.n + width x - 1 ≡ g = omega (arith, X.count, X.top) in
+      let q' : a.n + width x + width y - 1 ≡ h = omega (arith, X.count, Y.count, Y.top) in
       record {
-        words = both-laid x y a b c n g.n h.n (word op g.root h.root 0) X.words Y.words X.count Y.count X.tidy Y.tidy ∙ ap (sets a n) (sym (rw (p, q) at l));
+        words = both-laid x y a.words q.tree.words u.tree.words a.n q.tree.n u.tree.n (word op g h 0) X.words Y.words X.count Y.count X.tidy Y.tidy ∙ ap (sets a.words a.n) (sym (rw (p, q') at l));
         tidy = d;
         count = omega (arith, X.count, Y.count);
         top = refl;
@@ -109,244 +114,253 @@ module _ (s a b c : List ℕ) (at n : ℕ) (g h : Got) (x y : Syntax) (lx rx ly 
 abbrev pub Passes : Token → Options → Type 0
 Passes t i = (t ≡ Set i) ⊎ (t ≡ Note i)
 
-module _ (s a : List ℕ) (at d : ℕ) (o : Options) (n : ℕ) (room : Room s a at n 1) where
-  pub seq_end : (b : List ℕ) (g : Got) (l : Lexeme) → lexeme_of o (drop at s) ≡ l → Ends l.token → g ≡ got at (n + 1) n o → b ≡ set a n (word 0 0 0 0) → SaidSequence s a b at d o n g
-  unfolding onward width lay Tidy
-  seq_end b g l e u eg eb =
-      rw (eg, eb)
-      (leaf-said (SaysSequence s at d o (got at (n + 1) n o)) s a at n 1 o room (omega arith) empty (word 0 0 0 0) refl refl tt
-      (λ st al it z. from_end s at st al it o l.fault l.size l.token e u))
+module _ (s : List ℕ) (p : Parser) (d : ℕ) (room : Room s p 1) where
+  module _ (l : Lexeme) (e : lexeme_of p.options (drop p.at s) ≡ l) where
+    pub seq_end : (b : Arena) (root : ℕ) → Ends l.token → root ≡ p.tree.n → b ≡ pushed p.tree (word 0 0 0 0) → SaidSequence s p (with_tree p b) d (Ok root)
+    unfolding width lay Tidy
+    seq_end b root u er eb =
+        rw (er, eb)
+        (leaf-said (SaysSequence s p d p (Ok p.tree.n)) s p 1 room (omega arith) empty (word 0 0 0 0) refl refl tt
+        (λ st al it z. from_end s p.at st al it p.options l.fault l.size l.token e u))
 
-  -- a setting or a note stands here, and the branch goes on after it with the options i
-  module _ (l : Lexeme) (i : Options) (e : lexeme_of o (drop at s) ≡ l) where
-    pass-over : Passes l.token i → (st : List Frame) (al it : List Syntax) → from s at (state st al it o nothing) ≡ from s (at + l.size) (state st al it i nothing)
-    pass-over (inl t) st al it = from-set s at st al it o l.fault l.size i (at-token s at o l (Set i) e t refl)
-    pass-over (inr t) st al it = from-note s at st al it o l.fault l.size i nothing (at-token s at o l (Note i) e t refl)
-
-    pub seq-pass : (b : List ℕ) (g : Got) → Passes l.token i → SaidSequence s a b (at + l.size) d i n g → SaidSequence s a b at d o n g
-    seq-pass b g t S = record {
-      says = λ st al it z. pass-over t st al it ∙ S.says st al it z;
-      reads = λ z. weaker s a b (at + l.size) at n _ _ _ g (omega arith) (omega arith) (S.reads z);
+    pub seq-fault : (q : Parser) (r : Refusal) → l.token ≡ Bad → l.fault ≡ number_of r → SaidSequence s p q d (Err (fault_at r p.at))
+    seq-fault q r t f = record {
+      says = λ st al it z. from-fault s p.at st al it p.options l.fault l.size Bad (at-token s p.at p.options l Bad e t refl) (λ y. no-zero r (sym f ∙ y)) ∙ ap (λ (n : ℕ). refused n p.at) f;
+      reads = tt;
     }
 
-    pub seq-pass-inside : Passes l.token i → (1 ≤ l.size) × (at + l.size ≤ length s)
-    seq-pass-inside (inl t) =
-        let h = at-token s at o l (Set i) e t refl in
-        (h.sound.some h.sound.right, omega (arith, h.sound.fits, h.inside))
-    seq-pass-inside (inr t) =
-        let h = at-token s at o l (Note i) e t refl in
-        (h.sound.some h.sound.right, omega (arith, h.sound.fits, h.inside))
+    pub seq-unclosed : (q : Parser) → l.token ≡ Unclosed → SaidSequence s p q d (Err (fault_at BadGroup (length s)))
+    seq-unclosed q t = record {
+      says = λ st al it z. from-unclosed s p.at st al it p.options l.fault l.size (at-token s p.at p.options l Unclosed e t refl);
+      reads = tt;
+    }
 
-  pub seq-unclosed : (g : Got) (l : Lexeme) → lexeme_of o (drop at s) ≡ l → l.token ≡ Unclosed → g ≡ refusal 12 (length s) → SaidSequence s a a at d o n g
-  seq-unclosed g l e t eg =
-      let bad : ◌≡◌ {A = ℕ} 12 0 → ⊥ = λ z. omega arith in
-      said-no (SaysSequence s at d o g) s a a at n _ g (bad-refusal g 12 (length s) eg bad)
-      (λ st al it z. refuses g 12 (length s) _ _ eg bad (from-unclosed s at st al it o l.fault l.size (at-token s at o l Unclosed e t refl)))
+    -- a setting or a note stands here, and the branch goes on after it with the options i
+    module _ (i : Options) where
+      pass-over : Passes l.token i → (st : List Frame) (al it : List Syntax) → from s p.at (state st al it p.options nothing) ≡ from s (p.at + l.size) (state st al it i nothing)
+      pass-over (inl t) st al it = from-set s p.at st al it p.options l.fault l.size i (at-token s p.at p.options l (Set i) e t refl)
+      pass-over (inr t) st al it = from-note s p.at st al it p.options l.fault l.size i nothing (at-token s p.at p.options l (Note i) e t refl)
 
-  pub seq-item-no : (b : List ℕ) (g : Got) → SaidItem s a b at d o n g → (g.fault ≡ 0 → ⊥) → SaidSequence s a b at d o n g
-  seq-item-no b g I bad = said-no (SaysSequence s at d o g) s a b at n _ g bad (λ st al it z. I.says st al it z ∙ on_both g _ _ bad)
+      pub seq-pass : (q : Parser) (r : Result ℕ Fault) → Passes l.token i → SaidSequence s (moved p (p.at + l.size) i) q d r → SaidSequence s p q d r
+      seq-pass q r t S = record {
+        says = λ st al it z. pass-over t st al it ∙ S.says st al it z;
+        reads = weaker s p.tree q (p.at + l.size) p.at _ _ r (omega arith) (omega arith) S.reads;
+      }
 
-  pub seq-room : (b : List ℕ) (g : Got) → SaidItem s a b at d o n g → g.fault ≡ 0 → Room s b g.at g.n 1 × (at < g.at)
-  seq-room b g I z =
-      let X = I.reads z in
-      (record { inside = X.inside; space = omega (arith, X.space, X.on, X.inside, room.space); long = same-long s a b _ n _ _ g X room.long }, omega (arith, X.on))
+      pub seq-pass-inside : Passes l.token i → (1 ≤ l.size) × (p.at + l.size ≤ length s)
+      seq-pass-inside (inl t) =
+          let h = at-token s p.at p.options l (Set i) e t refl in
+          (h.sound.some h.sound.right, omega (arith, h.sound.fits, h.inside))
+      seq-pass-inside (inr t) =
+          let h = at-token s p.at p.options l (Note i) e t refl in
+          (h.sound.some h.sound.right, omega (arith, h.sound.fits, h.inside))
 
-  module _ (b c : List ℕ) (g h : Got) (I : SaidItem s a b at d o n g) (yes-g : g.fault ≡ 0) (S : SaidSequence s b c g.at d g.options g.n h) where
-    pub seq-rest-no : (h.fault ≡ 0 → ⊥) → SaidSequence s a c at d o n h
-    seq-rest-no bad =
-        said-no (SaysSequence s at d o h) s a c at n _ h bad
-        (λ st al it z. I.says st al it z ∙ on-ok g _ yes-g ∙ S.says st al (tree_at b g.root ∷ it) z ∙ on_both h _ _ bad)
+  module _ (q : Parser) where
+    pub seq-item-no : (f : Fault) → SaidItem s p q d (Err f) → SaidSequence s p q d (Err f)
+    seq-item-no f I = record { says = I.says; reads = tt }
 
-    pub seq-joins : h.fault ≡ 0 → Joins 3 g h
-    seq-joins z =
-        let X = I.reads yes-g in
-        let Y = S.reads z in
-        (omega (arith, room.space, X.space, Y.space, X.on, X.inside), omega arith, omega (arith, X.top, Y.count), omega (arith, Y.top))
+    module _ (g : ℕ) (I : SaidItem s p q d (Ok g)) where
+      pub seq-room : Room s q 1 × (p.at < q.at)
+      seq-room =
+          let X = I.reads in
+          (record { inside = X.inside; space = omega (arith, X.space, X.on, X.inside, room.space); long = same-long s p.tree q _ _ _ g X room.long }, omega (arith, X.on))
 
-    pub seq-both : h.fault ≡ 0 → (e : List ℕ) (r : Got) → r ≡ got h.at (h.n + 1) h.n h.options → e ≡ set c h.n (word 3 g.root h.root 0) → SaidSequence s a e at d o n r
-    unfolding onward chained width lay Tidy
-    seq-both yes-h e r er ee =
-        let x : Syntax = tree_at b g.root in
-        let X = I.reads yes-g in
-        let Y = S.reads yes-h in
-        rw (er, ee)
-        (said-yes (SaysSequence s at d o (got h.at (h.n + 1) h.n h.options)) s a _ at n _ _ (then x (tree_at c h.root))
-        room.long (omega (arith, room.space, X.space, Y.space, X.on))
-        (both-up s a b c at n g h x (tree_at c h.root) _ _ _ _ X Y 3 (then x (tree_at c h.root)) _ refl refl (X.tidy, Y.tidy) (omega (arith, X.on, Y.on)) (omega (arith, X.space, Y.space, X.on, X.inside)))
-        (λ st al it z. I.says st al it z ∙ on-ok g _ yes-g ∙ S.says st al (x ∷ it) z ∙ on-ok h _ yes-h))
+      module _ (u : Parser) where
+        pub seq-rest-no : (f : Fault) → SaidSequence s q u d (Err f) → SaidSequence s p u d (Err f)
+        seq-rest-no f S = record { says = λ st al it z. I.says st al it z ∙ S.says st al (tree_at q.tree.words g ∷ it) z; reads = tt }
+
+        module _ (h : ℕ) (S : SaidSequence s q u d (Ok h)) where
+          pub seq-joins : Joins g h u.tree.n
+          seq-joins =
+              let X = I.reads in
+              let Y = S.reads in
+              (omega (arith, room.space, X.space, Y.space, X.on, X.inside), omega (arith, X.top, Y.count), omega (arith, Y.top))
+
+          pub seq-both : (b : Arena) (root : ℕ) → root ≡ u.tree.n → b ≡ pushed u.tree (word 3 g h 0) → SaidSequence s p (with_tree u b) d (Ok root)
+          unfolding chained width lay Tidy
+          seq-both b root er eb =
+              let x : Syntax = tree_at q.tree.words g in
+              let y : Syntax = tree_at u.tree.words h in
+              let X = I.reads in
+              let Y = S.reads in
+              rw (er, eb)
+              (said-yes (SaysSequence s p d u (Ok u.tree.n)) s p.tree (with_tree u (pushed u.tree (word 3 g h 0))) _ _ (then x y) u.tree.n
+              room.long (omega (arith, room.space, X.space, Y.space, X.on))
+              (both-up s p.tree q u g h x y _ _ _ _ X Y 3 (then x y) _ _ refl refl (X.tidy, Y.tidy) (omega (arith, X.on, Y.on)) (omega (arith, X.space, Y.space, X.on, X.inside)))
+              (λ st al it z. I.says st al it z ∙ S.says st al (x ∷ it) z))
 
 -- ---- branches
 
-module _ (s a : List ℕ) (at d : ℕ) (o : Options) (n : ℕ) (room : Room s a at n 1) where
-  pub alt-first-no : (b : List ℕ) (g : Got) → SaidSequence s a b at d o n g → (g.fault ≡ 0 → ⊥) → SaidBranches s a b at d o n g
-  alt-first-no b g S bad = said-no (SaysBranches s at d o g) s a b at n _ g bad (λ st al z. S.says st al [] z ∙ on_both g _ _ bad)
+module _ (s : List ℕ) (p : Parser) (d : ℕ) (room : Room s p 1) (q : Parser) where
+  pub alt-first-no : (f : Fault) → SaidSequence s p q d (Err f) → SaidBranches s p q d (Err f)
+  alt-first-no f S = record { says = λ st al z. S.says st al [] z; reads = tt }
 
-  module _ (b : List ℕ) (g : Got) (S : SaidSequence s a b at d o n g) (yes-g : g.fault ≡ 0) where
-    pub alt-last : (get_or s g.at 0 ≡ 124 → ⊥) → SaidBranches s a b at d o n g
+  module _ (g : ℕ) (S : SaidSequence s p q d (Ok g)) where
+    pub alt-last : (get_or s q.at 0 ≡ 124 → ⊥) → SaidBranches s p q d (Ok g)
     unfolding chained
     alt-last bar = record {
-      says = λ st al z. S.says st al [] z ∙ on-ok g _ yes-g ∙ branch-last s st al (tree_at b g.root) g.options g.at bar ∙ sym (on-ok g _ yes-g);
+      says = λ st al z. S.says st al [] z ∙ branch-last s st al (tree_at q.tree.words g) q.options q.at bar;
       reads = S.reads;
     }
 
-    pub alt-end : g.at ≡ length s → SaidBranches s a b at d o n g
-    alt-end e = alt-last (past s g.at (omega arith))
+    module _ (bar : get_or s q.at 0 ≡ 124) where
+      pub alt-inside : q.at < length s
+      alt-inside = inside s q.at (λ z. omega arith)
 
-    pub alt-inside : (g.at ≡ length s → ⊥) → g.at < length s
-    alt-inside ne = omega (arith, (S.reads yes-g).inside, ne)
+      pub alt-room : Room s (moved q (q.at + 1) q.options) 1 × (p.at ≤ q.at)
+      alt-room =
+          let X = S.reads in
+          let i = alt-inside in
+          (record { inside = omega arith; space = omega (arith, X.space, X.on, room.space); long = same-long s p.tree q _ _ _ g X room.long }, X.on)
 
-    pub alt-room : (g.at ≡ length s → ⊥) → Room s b (g.at + 1) g.n 1 × (at ≤ g.at)
-    alt-room ne =
-        let X = S.reads yes-g in
-        let i = alt-inside ne in
-        (record { inside = omega arith; space = omega (arith, X.space, X.on, room.space); long = same-long s a b _ n _ _ g X room.long }, X.on)
-
-    module _ (c : List ℕ) (h : Got) (bar : get_or s g.at 0 ≡ 124) (B : SaidBranches s b c (g.at + 1) d g.options g.n h) where
-      over : (st : List Frame) (al : List Syntax) → length st ≡ d → from s at (state st al [] o nothing) ≡ onward h (group_ends s st (chosen (tree_at b g.root ∷ al) (tree_at c h.root)) h.at)
+      over : (st : List Frame) (al : List Syntax) → length st ≡ d → from s p.at (state st al [] p.options nothing) ≡ from s (q.at + 1) (state st (tree_at q.tree.words g ∷ al) [] q.options nothing)
       unfolding chained
-      over st al z =
-          S.says st al [] z ∙ on-ok g _ yes-g ∙ branch-bar s st al (tree_at b g.root) g.options g.at bar ∙ B.says st (tree_at b g.root ∷ al) z
+      over st al z = S.says st al [] z ∙ branch-bar s st al (tree_at q.tree.words g) q.options q.at bar
 
-      pub alt-rest-no : (h.fault ≡ 0 → ⊥) → SaidBranches s a c at d o n h
-      alt-rest-no bad = said-no (SaysBranches s at d o h) s a c at n _ h bad (λ st al z. over st al z ∙ on_both h _ _ bad)
+      pub alt-rest-no : (u : Parser) (f : Fault) → SaidBranches s (moved q (q.at + 1) q.options) u d (Err f) → SaidBranches s p u d (Err f)
+      alt-rest-no u f B = record { says = λ st al z. over st al z ∙ B.says st (tree_at q.tree.words g ∷ al) z; reads = tt }
 
-      pub alt-joins : h.fault ≡ 0 → Joins 4 g h
-      alt-joins z =
-          let X = S.reads yes-g in
-          let Y = B.reads z in
-          let i = inside s g.at (λ z. omega arith) in
-          (omega (arith, room.space, X.space, Y.space, X.on), omega arith, omega (arith, X.top, Y.count), omega (arith, Y.top))
+      module _ (u : Parser) (h : ℕ) (B : SaidBranches s (moved q (q.at + 1) q.options) u d (Ok h)) where
+        pub alt-joins : Joins g h u.tree.n
+        alt-joins =
+            let X = S.reads in
+            let Y = B.reads in
+            let i = alt-inside in
+            (omega (arith, room.space, X.space, Y.space, X.on), omega (arith, X.top, Y.count), omega (arith, Y.top))
 
-      pub alt-both : h.fault ≡ 0 → (e : List ℕ) (r : Got) → r ≡ got h.at (h.n + 1) h.n h.options → e ≡ set c h.n (word 4 g.root h.root 0) → SaidBranches s a e at d o n r
-      unfolding onward chosen width lay Tidy
-      alt-both yes-h e r er ee =
-          let x : Syntax = tree_at b g.root in
-          let X = S.reads yes-g in
-          let Y = B.reads yes-h in
-          let i = inside s g.at (λ z. omega arith) in
-          rw (er, ee)
-          (said-yes (SaysBranches s at d o (got h.at (h.n + 1) h.n h.options)) s a _ at n _ _ (or x (tree_at c h.root))
-          room.long (omega (arith, room.space, X.space, Y.space, X.on))
-          (both-up s a b c at n g h x (tree_at c h.root) _ _ _ _ X Y 4 (or x (tree_at c h.root)) _ refl refl (X.tidy, Y.tidy) (omega (arith, X.on, Y.on)) (omega (arith, X.space, Y.space, X.on, X.inside)))
-          (λ st al z. over st al z ∙ on-ok h _ yes-h))
+        pub alt-both : (b : Arena) (root : ℕ) → root ≡ u.tree.n → b ≡ pushed u.tree (word 4 g h 0) → SaidBranches s p (with_tree u b) d (Ok root)
+        unfolding chosen width lay Tidy
+        alt-both b root er eb =
+            let x : Syntax = tree_at q.tree.words g in
+            let y : Syntax = tree_at u.tree.words h in
+            let X = S.reads in
+            let Y = B.reads in
+            let i = alt-inside in
+            rw (er, eb)
+            (said-yes (SaysBranches s p d u (Ok u.tree.n)) s p.tree (with_tree u (pushed u.tree (word 4 g h 0))) _ _ (or x y) u.tree.n
+            room.long (omega (arith, room.space, X.space, Y.space, X.on))
+            (both-up s p.tree q u g h x y _ _ _ _ X Y 4 (or x y) _ _ refl refl (X.tidy, Y.tidy) (omega (arith, X.on, Y.on)) (omega (arith, X.space, Y.space, X.on, X.inside)))
+            (λ st al z. over st al z ∙ B.says st (x ∷ al) z))
 
 -- ---- an item
 
-module _ (s a : List ℕ) (at d : ℕ) (o : Options) (n : ℕ) (room : Room s a at n 0) (l : Lexeme) (here : lexeme_of o (drop at s) ≡ l) where
-  pub item-fault : (g : Got) → last l.token ≡ false → g ≡ refusal (fault_of l) at → (fault_of l ≡ 0 → ⊥) → SaidItem s a a at d o n g
-  unfolding fault_of
-  item-fault g t e bad =
-      said-no (SaysItem s at d o g) s a a (at + 1) n _ g (bad-refusal g (fault_of l) at e bad)
-      (λ st al it z. refuses g (fault_of l) at _ _ e bad (from-fault s at st al it o l.fault l.size l.token (at-token s at o l l.token here refl t) bad))
-
-  pub one-room : (x : Atom) → l.token ≡ One x → Room s a (at + l.size) n 5
-  one-room x t =
-      let h = at-token s at o l (One x) here t refl in
-      let k = h.sound.some h.sound.right in
-      record { inside = omega (arith, h.sound.fits, h.inside); space = omega (arith, room.space, h.sound.fits, h.inside); long = room.long }
-
-  pub class-room : l.token ≡ Class → Room s a (at + 1) n 5
-  class-room t =
-      let h = at-token s at o l Class here t refl in
-      record { inside = omega (arith, h.inside); space = omega (arith, room.space, h.inside); long = room.long }
-
-  pub item-one : (b : List ℕ) (g : Got) (x : Atom) → l.token ≡ One x → SaidOne s a b (at + l.size) o x n g → SaidItem s a b at d o n g
-  item-one b g x t S =
-      let A = at-token s at o l (One x) here t refl in
-      record {
-        says = λ st al it z. from_one s at st al it o l.fault l.size x A ∙ S.says st al it;
-        reads = λ z. weaker s a b (at + l.size) (at + 1) n _ _ _ g (omega (arith, A.sound.some A.sound.right)) (omega (arith, A.sound.some A.sound.right)) (S.reads z);
-      }
-
-  pub item-class : (b : List ℕ) (g : Got) → l.token ≡ Class → SaidClass s a b (at + 1) o n g → SaidItem s a b at d o n g
-  item-class b g t S = record {
-    says = λ st al it z. from-class s at st al it o l.fault l.size (at-token s at o l Class here t refl) ∙ S.says st al it;
-    reads = S.reads;
+module _ (s : List ℕ) (p : Parser) (d : ℕ) (room : Room s p 0) (l : Lexeme) (here : lexeme_of p.options (drop p.at s) ≡ l) where
+  -- a quantifier with nothing to repeat
+  pub item-nothing : (q : Parser) (n j : ℕ) → l.token ≡ Repeat n j → SaidItem s p q d (Err (fault_at BadQuantifier p.at))
+  item-nothing q n j t = record {
+    says = λ st al it z. from-fault s p.at st al it p.options l.fault l.size (Repeat n j) (at-token s p.at p.options l (Repeat n j) here t refl) (λ y. omega arith);
+    reads = tt;
   }
 
-  module _ (i : Options) (t : l.token ≡ Open i) where
-    A : At s at o (lex l.fault l.size (Open i))
-    A = at-token s at o l (Open i) here t refl
+  -- past a token, with words for an item there
+  past-room : (k : ℕ) → 1 ≤ k → p.at + k ≤ length s → Room s (moved p (p.at + k) p.options) 5
+  past-room k h i = record { inside = i; space = omega (arith, room.space); long = room.long }
 
-    pub open-room : Room s a (at + l.size) n 1 × (1 ≤ l.size)
+  module _ (x : Atom) (t : l.token ≡ One x) where
+    one-at : At s p.at p.options (lex l.fault l.size (One x))
+    one-at = at-token s p.at p.options l (One x) here t refl
+
+    pub one-room : Room s (moved p (p.at + l.size) p.options) 5
+    one-room = past-room l.size (one-at.sound.some one-at.sound.right) (omega (arith, one-at.sound.fits, one-at.inside))
+
+    pub item-one : (q : Parser) (r : Result ℕ Fault) → SaidOne s (moved p (p.at + l.size) p.options) q x r → SaidItem s p q d r
+    item-one q r S = record {
+      says = λ st al it z. from_one s p.at st al it p.options l.fault l.size x one-at ∙ S.says st al it;
+      reads = weaker s p.tree q (p.at + l.size) (p.at + 1) _ _ r (omega (arith, one-at.sound.some one-at.sound.right)) (omega (arith, one-at.sound.some one-at.sound.right)) S.reads;
+    }
+
+  module _ (t : l.token ≡ Class) where
+    class-at : At s p.at p.options (lex l.fault l.size Class)
+    class-at = at-token s p.at p.options l Class here t refl
+
+    pub class-room : Room s (moved p (p.at + 1) p.options) 5
+    class-room = past-room 1 (omega arith) (omega (arith, class-at.inside))
+
+    pub item-class : (q : Parser) (r : Result ℕ Fault) → SaidClass s (moved p (p.at + 1) p.options) q r → SaidItem s p q d r
+    item-class q r S = record {
+      says = λ st al it z. from-class s p.at st al it p.options l.fault l.size class-at ∙ S.says st al it;
+      reads = S.reads;
+    }
+
+  module _ (i : Options) (t : l.token ≡ Open i) where
+    A : At s p.at p.options (lex l.fault l.size (Open i))
+    A = at-token s p.at p.options l (Open i) here t refl
+
+    pub open-room : Room s (moved p (p.at + l.size) i) 1 × (1 ≤ l.size)
     open-room =
         let k = A.sound.some A.sound.right in
         (record { inside = omega (arith, A.sound.fits, A.inside); space = omega (arith, room.space, A.sound.fits, A.inside); long = room.long }, k)
 
-    pub item-deep : (g : Got) → d ≡ 16 → g ≡ refusal 13 at → SaidItem s a a at d o n g
-    item-deep g e eg =
-        let bad : ◌≡◌ {A = ℕ} 13 0 → ⊥ = λ z. omega arith in
-        said-no (SaysItem s at d o g) s a a (at + 1) n _ g (bad-refusal g 13 at eg bad)
-        (λ st al it z. refuses g 13 at _ _ eg bad (from_deep s at st al it o l.fault l.size i A (omega arith)))
+    pub item-deep : (q : Parser) → d ≡ 16 → SaidItem s p q d (Err (fault_at DeepGroup p.at))
+    item-deep q e = record { says = λ st al it z. from_deep s p.at st al it p.options l.fault l.size i A (omega arith); reads = tt }
 
-    module _ (shallow : d < 16) (b : List ℕ) (g : Got) (B : SaidBranches s a b (at + l.size) (d + 1) i n g) where
-      enter : (st : List Frame) (al it : List Syntax) → length st ≡ d → from s at (state st al it o nothing) ≡ onward g (group_ends s (record { branches = al; items = it; options = o } ∷ st) (tree_at b g.root) g.at)
+    module _ (shallow : d < 16) (q : Parser) where
+      enter : (r : Result ℕ Fault) → SaidBranches s (moved p (p.at + l.size) i) q (d + 1) r → (st : List Frame) (al it : List Syntax) → length st ≡ d
+          → from s p.at (state st al it p.options nothing) ≡ onward r (group_ends s (record { branches = al; items = it; options = p.options } ∷ st) (told q r) q.at)
       unfolding chosen
-      enter st al it z =
-          from-open s at st al it o l.fault l.size i A (omega arith)
-          ∙ B.says (record { branches = al; items = it; options = o } ∷ st) [] (ap suc z ∙ sym (add-one d))
+      enter r B st al it z =
+          from-open s p.at st al it p.options l.fault l.size i A (omega arith)
+          ∙ B.says (record { branches = al; items = it; options = p.options } ∷ st) [] (ap suc z ∙ sym (add-one d))
 
-      pub item-inner-no : (g.fault ≡ 0 → ⊥) → SaidItem s a b at d o n g
-      item-inner-no bad = said-no (SaysItem s at d o g) s a b (at + 1) n _ g bad (λ st al it z. enter st al it z ∙ on_both g _ _ bad)
+      pub item-inner-no : (f : Fault) → SaidBranches s (moved p (p.at + l.size) i) q (d + 1) (Err f) → SaidItem s p q d (Err f)
+      item-inner-no f B = record { says = enter (Err f) B; reads = tt }
 
-      pub item-open : (h : Got) → g.fault ≡ 0 → g.at ≡ length s → h ≡ refusal 12 g.at → SaidItem s a b at d o n h
-      item-open h e le eh =
-          let bad : ◌≡◌ {A = ℕ} 12 0 → ⊥ = λ z. omega arith in
-          said-no (SaysItem s at d o h) s a b (at + 1) n _ h (bad-refusal h 12 g.at eh bad)
-          (λ st al it z. refuses h 12 g.at _ _ eh bad (enter st al it z ∙ on-ok g _ e ∙ group_open s _ _ g.at (omega arith)))
+      module _ (g : ℕ) (B : SaidBranches s (moved p (p.at + l.size) i) q (d + 1) (Ok g)) where
+        pub item-open : q.at ≡ length s → SaidItem s p q d (Err (fault_at BadGroup q.at))
+        item-open e = record { says = λ st al it z. enter (Ok g) B st al it z ∙ group_open s _ _ q.at (omega arith); reads = tt }
 
-      pub group-room : g.fault ≡ 0 → (g.at ≡ length s → ⊥) → Room s b (g.at + 1) g.n 0 × (g.root + 1 ≡ g.n)
-      group-room e ne =
-          let X = B.reads e in
-          let k = A.sound.some A.sound.right in
-          let lt : g.at < length s = omega (arith, X.inside, ne) in
-          (record { inside = omega arith; space = omega (arith, X.space, X.on, room.space); long = same-long s a b _ n _ _ g X room.long }, X.top)
+        module _ (ne : q.at ≡ length s → ⊥) where
+          lt : q.at < length s
+          lt = omega (arith, B.reads.inside, ne)
 
-      pub item-group : (c : List ℕ) (h : Got) → g.fault ≡ 0 → (g.at ≡ length s → ⊥) → SaidQuantified s b c (g.at + 1) o g.n g.root h → SaidItem s a c at d o n h
-      unfolding closing
-      item-group c h e ne Q =
-          let X = B.reads e in
-          let k = A.sound.some A.sound.right in
-          let lt : g.at < length s = omega (arith, X.inside, ne) in
-          let q = Q a n (at + 1) (n + 6 * (length s - (at + 1)) + 5) (record {
-            words = X.words;
-            tidy = X.tidy;
-            count = X.count;
-            top = X.top;
-            on = omega (arith, X.on);
-            inside = omega arith;
-            space = omega (arith, X.space, X.on);
-          }) in
-          record {
-            says = λ st al it z. enter st al it z ∙ on-ok g _ e ∙ group-closes s _ (tree_at b g.root) g.at lt ∙ q.says st al it;
-            reads = q.reads;
-          }
+          pub group-room : Room s (moved q (q.at + 1) p.options) 0 × (g + 1 ≡ q.tree.n)
+          group-room =
+              let X = B.reads in
+              let k = A.sound.some A.sound.right in
+              (record { inside = omega (arith, lt); space = omega (arith, X.space, X.on, room.space, lt); long = same-long s p.tree q _ _ _ g X room.long }, X.top)
+
+          pub item-group : (u : Parser) (r : Result ℕ Fault) → SaidQuantified s (moved q (q.at + 1) p.options) u g r → SaidItem s p u d r
+          unfolding closing
+          item-group u r Q =
+              let X = B.reads in
+              let k = A.sound.some A.sound.right in
+              let m = Q p.tree (p.at + 1) (room_from s p (p.at + 1) 5) (record {
+                words = X.words;
+                tidy = X.tidy;
+                count = X.count;
+                top = X.top;
+                on = omega (arith, X.on);
+                inside = omega (arith, lt);
+                space = omega (arith, X.space, X.on, lt);
+              }) in
+              record {
+                says = λ st al it z. enter (Ok g) B st al it z ∙ group-closes s _ (tree_at q.tree.words g) q.at lt ∙ m.says st al it;
+                reads = m.reads;
+              }
 
 -- ---- the quantifier that may follow
 
-module _ (s a : List ℕ) (at : ℕ) (o : Options) (n root : ℕ) (room : Room s a at n 0) (l : Lexeme) (here : lexeme_of o (drop at s) ≡ l) where
-  pub quantified-none : (g : Got) → Other l.token → g ≡ got at n root o → SaidQuantified s a a at o n root g
-  unfolding onward
-  quantified-none g t e =
-      rw e (λ a0 n0 lo r R. record {
-        says = λ st al it. free_other s at st al (tree_at a root ∷ it) o (rw here t);
-        reads = λ z. R;
-      })
+module _ (s : List ℕ) (p : Parser) (root : ℕ) (room : Room s p 0) (l : Lexeme) (here : lexeme_of p.options (drop p.at s) ≡ l) where
+  pub quantified-none : Other l.token → SaidQuantified s p p root (Ok root)
+  quantified-none t = λ a lo r R. record {
+    says = λ st al it. free_other s p.at st al (tree_at p.tree.words root ∷ it) p.options (rw here t);
+    reads = R;
+  }
 
   module _ (i : Options) (t : l.token ≡ Note i) where
-    N-at : At s at o (lex l.fault l.size (Note i))
-    N-at = at-token s at o l (Note i) here t refl
+    N-at : At s p.at p.options (lex l.fault l.size (Note i))
+    N-at = at-token s p.at p.options l (Note i) here t refl
 
-    pub note-inside : (1 ≤ l.size) × (at + l.size ≤ length s)
+    pub note-inside : (1 ≤ l.size) × (p.at + l.size ≤ length s)
     note-inside = (N-at.sound.some N-at.sound.right, omega (arith, N-at.sound.fits, N-at.inside))
 
-    pub note-room : Room s a (at + l.size) n 0
+    pub note-room : Room s (moved p (p.at + l.size) i) 0
     note-room = let f = note-inside in record { inside = f.1; space = omega (arith, room.space); long = room.long }
 
-    pub quantified-note : (b : List ℕ) (g : Got) → SaidQuantified s a b (at + l.size) i n root g → SaidQuantified s a b at o n root g
-    quantified-note b g Q = λ a0 n0 lo r R.
+    pub quantified-note : (q : Parser) (r : Result ℕ Fault) → SaidQuantified s (moved p (p.at + l.size) i) q root r → SaidQuantified s p q root r
+    quantified-note q r Q = λ a lo m R.
         let f = note-inside in
-        let q = Q a0 n0 lo r (record {
+        let k = Q a lo m (record {
           words = R.words;
           tidy = R.tidy;
           count = R.count;
@@ -356,38 +370,40 @@ module _ (s a : List ℕ) (at : ℕ) (o : Options) (n root : ℕ) (room : Room s
           space = omega (arith, R.space);
         }) in
         record {
-          says = λ st al it. from-note s at st al (tree_at a root ∷ it) o l.fault l.size i single N-at ∙ q.says st al it;
-          reads = q.reads;
+          says = λ st al it. from-note s p.at st al (tree_at p.tree.words root ∷ it) p.options l.fault l.size i single N-at ∙ k.says st al it;
+          reads = k.reads;
         }
 
   module _ (m j : ℕ) (t : l.token ≡ Repeat m j) where
-    R-at : At s at o (lex l.fault l.size (Repeat m j))
-    R-at = at-token s at o l (Repeat m j) here t refl
+    R-at : At s p.at p.options (lex l.fault l.size (Repeat m j))
+    R-at = at-token s p.at p.options l (Repeat m j) here t refl
 
-    pub quantified-fault : (g : Got) → g ≡ refusal l.fault at → (l.fault ≡ 0 → ⊥) → SaidQuantified s a a at o n root g
-    quantified-fault g e bad =
-        λ a0 n0 lo r R. said-no (SaysQuantified s at o (tree_at a root) g) s a0 a lo n0 r g (bad-refusal g l.fault at e bad)
-        (λ st al it. refuses g l.fault at _ _ e bad (from-repeat-fault s at st al it o (tree_at a root) m j l.fault l.size R-at bad))
+    pub quantified-fault : (r : Refusal) → l.fault ≡ number_of r → SaidQuantified s p p root (Err (fault_at r p.at))
+    quantified-fault r f = λ a lo room' R. record {
+      says = λ st al it. from-repeat-fault s p.at st al it p.options (tree_at p.tree.words root) m j l.fault l.size R-at (λ y. no-zero r (sym f ∙ y)) ∙ ap (λ (n : ℕ). refused n p.at) f;
+      reads = tt;
+    }
 
     pub quantified-bounds : (m < cap) × (j ≤ cap)
     quantified-bounds = (R-at.sound.right.0, R-at.sound.right.1)
 
-    pub quantified-inside : l.fault ≡ 0 → (1 ≤ l.size) × (at + l.size ≤ length s)
+    pub quantified-inside : l.fault ≡ 0 → (1 ≤ l.size) × (p.at + l.size ≤ length s)
     quantified-inside z = (R-at.sound.some z, omega (arith, R-at.sound.fits, R-at.inside))
 
-    pub quantified-yes : (b : List ℕ) (g : Got) → l.fault ≡ 0 → g ≡ got (at + l.size) (n + 1) n o → b ≡ set a n (word 5 root m j) → SaidQuantified s a b at o n root g
-    unfolding onward width lay Tidy
-    quantified-yes b g z eg eb =
-        rw (eg, eb)
-        (λ a0 n0 lo r X.
-        let x : Syntax = tree_at a root in
+    pub quantified-yes : (b : Arena) (k : ℕ) → l.fault ≡ 0 → k ≡ p.tree.n → b ≡ pushed p.tree (word 5 root m j) → SaidQuantified s p (with_tree (moved p (p.at + l.size) p.options) b) root (Ok k)
+    unfolding width lay Tidy
+    quantified-yes b k z ek eb =
+        rw (ek, eb)
+        (λ a lo r X.
+        let x : Syntax = tree_at p.tree.words root in
         let f = quantified-inside z in
-        let p : n0 + width x - 1 ≡ root = omega (arith, X.count, X.top) in
-        let long : length a0 ≡ lent = sym (length-sets a0 n0 (lay n0 x)) ∙ sym (ap length X.words) ∙ room.long in
-        said-yes (SaysQuantified s at o x (got (at + l.size) (n + 1) n o)) s a0 (set a n (word 5 root m j)) lo n0 r (got (at + l.size) (n + 1) n o) (repeat x m (extra_of j))
+        let e : a.n + width x - 1 ≡ root = omega (arith, X.count, X.top) in
+        let long : length a.words ≡ lent = sym (length-sets a.words a.n (lay a.n x)) ∙ sym (ap length X.words) ∙ room.long in
+        let q : Parser = with_tree (moved p (p.at + l.size) p.options) (pushed p.tree (word 5 root m j)) in
+        said-yes (SaysQuantified s p x q (Ok p.tree.n)) s a q lo r (repeat x m (extra_of j)) p.tree.n
         long (omega (arith, room.space, X.space))
         (record {
-          words = rw (p, number-extra j) (one-laid x a0 a n0 n (word 5 root m j) X.words X.count X.tidy);
+          words = rw (e, number-extra j) (one-laid x a.words p.tree.words a.n p.tree.n (word 5 root m j) X.words X.count X.tidy);
           tidy = (X.tidy, R-at.sound.right.0, extra-number j);
           count = omega (arith, X.count);
           top = refl;
@@ -395,95 +411,102 @@ module _ (s a : List ℕ) (at : ℕ) (o : Options) (n root : ℕ) (room : Room s
           inside = f.1;
           space = omega (arith, X.space);
         })
-        (λ st al it. from-repeat s at st al it o x m j l.fault l.size R-at z))
+        (λ st al it. from-repeat s p.at st al it p.options x m j l.fault l.size R-at z))
 
 -- ---- an item with its set, and the quantifier that may follow
 
--- the atoms that take a byte
-abbrev pub Takes : Atom → Type 0
-Takes (Byte b) = Unit {0}
-Takes (OfKind k) = Unit {0}
-Takes (NotOfKind k) = Unit {0}
-Takes Dot = Unit {0}
-Takes NotNewline = Unit {0}
-Takes Start = ⊥
-Takes LastLine = ⊥
-Takes End = ⊥
-Takes Caret = ⊥
-Takes Dollar = ⊥
-Takes WordEdge = ⊥
-Takes NoWordEdge = ⊥
+-- what an atom does: it stands for an assertion, or takes a byte
+module _ (st : List Frame) (al it : List Syntax) (o : Options) where
+  one-stands : (x : Atom) (y : Assertion) → assertion_for o x ≡ Some y → one (state st al it o nothing) x ≡ state st al (assertion y ∷ it) o nothing
+  unfolding one
+  one-stands (Byte b) y e = cc
+  one-stands (OfKind i) y e = cc
+  one-stands (NotOfKind i) y e = cc
+  one-stands Dot y e = cc
+  one-stands NotNewline y e = cc
+  one-stands Start y e = cc
+  one-stands LastLine y e = cc
+  one-stands End y e = cc
+  one-stands Caret y e = cc
+  one-stands Dollar y e = cc
+  one-stands WordEdge y e = cc
+  one-stands NoWordEdge y e = cc
 
-one-takes : (st : List Frame) (al it : List Syntax) (o : Options) (x : Atom) → Takes x → one (state st al it o nothing) x ≡ state st al (item (item_set o x) ∷ it) o single
-unfolding one
-one-takes st al it o (Byte b) k = refl
-one-takes st al it o (OfKind i) k = refl
-one-takes st al it o (NotOfKind i) k = refl
-one-takes st al it o Dot k = refl
-one-takes st al it o NotNewline k = refl
-one-takes st al it o Start k = absurd k
-one-takes st al it o LastLine k = absurd k
-one-takes st al it o End k = absurd k
-one-takes st al it o Caret k = absurd k
-one-takes st al it o Dollar k = absurd k
-one-takes st al it o WordEdge k = absurd k
-one-takes st al it o NoWordEdge k = absurd k
+  one-takes : (x : Atom) → assertion_for o x ≡ None → one (state st al it o nothing) x ≡ state st al (item (item_set o x) ∷ it) o single
+  unfolding one
+  one-takes (Byte b) e = refl
+  one-takes (OfKind i) e = refl
+  one-takes (NotOfKind i) e = refl
+  one-takes Dot e = refl
+  one-takes NotNewline e = refl
+  one-takes Start e = cc
+  one-takes LastLine e = cc
+  one-takes End e = cc
+  one-takes Caret e = cc
+  one-takes Dollar e = cc
+  one-takes WordEdge e = cc
+  one-takes NoWordEdge e = cc
 
--- an assertion's number is at most that of the last
-pub code-small : (y : Assertion) → code_of y < 7
-code-small at_start = omega arith
-code-small at_last_line = omega arith
-code-small at_end = omega arith
-code-small line_start = omega arith
-code-small line_end = omega arith
-code-small word_edge = omega arith
-code-small no_word_edge = omega arith
+-- an assertion, by its name in the code
+pub in-code-some : (m : Option Assertion) (k : code.Assertion) → Some k ≡ in_code m → (y : Assertion) × (m ≡ Some y) × (meant k ≡ y)
+in-code-some None k e = cc
+in-code-some (Some y) k e = let h : k ≡ named y = cc in (y, refl, rw h (meant-named y))
 
-module _ (s a : List ℕ) (at : ℕ) (o : Options) (n : ℕ) (room : Room s a at n 5) where
-  -- what is left of the room after an item's words, at place p
-  pub item_room : (p : ℕ) (bytes b : List ℕ) → at ≤ p → p ≤ length s → b ≡ sets a n (bytes ++ (word 1 0 0 0 ∷ [])) → Room s b p (n + 5) 0
-  item_room p bytes b h k e = record { inside = k; space = omega (arith, room.space); long = ap length e ∙ length-sets a n (bytes ++ (word 1 0 0 0 ∷ [])) ∙ room.long }
+pub in-code-none : (m : Option Assertion) → None ≡ in_code m → m ≡ None
+in-code-none None e = refl
+in-code-none (Some y) e = cc
 
-  -- the item is read up to place p
-  item-read : (p : ℕ) (bytes b c : List ℕ) (g : Got) → at ≤ p → p ≤ length s → Words bytes → b ≡ sets a n (bytes ++ (word 1 0 0 0 ∷ [])) → SaidQuantified s b c p o (n + 5) (n + 4) g
-      → Said (SaysQuantified s p o (item bytes) g) s a c at n (n + 6 * (length s - at) + 5) g
-  unfolding width lay Tidy
-  item-read p bytes b c g h k w e Q =
-      let R : Read-up s a b at n (n + 6 * (length s - at) + 5) (item bytes) (got p (n + 5) (n + 4) o) =
-      record { words = e; tidy = w; count = refl; top = omega arith; on = h; inside = k; space = omega arith } in
-      let t : tree_at b (n + 4) ≡ item bytes = laid-tree (item bytes) a b n (n + 4) (omega arith) (omega (arith, room.space)) (omega (arith, room.space, room.long)) w e in
-      (rw t at Q) a n at (n + 6 * (length s - at) + 5) R
+module _ (s : List ℕ) (p : Parser) (room : Room s p 5) where
+  -- what is left of the room after an item's words, at place k
+  pub item_room : (k : ℕ) (o : Options) (bytes : List ℕ) (b : Arena) → p.at ≤ k → k ≤ length s → b ≡ pushed_item p.tree bytes → Room s (record { at = k; options = o; tree = b }) 0
+  item_room k o bytes b h i e = rw e (record { inside = i; space = omega (arith, room.space); long = length-sets p.tree.words p.tree.n (bytes ++ (word 1 0 0 0 ∷ [])) ∙ room.long })
+
+  -- the item is read up to place k
+  module _ (k : ℕ) (bytes : List ℕ) (b : Arena) (root : ℕ) (u : Parser) (r : Result ℕ Fault) (h : p.at ≤ k) (i : k ≤ length s) (w : Words bytes) (er : root ≡ p.tree.n + 4) (eb : b ≡ pushed_item p.tree bytes) where
+    q : Parser
+    q = record { at = k; options = p.options; tree = pushed_item p.tree bytes }
+
+    item-read : SaidQuantified s (record { at = k; options = p.options; tree = b }) u root r
+        → Said (SaysQuantified s (record { at = k; options = p.options; tree = p.tree }) (item bytes) u r) s p.tree u p.at (room_from s p p.at 5) r
+    unfolding width lay Tidy q
+    item-read Q =
+        let R : Read-up s p.tree q p.at (room_from s p p.at 5) (item bytes) (p.tree.n + 4) =
+        record { words = refl; tidy = w; count = refl; top = omega arith; on = h; inside = i; space = omega arith } in
+        let t : tree_at q.tree.words (p.tree.n + 4) ≡ item bytes = laid-tree (item bytes) p.tree.words q.tree.words p.tree.n (p.tree.n + 4) (omega arith) (omega (arith, room.space)) (omega (arith, room.space, room.long)) w refl in
+        let Q' : SaidQuantified s q u (p.tree.n + 4) r = rw (er, eb) at Q in
+        (rw t at Q') p.tree p.at (room_from s p p.at 5) R
 
   -- an atom that stands for the assertion y
-  pub one-assertion : (x : Atom) (y : Assertion) → ((st : List Frame) (al it : List Syntax) → one (state st al it o nothing) x ≡ state st al (assertion y ∷ it) o nothing)
-      → (b : List ℕ) (g : Got) → g ≡ got at (n + 1) n o → b ≡ set a n (word 2 (code_of y) 0 0) → SaidOne s a b at o x n g
-  unfolding onward width lay Tidy
-  one-assertion x y h b g eg eb =
-      rw (eg, eb)
-      (leaf-said (SaysOne s at o x (got at (n + 1) n o)) s a at n 5 o room (omega arith) (assertion y) (word 2 (code_of y) 0 0) refl refl tt
-      (λ st al it. rw (h st al it)))
+  pub one-assertion : (x : Atom) (y : Assertion) → assertion_for p.options x ≡ Some y
+      → (b : Arena) (root : ℕ) → root ≡ p.tree.n → b ≡ pushed p.tree (word 2 (code_of y) 0 0) → SaidOne s p (with_tree p b) x (Ok root)
+  unfolding width lay Tidy
+  one-assertion x y h b root er eb =
+      rw (er, eb)
+      (leaf-said (SaysOne s p x p (Ok p.tree.n)) s p 5 room (omega arith) (assertion y) (word 2 (code_of y) 0 0) refl refl tt
+      (λ st al it. rw (one-stands st al it p.options x y h)))
 
   -- an atom that takes a byte
-  pub one-item : (x : Atom) → Takes x → (bytes b c : List ℕ) (g : Got) → bytes ≡ item_set o x → b ≡ sets a n (bytes ++ (word 1 0 0 0 ∷ [])) → SaidQuantified s b c at o (n + 5) (n + 4) g → SaidOne s a c at o x n g
-  one-item x k bytes b c g e eb Q =
-      let S = item-read at bytes b c g (omega arith) room.inside (rw e (words-item o x)) eb Q in
-      record { says = λ st al it. rw (one-takes st al it o x k, ← e) (S.says st al it); reads = S.reads }
+  pub one-item : (x : Atom) → assertion_for p.options x ≡ None → (bytes : List ℕ) (b : Arena) (root : ℕ) (u : Parser) (r : Result ℕ Fault) → bytes ≡ item_set p.options x → root ≡ p.tree.n + 4 → b ≡ pushed_item p.tree bytes
+      → SaidQuantified s (with_tree p b) u root r → SaidOne s p u x r
+  one-item x k bytes b root u r e er eb Q =
+      let S = item-read p.at bytes b root u r (omega arith) room.inside (rw e (words-item p.options x)) er eb Q in
+      record { says = λ st al it. rw (one-takes st al it p.options x k, ← e) (S.says st al it); reads = S.reads }
 
-  pub class-fault : (g : Got) (c : declared.Class.Class) → c ≡ class_of o.caseless (drop at s) at → (c.number ≡ 0 → ⊥) → g ≡ refusal c.number c.place → SaidClass s a a at o n g
+  pub class-fault : (q : Parser) (f : Fault) → class (Err f) ≡ class_of p.options.caseless (drop p.at s) p.at → SaidClass s p q (Err f)
   unfolding class_ends
-  class-fault g c e bad eg =
-      said-no (SaysClass s at o g) s a a at n _ g (bad-refusal g c.number c.place eg bad)
-      (λ st al it. refuses g c.number c.place _ _ eg bad (rw (← e, ne_eqb c.number 0 bad)))
+  class-fault q f e = record { says = λ st al it. rw (← e, ne_eqb (number_of f.refusal) 0 (no-zero f.refusal)); reads = tt }
 
-  pub class-inside : (c : declared.Class.Class) → c ≡ class_of o.caseless (drop at s) at → c.number ≡ 0 → (at ≤ c.place) × (c.place ≤ length s)
-  class-inside c e z =
-      let k : Closed (drop at s) at c = rw e (class-closed o.caseless (drop at s) at (rw e at z)) in
-      (omega (arith, k.on), omega (arith, k.inside, length-drop at s, room.inside))
+  module _ (c : classes.Class) (e : c ≡ class_of p.options.caseless (drop p.at s) p.at) where
+    module _ (z : c.number ≡ 0) where
+      closed-at : Closed (drop p.at s) p.at c
+      closed-at = rw e (class-closed p.options.caseless (drop p.at s) p.at (rw e at z))
 
-  pub class-item : (b d : List ℕ) (g : Got) (c : declared.Class.Class) → c ≡ class_of o.caseless (drop at s) at → c.number ≡ 0 → b ≡ sets a n (c.set ++ (word 1 0 0 0 ∷ [])) → SaidQuantified s b d c.place o (n + 5) (n + 4) g → SaidClass s a d at o n g
-  unfolding class_ends
-  class-item b d g c e z eb Q =
-      let k : Closed (drop at s) at c = rw e (class-closed o.caseless (drop at s) at (rw e at z)) in
-      let i = class-inside c e z in
-      let S = item-read c.place c.set b d g i.0 i.1 k.words eb Q in
-      record { says = λ st al it. rw (← e, eq-eqb c.number 0 z) (S.says st al it); reads = S.reads }
+      pub class-inside : (p.at ≤ c.place) × (c.place ≤ length s)
+      class-inside = (omega (arith, closed-at.on), omega (arith, closed-at.inside, length-drop p.at s, room.inside))
+
+      pub class-item : (b : Arena) (root : ℕ) (u : Parser) (r : Result ℕ Fault) → root ≡ p.tree.n + 4 → b ≡ pushed_item p.tree c.set
+          → SaidQuantified s (record { at = c.place; options = p.options; tree = b }) u root r → SaidClass s p u r
+      unfolding class_ends
+      class-item b root u r er eb Q =
+          let S = item-read c.place c.set b root u r class-inside.0 class-inside.1 closed-at.words er eb Q in
+          record { says = λ st al it. rw (← e, eq-eqb c.number 0 z) (S.says st al it); reads = S.reads }

@@ -14,14 +14,14 @@ use Rattle.kinds.specs.Kind.{within, is_lower, is_upper, is_digit, is_alpha, is_
 use Rattle.kinds.specs.declared.Kind.TheVariants.{Digit, Word, Space, Horizontal, Vertical}
 use Rattle.atoms.specs.declared.Atom.{Atom}
 use Rattle.atoms.specs.declared.Atom.TheVariants.{Byte, OfKind, NotOfKind, NotNewline, Start, LastLine, End, WordEdge, NoWordEdge}
-use Rattle.atoms.specs.declared.Part.{Part}
+use Rattle.atoms.specs.Escape.{Part}
 use Rattle.atoms.specs.declared.Gap.{Gap}
-use Rattle.classes.specs.declared.Joint.{Joint}
+use Rattle.classes.specs.Class.{Joint}
 use Rattle.tokens.specs.declared.Options.{Options}
-use Rattle.tokens.specs.declared.Form.{Form}
-use Rattle.tokens.specs.declared.Token.{Token}
-use Rattle.tokens.specs.declared.Token.TheVariants.{Finish, Bar, Close, Class, One, Open, Set, Note, Unclosed, Repeat, Bad}
-use Rattle.tokens.specs.declared.Lexeme.{Lexeme}
+use Rattle.tokens.specs.Quantifier.{Form}
+use Rattle.tokens.specs.Lexeme.{Token}
+use Rattle.tokens.specs.Lexeme.{Finish, Bar, Close, Class, One, Open, Set, Note, Unclosed, Repeat, Bad}
+use Rattle.tokens.specs.Lexeme.{Lexeme}
 use Rattle.atoms.specs.Number.{cap, some, blanks, digits, value_from, numeral_of}
 use Rattle.atoms.specs.Escape.{good, braced_of, short_of, control_of, type_of, named_of, placed_of, hex_of, octal_of, escape_of}
 use Rattle.atoms.specs.Fault.{lower}

@@ -13,9 +13,9 @@ use Rattle.sets.proofs.Laws.{Words, words-set_of}
 use Rattle.kinds.specs.Case.{case_closed}
 use Rattle.atoms.specs.declared.Atom.{Atom}
 use Rattle.atoms.specs.declared.Atom.TheVariants.{Byte, OfKind, NotOfKind, Dot, NotNewline, Start, LastLine, End, Caret, Dollar, WordEdge, NoWordEdge}
-use Rattle.classes.specs.declared.Class.{Class}
+use Rattle.classes.specs.Class.{Class}
 use Rattle.atoms.specs.declared.Gap.{Gap}
-use Rattle.classes.specs.declared.Member.{Member}
+use Rattle.classes.specs.Class.{Member}
 use Rattle.tokens.specs.declared.Options.{Options}
 use Rattle.classes.specs.Class.{member_at, joined, settled, members_of, class_of}
 use Rattle.atoms.specs.Quote.{is_mark, opens_quote, gap_of}

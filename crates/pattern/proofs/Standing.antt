@@ -13,13 +13,13 @@ use lib.ListN.{length, get_or, take, drop, length-drop}
 use lib.Seq.{drop-drop}
 use Rattle.tokens.specs.declared.Options.{Options}
 use Rattle.atoms.specs.declared.Gap.{Gap}
-use Rattle.classes.specs.declared.Member.{Member}
+use Rattle.classes.specs.Class.{Member}
 use Rattle.atoms.specs.declared.Atom.TheVariants.{Byte}
-use Rattle.atoms.specs.declared.Part.{Part}
-use Rattle.tokens.specs.declared.Form.{Form}
-use Rattle.tokens.specs.declared.Token.{Token}
-use Rattle.tokens.specs.declared.Token.TheVariants.{Finish, Bar, Close, Class, One, Open, Set, Note, Unclosed, Repeat, Bad}
-use Rattle.tokens.specs.declared.Lexeme.{Lexeme}
+use Rattle.atoms.specs.Escape.{Part}
+use Rattle.tokens.specs.Quantifier.{Form}
+use Rattle.tokens.specs.Lexeme.{Token}
+use Rattle.tokens.specs.Lexeme.{Finish, Bar, Close, Class, One, Open, Set, Note, Unclosed, Repeat, Bad}
+use Rattle.tokens.specs.Lexeme.{Lexeme}
 use Rattle.atoms.specs.Fault.{lower}
 use Rattle.atoms.specs.Raw.{with_raw}
 use Rattle.atoms.specs.Quote.{is_mark, gap_of}

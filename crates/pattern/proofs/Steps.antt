@@ -11,13 +11,13 @@ use borrow.Author.Tests.{eqb-true, eqb-false, lt-ltb, le-ltb, eq-eqb, ne_eqb, le
 use lib.Dec.{eqb}
 use lib.ListN.{length, get_or, drop, drop_of_length-le, length-drop, get_or-eq_default}
 use lib.Seq.{drop-drop}
-use Rattle.classes.specs.declared as declared
+use Rattle.classes.specs.Class as classes
 use Rattle.tokens.specs.declared.Options.{Options}
 use Rattle.atoms.specs.declared.Atom.{Atom}
 use Rattle.atoms.specs.declared.Atom.TheVariants.{Byte, OfKind, NotOfKind, Dot, NotNewline, Start, LastLine, End, Caret, Dollar, WordEdge, NoWordEdge}
-use Rattle.tokens.specs.declared.Token.{Token}
-use Rattle.tokens.specs.declared.Token.TheVariants.{Finish, Bar, Close, Class, One, Open, Set, Note, Unclosed, Repeat, Bad}
-use Rattle.tokens.specs.declared.Lexeme.{Lexeme}
+use Rattle.tokens.specs.Lexeme.{Token}
+use Rattle.tokens.specs.Lexeme.{Finish, Bar, Close, Class, One, Open, Set, Note, Unclosed, Repeat, Bad}
+use Rattle.tokens.specs.Lexeme.{Lexeme}
 use Rattle.atoms.specs.Fault.{lower}
 use Rattle.classes.specs.Class.{class_of}
 use Rattle.tokens.specs.Token.{lexeme_of}
@@ -242,7 +242,7 @@ class-follow : (s : List ℕ) (at : ℕ) (m : State) → at < length s
     → follow s at (act at (drop at s) m 1 Class) ≡ class_ends s (at + 1) m
 unfolding act class_ends
 class-follow s at m h =
-    let c : declared.Class.Class = class_of m.options.caseless (drop (at + 1) s) (at + 1) in
+    let c : classes.Class = class_of m.options.caseless (drop (at + 1) s) (at + 1) in
     rw (drop-drop 1 at s)
     (split (eqb c.number 0)
     (λ e.
@@ -321,7 +321,6 @@ module _ (s : List ℕ) (at : ℕ) (st : List Frame) (al it : List Syntax) (o : 
 
   -- a faulty token, where nothing stands before it that a quantifier could repeat
   pub from-fault : (t : Token) → At s at o (lex f k t) → (fault_of (lex f k t) ≡ 0 → ⊥) → from s at (state st al it o nothing) ≡ refused (fault_of (lex f k t)) at
-  unfolding fault_of
   from-fault t h z =
       walk-on s at (state st al it o nothing) h.inside
       ∙ ap (follow s at) (next-bad at (drop at s) (state st al it o nothing) f k (fault_for f t) t h.is (fault-nothing st al it o (get_or s at 0) f t h.sound.right) z)

@@ -1,5 +1,7 @@
 -- The answer of a reading. Assumes nothing: these are definitions.
-use Rattle.std.specs.Prelude.{Bool, false, cond, List, ◌++◌, ℕ, ◌-◌, ◌/◌, ◌%◌, eqb, ltb, length, replicate}
+use Rattle.std.specs.Prelude.{Bool, false, cond, Result, Ok, Err, List, ◌++◌, ℕ, ◌-◌, ◌/◌, ◌%◌, eqb, ltb, length, replicate}
+use Rattle.refusals.specs.Refusal.{number_of}
+use Rattle.refusals.specs.declared.Fault.{Fault}
 use Rattle.tokens.specs.declared.Options.{Options}
 use Rattle.meaning.specs.Count.{limit, saturating, nullable}
 use Rattle.nodes.specs.Nodes.{width, lay}
@@ -39,8 +41,18 @@ options_of flags = record { caseless = eqb (flags % 2) 1; dotall = eqb (flags / 
 abbrev pub room : ℕ
 room = 8192
 
+-- what is answered: number 0 with place 0, the tree's root, how many words its nodes take, its
+-- positions and the words; or the refusal's number and place, and zeros
+pub record Answer : Type 0 where
+  pub number : ℕ
+  pub place : ℕ
+  pub root : ℕ
+  pub size : ℕ
+  pub positions : ℕ
+  pub nodes : List ℕ
+
 -- the answer: the tree's nodes from the front on, and zeros
-unfoldable pub answer_of : Read → Reading
+unfoldable pub answer_of : Read → Answer
 answer_of (refused number place) = record { number = number; place = place; root = 0; size = 0; positions = 0; nodes = replicate room 0 }
 answer_of (tree t) = record {
   number = 0;
@@ -50,3 +62,8 @@ answer_of (tree t) = record {
   positions = saturating t;
   nodes = lay 0 t ++ replicate (room - width t) 0;
 }
+
+-- what the reader's result answers: a reason has its number
+abbrev pub answered : Result Reading Fault → Answer
+answered (Ok r) = record { number = 0; place = 0; root = r.root; size = r.size; positions = r.positions; nodes = r.nodes }
+answered (Err f) = record { number = number_of f.refusal; place = f.place; root = 0; size = 0; positions = 0; nodes = replicate room 0 }

@@ -11,11 +11,11 @@
 use Rattle.std.specs.Prelude.{◌≡◌, Bool, true, false, cond, not, ◌&&◌, ◌||◌, List, [], ◌∷◌, ℕ, suc, ◌+◌, ◌≤◌, ◌<◌, T, eqb, leb, ltb, length, get_or, drop, take}
 use Rattle.kinds.specs.Kind.{within, is_alnum}
 use Rattle.tokens.specs.declared.Options.{Options}
-use Rattle.atoms.specs.declared.Part.{Part}
+use Rattle.atoms.specs.Escape.{Part}
 use Rattle.atoms.specs.declared.Gap.{Gap}
-use Rattle.classes.specs.declared.Joint.{Joint}
-use Rattle.tokens.specs.declared.Token.{Token}
-use Rattle.tokens.specs.declared.Token.TheVariants.{Finish, Bar, Close, Class, One, Open, Set, Note, Unclosed, Repeat, Bad}
+use Rattle.classes.specs.Class.{Joint}
+use Rattle.tokens.specs.Lexeme.{Token}
+use Rattle.tokens.specs.Lexeme.{Finish, Bar, Close, Class, One, Open, Set, Note, Unclosed, Repeat, Bad}
 use Rattle.atoms.specs.Number.{some, blanks, digits, value_from}
 use Rattle.atoms.specs.Quote.{is_mark, opens_quote, gap_of}
 use Rattle.classes.specs.Name.{Name, names, begins as begins_with}

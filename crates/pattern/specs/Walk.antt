@@ -5,9 +5,9 @@ use lib.ListN.{length}
 use Rattle.atoms.specs.declared.Atom.{Atom}
 use Rattle.atoms.specs.declared.Atom.TheVariants.{Byte, OfKind, NotOfKind, Dot, NotNewline, Start, LastLine, End, Caret, Dollar, WordEdge, NoWordEdge}
 use Rattle.tokens.specs.declared.Options.{Options}
-use Rattle.tokens.specs.declared.Token.{Token}
-use Rattle.tokens.specs.declared.Token.TheVariants.{Finish, Bar, Close, Class, One, Open, Set, Note, Unclosed, Repeat, Bad}
-use Rattle.tokens.specs.declared.Lexeme.{Lexeme}
+use Rattle.tokens.specs.Lexeme.{Token}
+use Rattle.tokens.specs.Lexeme.{Finish, Bar, Close, Class, One, Open, Set, Note, Unclosed, Repeat, Bad}
+use Rattle.tokens.specs.Lexeme.{Lexeme}
 use Rattle.atoms.specs.Fault.{lower}
 use Rattle.classes.specs.Class.{class_of}
 use Rattle.tokens.specs.Token.{lexeme_of, item_set}

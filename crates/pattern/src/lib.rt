@@ -11,24 +11,23 @@ mod reader;
 mod writer;
 
 ghost use Rattle.std.specs.Prelude.{◌≡◌, drop};
-ghost use Rattle.pattern.specs.Read.{limited_read, options_of, answer_of};
-ghost use Rattle.pattern.specs.Walk.{Read};
+ghost use Rattle.pattern.specs.Read.{limited_read, options_of, answer_of, answered};
 
 pub use bounds::{Bounds, size_fault};
-use groups::branches;
+use items::Parser;
 use nodes::{count, nullable};
 pub use reader::Reader;
+use refusals::{Fault, Refusal};
 use tokens::Options;
+use writer::Arena;
 
 // How many words the nodes of any pattern fit in.
 pub const NODE_WORDS: usize = 8192;
 
-// What reading a pattern gives: number 0 with place 0, the tree's root, how many words its nodes
-// take, and its positions; or the refusal's number and place, and zeros.
+// What reading a pattern gives: the tree's root, how many words its nodes take, its positions, and
+// the words.
 #[derive(Clone, Copy)]
 pub struct Reading {
-    pub number: u32,
-    pub place: usize,
     pub root: usize,
     pub size: usize,
     pub positions: u32,
@@ -38,78 +37,81 @@ pub struct Reading {
 // The longest pattern that is read, in bytes.
 pub const LONGEST: usize = 1024;
 
-// The answer that refuses.
-fn refused(number: u32, place: usize) -> Reading
-    ensures { result ≡ answer_of (Read.refused number place) }
-{
-    Reading {
-        number,
-        place,
-        root: 0,
-        size: 0,
-        positions: 0,
-        nodes: [0; NODE_WORDS],
-    }
-}
+// The flags that set options; other bits mean nothing here.
+const CASELESS: u32 = 1;
+
+const DOTALL: u32 = 2;
+
+const LINES: u32 = 4;
 
 // The options that the flags set.
 fn options_of(flags: u32) -> Options
     ensures { result ≡ options_of flags }
 {
     Options {
-        caseless: flags % 2 == 1,
-        dotall: flags / 2 % 2 == 1,
-        lines: flags / 4 % 2 == 1,
+        caseless: flags & CASELESS != 0,
+        dotall: flags & DOTALL != 0,
+        lines: flags & LINES != 0,
         quoted: false,
     }
 }
 
 // Reads a pattern, all of it.
-fn read_all(pattern: &[u8], flags: u32) -> Reading
-    ensures { result ≡ answer_of (limited_read pattern.now (options_of flags)) }
+fn read_all(pattern: &[u8], flags: u32) -> Result<Reading, Fault>
+    ensures { answered result ≡ answer_of (limited_read pattern.now (options_of flags)) }
 {
     let length = pattern.len();
     if length > LONGEST {
-        return refused(5, 0);
+        return Err(Fault {
+            refusal: Refusal::LongPattern,
+            place: 0,
+        });
     }
-    let mut nodes = [0u64; NODE_WORDS];
-    let g = branches(pattern, 0, 0, options_of(flags), &mut nodes, 0);
-    if g.fault != 0 {
-        return refused(g.fault, g.at);
+    let mut parser = Parser {
+        at: 0,
+        options: options_of(flags),
+        tree: Arena::new(),
+    };
+    let root = parser.branches(pattern, 0)?;
+    if parser.at < length {
+        return Err(Fault {
+            refusal: Refusal::BadGroup,
+            place: parser.at,
+        });
     }
-    if g.at < length {
-        return refused(12, g.at);
+    let nodes = parser.tree.words;
+    if nullable(&nodes, root) {
+        return Err(Fault {
+            refusal: Refusal::EmptyMatch,
+            place: length,
+        });
     }
-    if nullable(&nodes, g.root) {
-        return refused(15, length);
-    }
-    let positions = count(&nodes, g.root);
+    let positions = count(&nodes, root);
     if positions > 256 {
-        return refused(16, length);
+        return Err(Fault {
+            refusal: Refusal::LargeRule,
+            place: length,
+        });
     }
-    Reading {
-        number: 0,
-        place: 0,
-        root: g.root,
-        size: g.n,
+    Ok(Reading {
+        root,
+        size: parser.tree.n,
         positions: positions as u32,
         nodes,
-    }
+    })
 }
 
 // Reads the pattern that stands from a place on; past the end there is the empty one. The answer's
 // place counts from there.
-pub fn read_at(s: &[u8], at: usize, flags: u32) -> Reading
-    ensures { result ≡ answer_of (limited_read (drop at s.now) (options_of flags)) }
+pub fn read_at(s: &[u8], at: usize, flags: u32) -> Result<Reading, Fault>
+    ensures { answered result ≡ answer_of (limited_read (drop at s.now) (options_of flags)) }
 {
-    let length = s.len();
-    let from = if at < length { at } else { length };
-    read_all(&s[from..], flags)
+    read_all(&s[at.min(s.len())..], flags)
 }
 
 // Reads a pattern.
-pub fn read(pattern: &[u8], flags: u32) -> Reading
-    ensures { result ≡ answer_of (limited_read pattern.now (options_of flags)) }
+pub fn read(pattern: &[u8], flags: u32) -> Result<Reading, Fault>
+    ensures { answered result ≡ answer_of (limited_read pattern.now (options_of flags)) }
 {
     Reader::new(pattern).read(flags)
 }

@@ -2,9 +2,11 @@
 // and hands slice and number on.
 ghost use Rattle.std.specs.Prelude.{◌≡◌, drop};
 ghost use Rattle.tokens.specs.Token.{lexeme_of};
-ghost use Rattle.pattern.specs.Read.{limited_read, options_of, answer_of};
+ghost use Rattle.tokens.specs.Answer.{lexeme};
+ghost use Rattle.pattern.specs.Read.{limited_read, options_of, answer_of, answered};
 
 use crate::{Reading, read_at};
+use refusals::Fault;
 use tokens::{Lexeme, Options, token_at};
 
 // The bytes of a pattern, and a place in them. A place past the end reads as the end.
@@ -24,14 +26,14 @@ impl<'a> Reader<'a> {
 
     // The token at its place, where the options are these.
     pub fn peek(self, options: Options) -> Lexeme
-        ensures { result ≡ lexeme_of options (drop self.entry.at self.entry.bytes.now) }
+        ensures { lexeme result ≡ lexeme_of options (drop self.entry.at self.entry.bytes.now) }
     {
         token_at(self.bytes, self.at, options)
     }
 
     // Reads what stands from its place on as a pattern.
-    pub fn read(self, flags: u32) -> Reading
-        ensures { result ≡ answer_of (limited_read (drop self.entry.at self.entry.bytes.now) (options_of flags)) }
+    pub fn read(self, flags: u32) -> Result<Reading, Fault>
+        ensures { answered result ≡ answer_of (limited_read (drop self.entry.at self.entry.bytes.now) (options_of flags)) }
     {
         read_at(self.bytes, self.at, flags)
     }

@@ -14,16 +14,14 @@ use Rattle.meaning.specs.Ordered.{Report}
 use Rattle.meaning.proofs.Counted.{within-limit}
 use Rattle.nodes.specs.Nodes.{Syntax}
 use Rattle.pattern.specs.Walk.{Read, tree, refused}
-use Rattle.pattern.specs.Read.{too_long, read_of, limited_read, options_of, answer_of}
+use Rattle.pattern.specs.Read.{too_long, read_of, limited_read, options_of, Answer, answer_of}
 use Rattle.pattern.specs.Windows.{windows_of, empty_window, size_fault as pattern_fault}
-use Rattle.pattern.specs.declared.Reading.{Reading}
 use Rattle.pattern.specs.declared.bounds.Bounds.{Bounds}
 use Rattle.pattern.proofs.Answers.{accepted-tree, Accepted}
 use Rattle.plain.specs.Run.{Hit, closed, kept, Lent}
-use Rattle.plain.specs.Answer.{Question, known_flags, has_single, has_leftmost, longest_log, least_space, verdict, rule_of, refusal, Answered, Matches}
+use Rattle.plain.specs.Answer.{Question, known_flags, has_single, has_leftmost, longest_log, least_space, verdict, rule_of, Matched, refusal, Answered, Matches}
 use Rattle.nodes.specs.Invariants.{form_at}
 use Rattle.plain.specs.Invariants.{choice_of, Asks, Delivered, flag_fault, size_fault, first_fault, Checked, wanted_by}
-use Rattle.plain.specs.declared.Matched.{Matched}
 use Rattle.plain.specs.declared.run.Wanted.{Wanted}
 use Rattle.plain.proofs.Listed.{the-list, is-ordered, its-offsets, its-starts, its-length}
 
@@ -110,7 +108,7 @@ module _ (q : Question) (old : Lent) where
   pub checked : {fault space' : ℕ} → space' ≡ space → fault ≡ first_fault q space' → fault ≡ 0 → Checked q old
   checked es ef none = rw es at (sym ef ∙ none)
 
-  module _ (fine : Checked q old) (r : Reading) (is : r ≡ answer_of (limited_read q.pattern (options_of q.flags))) where
+  module _ (fine : Checked q old) (r : Answer) (is : r ≡ answer_of (limited_read q.pattern (options_of q.flags))) where
     pass : Passed q space
     pass = passed q space fine
 
@@ -119,8 +117,8 @@ module _ (q : Question) (old : Lent) where
     unread-answer {m} n d = rw pass.reads (go (limited_read q.pattern (options_of q.flags)) is)
       where
         go : (x : Read) → r ≡ answer_of x → Answered q old old m x
-        go (refused number place) e = (d ∙ ap₂ refusal (ap (λ (y : Reading). y.number) e) (ap (λ (y : Reading). y.place) e), refl)
-        go (tree t) e = absurd (n (ap (λ (y : Reading). y.number) e))
+        go (refused number place) e = (d ∙ ap₂ refusal (ap (λ (y : Answer). y.number) e) (ap (λ (y : Answer). y.place) e), refl)
+        go (tree t) e = absurd (n (ap (λ (y : Answer). y.number) e))
 
     module _ (accepted : r.number ≡ 0) where
       abbrev got : (t : Syntax) × (limited_read q.pattern (options_of q.flags) ≡ tree t) × Accepted r t

@@ -1,6 +1,6 @@
 -- The answer of the plain matcher, and the two lent lists afterwards. Assumes nothing: these are
 -- definitions.
-use Rattle.std.specs.Prelude.{◌≡◌, Bool, cond, not, ◌&&◌, List, [], ◌∷◌, ◌++◌, map, ℕ, ◌/◌, ◌%◌, min, eqb, ltb, length, drop}
+use Rattle.std.specs.Prelude.{◌≡◌, Result, Ok, Err, Bool, cond, not, ◌&&◌, List, [], ◌∷◌, ◌++◌, map, ℕ, ◌/◌, ◌%◌, min, eqb, ltb, length, drop}
 use Rattle.std.specs.Int.Bits.{bit_and}
 use Rattle.meaning.specs.Rule.{Rule, Windows}
 use Rattle.meaning.specs.Ordered.{Report, Ordered}
@@ -10,7 +10,8 @@ use Rattle.pattern.specs.Read.{too_long, read_of, options_of}
 use Rattle.pattern.specs.Windows.{windows_of, empty_window}
 use Rattle.pattern.specs.declared.bounds.Bounds.{Bounds}
 use Rattle.plain.specs.Run.{Lent}
-use Rattle.plain.specs.declared.Matched.{Matched}
+use Rattle.refusals.specs.Refusal.{number_of}
+use Rattle.refusals.specs.declared.Fault.{Fault}
 
 -- what the matcher is asked: pattern bytes, flags, windows, a whole log
 pub record Question : Type 0 where
@@ -75,9 +76,21 @@ pub record Reports (r : Rule) (log : List ℕ) (old new : Lent) (count : ℕ) : 
   pub offsets : new.offsets ≡ map (λ p. p.1) list ++ drop (length list) old.offsets
   pub starts : new.starts ≡ map (λ p. p.2) list ++ drop (length list) old.starts
 
+-- the answer: number 0, place 0 and how many reports, or the refusal's number and place and no
+-- reports
+pub record Matched : Type 0 where
+  pub number : ℕ
+  pub place : ℕ
+  pub count : ℕ
+
 -- a refusal has its number and place, reports nothing and leaves the lists as they were
 abbrev pub refusal : (number place : ℕ) → Matched
 refusal number place = record { number = number; place = place; count = 0 }
+
+-- as the matcher gives it
+abbrev pub matched_of : Result ℕ Fault → Matched
+matched_of (Ok count) = record { number = 0; place = 0; count = count }
+matched_of (Err f) = refusal (number_of f.refusal) f.place
 
 unfoldable pub Answered : Question → (old new : Lent) → Matched → Read → Type 0
 Answered q old new m (refused number place) = (m ≡ refusal number place) × (new ≡ old)

@@ -5,88 +5,68 @@
 
 mod run;
 
-ghost use Rattle.std.specs.Prelude.{◌≡◌, min};
+ghost use Rattle.std.specs.Prelude.{◌≡◌};
 ghost use Rattle.pattern.specs.Windows.{windows_of};
-ghost use Rattle.plain.specs.Answer.{question, Matches, refusal};
+ghost use Rattle.refusals.specs.Refusal.{code_of};
+ghost use Rattle.plain.specs.Answer.{question, Matches, matched_of};
 ghost use Rattle.plain.specs.Run.{lent};
 ghost use Rattle.plain.specs.Invariants.{flag_fault, size_fault, first_fault, Checked, wanted_by};
 
 use pattern::Bounds;
+use refusals::{Fault, Refusal};
 use run::Wanted;
 
-// The answer: number 0, place 0 and how many reports, or the refusal's number and place and no
-// reports.
-#[derive(Clone, Copy)]
-pub struct Matched {
-    pub number: u32,
-    pub place: usize,
-    pub count: usize,
-}
-
 // The flags: caseless 1, dot matches all 2, line mode 4, single match 8, leftmost start 256.
-const KNOWN_FLAGS: u32 = 271;
+const SINGLE: u32 = 8;
+
+const LEFTMOST: u32 = 256;
+
+const KNOWN_FLAGS: u32 = 1 | 2 | 4 | SINGLE | LEFTMOST;
 
 // The longest log, and the smallest report space.
 const LONGEST_LOG: usize = 1024;
 
 const SPACE: usize = 1024;
 
-fn refused(number: u32, place: usize) -> Matched
-    ensures { result ≡ refusal number place }
-{
-    Matched {
-        number,
-        place,
-        count: 0,
-    }
-}
-
-// The checks of the flags, in order: the number of the first that fails, or 0.
-fn flag_fault(flags: u32) -> u32
-    ensures { result ≡ flag_fault flags }
+// The checks of the flags, in order.
+fn flag_fault(flags: u32) -> Result<(), Refusal>
+    ensures { code_of result ≡ flag_fault flags }
 {
     if flags & KNOWN_FLAGS != flags {
-        return 2;
+        return Err(Refusal::BadFlag);
     }
-    if (flags / 256 % 2 == 1) & (flags / 8 % 2 == 1) {
-        return 24;
+    if (flags / LEFTMOST % 2 == 1) & (flags / SINGLE % 2 == 1) {
+        return Err(Refusal::SingleStart);
     }
-    0
+    Ok(())
 }
 
 // The same of the lengths and bounds.
-fn size_fault(pattern: usize, bounds: Bounds, log: usize, space: usize) -> u32
-    ensures { result ≡ size_fault pattern (windows_of bounds) log space }
+fn size_fault(pattern: usize, bounds: Bounds, log: usize, space: usize) -> Result<(), Refusal>
+    ensures { code_of result ≡ size_fault pattern (windows_of bounds) log space }
 {
-    let fault = pattern::size_fault(pattern, bounds);
-    if fault != 0 {
-        return fault;
-    }
+    pattern::size_fault(pattern, bounds)?;
     if log > LONGEST_LOG {
-        return 28;
+        return Err(Refusal::LongLog);
     }
     if space < SPACE {
-        return 20;
+        return Err(Refusal::SmallSpace);
     }
-    0
+    Ok(())
 }
 
-// The checks before the pattern is read: the number of the first that fails, or 0.
-fn first_fault(pattern: &[u8], flags: u32, bounds: Bounds, log: &[u8], space: usize) -> u32
-    ensures { result ≡ first_fault (question pattern.now flags bounds log.now) space }
+// The checks before the pattern is read.
+fn first_fault(
+    pattern: &[u8],
+    flags: u32,
+    bounds: Bounds,
+    log: &[u8],
+    space: usize,
+) -> Result<(), Refusal>
+    ensures { code_of result ≡ first_fault (question pattern.now flags bounds log.now) space }
 {
-    let fault = flag_fault(flags);
-    if fault != 0 {
-        return fault;
-    }
+    flag_fault(flags)?;
     size_fault(pattern.len(), bounds, log.len(), space)
-}
-
-// The smaller of two lengths.
-fn shorter(x: usize, y: usize) -> usize
-    ensures { result ≡ min x y }
-{
-    if x < y { x } else { y }
 }
 
 // What is wanted of the run, by the flags.
@@ -94,13 +74,13 @@ fn wanted(flags: u32, bounds: Bounds) -> Wanted
     ensures { result ≡ wanted_by flags bounds }
 {
     Wanted {
-        single: flags / 8 % 2 == 1,
-        leftmost: flags / 256 % 2 == 1,
+        single: flags / SINGLE % 2 == 1,
+        leftmost: flags / LEFTMOST % 2 == 1,
         bounds,
     }
 }
 
-// The answer once those checks are passed: the reader's refusal, or the reports.
+// The answer once those checks are passed: the reader's refusal, or how many reports.
 fn answer(
     pattern: &[u8],
     flags: u32,
@@ -108,26 +88,18 @@ fn answer(
     log: &[u8],
     offsets: &mut [u64],
     starts: &mut [u64],
-) -> Matched
+) -> Result<usize, Fault>
     requires { Checked (question pattern.now flags bounds log.now) (lent offsets.old starts.old) }
-    ensures { Matches (question pattern.now flags bounds log.now) (lent offsets.old starts.old) (lent offsets.new starts.new) result }
+    ensures { Matches (question pattern.now flags bounds log.now) (lent offsets.old starts.old) (lent offsets.new starts.new) (matched_of result) }
 {
-    let reading = pattern::read(pattern, flags);
-    if reading.number != 0 {
-        return refused(reading.number, reading.place);
-    }
-    let nodes = reading.nodes;
+    let reading = pattern::read(pattern, flags)?;
     let wanted = wanted(flags, bounds);
-    let count = run::whole(&nodes, reading.root, log, wanted, offsets, starts);
-    Matched {
-        number: 0,
-        place: 0,
-        count,
-    }
+    let count = run::whole(&reading.nodes, reading.root, log, wanted, offsets, starts);
+    Ok(count)
 }
 
 // What the rule of this pattern, these flags and these bounds reports on a whole log, written from
-// the front of `offsets` and `starts`.
+// the front of `offsets` and `starts`: how many reports, or why and where it is refused.
 pub fn matches(
     pattern: &[u8],
     flags: u32,
@@ -135,13 +107,12 @@ pub fn matches(
     log: &[u8],
     offsets: &mut [u64],
     starts: &mut [u64],
-) -> Matched
-    ensures { Matches (question pattern.now flags bounds log.now) (lent offsets.old starts.old) (lent offsets.new starts.new) result }
+) -> Result<usize, Fault>
+    ensures { Matches (question pattern.now flags bounds log.now) (lent offsets.old starts.old) (lent offsets.new starts.new) (matched_of result) }
 {
-    let space = shorter(offsets.len(), starts.len());
-    let fault = first_fault(pattern, flags, bounds, log, space);
-    if fault != 0 {
-        return refused(fault, 0);
+    let space = offsets.len().min(starts.len());
+    if let Err(refusal) = first_fault(pattern, flags, bounds, log, space) {
+        return Err(Fault { refusal, place: 0 });
     }
     answer(pattern, flags, bounds, log, offsets, starts)
 }

@@ -26,6 +26,8 @@ fn over_eights(words: &[u64], block: &[u8], from: usize, end: usize) -> usize
     ensures { NoOpener (automaton words.now) block.now from end result }
 {
     let mut at = from;
+    // Two `while`s: the answer is the place, which a `for` over `chunks_exact(8)` would count
+    // besides, and the turns over an eight become one test.
     while 8 <= end - at {
         let mut some = false;
         let mut i: usize = 0;
@@ -51,14 +53,13 @@ fn next_opener(words: &[u64], block: &[u8], from: usize, end: usize) -> usize
     if words.len() < TABLE_WORDS {
         return from;
     }
-    let mut at = over_eights(words, block, from, end);
-    while at < end {
+    let start = over_eights(words, block, from, end);
+    for at in start..end {
         if opens(words, block[at]) {
             return at;
         }
-        at += 1;
     }
-    at
+    end
 }
 
 // How far a block can be paid for at a unit a byte, from a place of it on.
@@ -66,11 +67,7 @@ fn payable(len: usize, from: usize, units: u64) -> usize
     requires { from ≤ len }
     ensures { result ≡ min len (from + units) }
 {
-    if (len - from) as u64 <= units {
-        len
-    } else {
-        from + units as usize
-    }
+    from + ((len - from) as u64).min(units) as usize
 }
 
 // A place from `from` on, at most `to`, before which no newline stands, unless it is `from`.
@@ -78,14 +75,12 @@ fn before_newlines(block: &[u8], from: usize, to: usize) -> usize
     requires { (from ≤ to) × (to ≤ length block.now) }
     ensures { BackOver block.now from to result }
 {
-    let mut at = to;
-    while from < at {
-        if block[at - 1] != NEWLINE {
-            return at;
+    for at in (from..to).rev() {
+        if block[at] != NEWLINE {
+            return at + 1;
         }
-        at -= 1;
     }
-    at
+    from
 }
 
 // Whether two newlines stand at this place of a block. From there on nothing is passed over, or the

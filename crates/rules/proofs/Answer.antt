@@ -1,28 +1,23 @@
 -- The answer of an addition and the words after it, by how its checks went: one law for each way
 -- that `add` returns.
 use mathlib.Core.Path.{◌≡◌, refl, sym, ap, ap₂, ◌∙◌, subst}
-use mathlib.Core.Bool.{Bool, true, false, cond, ◌||◌}
+use mathlib.Core.Bool.{Bool, true, false, cond}
 use mathlib.Core.List.{List}
 use Prim.Native.Nat.{ℕ, ◌+◌, ◌≤◌, ◌<◌}
-use native.Mathlib.Numerals.{add-one}
 use native.Mathlib.Omega.{arith}
-use lib.Bits.{bit_and}
 use lib.Dec.{eqb, leb, ltb}
 use lib.ListN.{length}
-use borrow.Author.Tests.{eq-eqb, ne_eqb, le-leb, lt-leb, lt-ltb, le-ltb, leb-false}
-use Rattle.sets.specs.Set.{any}
-use Rattle.sets.proofs.Laws.{any_at}
-use Rattle.table.specs.Layout.{table_words, max_rules, max_positions, rules_of, positions_of, id_word}
-use Rattle.table.specs.Table.{is_table, known_flags}
+use borrow.Author.Tests.{ne_eqb, le-leb, lt-leb, lt-ltb, le-ltb, leb-false}
+use Rattle.table.specs.Layout.{table_words, max_rules, max_positions, rules_of, positions_of}
+use Rattle.table.specs.Table.{is_table}
 use Rattle.table.proofs.Test.{Passes, passes}
 use Rattle.meaning.specs.Form.{write, positions}
 use Rattle.meaning.specs.Count.{limit}
 use Rattle.meaning.proofs.Counted.{within-limit}
 use Rattle.nodes.specs.Nodes.{Syntax, tree_at}
 use Rattle.pattern.specs.Walk.{Read, tree, refused}
-use Rattle.pattern.specs.Read.{too_long, options_of, limited_read, answer_of}
+use Rattle.pattern.specs.Read.{too_long, options_of, limited_read, Answer, answer_of}
 use Rattle.pattern.specs.Windows.{empty_window, size_fault}
-use Rattle.pattern.specs.declared.Reading.{Reading}
 use Rattle.pattern.proofs.Answers.{within, accepted-tree}
 use Rattle.rules.specs.Gaps.{parts_at}
 use Rattle.rules.specs.Words.{needs_start, with_window, added}
@@ -31,30 +26,6 @@ use Rattle.rules.specs.Invariants.{first_fault}
 use Rattle.rules.specs.declared.Added.{Added}
 use Rattle.rules.proofs.Windows.{length-window, window-rules, window-positions}
 
--- ---- an id among those of the table
-
--- none of the first a rules has it
-pub NoneBefore : List ℕ → (id a : ℕ) → Type 0
-NoneBefore t id a = any a (λ b. eqb (id_word t b) id) ≡ false
-
-module _ (t : List ℕ) (id : ℕ) where
-  pub none_first : NoneBefore t id 0
-  unfolding NoneBefore any
-  none_first = refl
-
-  pub none_more : (a : ℕ) → NoneBefore t id a → (id_word t a ≡ id → ⊥) → NoneBefore t id (a + 1)
-  unfolding NoneBefore any
-  none_more a n h =
-      ap (λ (k : ℕ). any k (λ b. eqb (id_word t b) id)) (add-one a) ∙ ap₂ (λ (x y : Bool). x || y) n (ne_eqb (id_word t a) id h)
-
-  pub id-found : (a : ℕ) → a < rules_of t → id_word t a ≡ id → true ≡ has_id t id
-  unfolding has_id
-  id-found a h e = sym (any_at (rules_of t) (λ b. eqb (id_word t b) id) a h (eq-eqb (id_word t a) id e))
-
-  pub id-missing : (a : ℕ) → a ≡ rules_of t → NoneBefore t id a → false ≡ has_id t id
-  unfolding NoneBefore has_id
-  id-missing a e n = sym (ap (λ (k : ℕ). any k (λ b. eqb (id_word t b) id)) (sym e) ∙ n)
-
 -- ---- the checks before the pattern is read
 
 module _ (t : List ℕ) (id flags : ℕ) where
@@ -62,25 +33,25 @@ module _ (t : List ℕ) (id flags : ℕ) where
   unfolding first_fault
   fault-1 a = rw a
 
-  pub fault-2 : is_table t ≡ true → (bit_and flags known_flags ≡ flags → ⊥) → 2 ≡ first_fault t id flags
-  unfolding first_fault unknown_flag
-  fault-2 a b = rw (a, ne_eqb (bit_and flags known_flags) flags b)
+  pub fault-2 : is_table t ≡ true → unknown_flag flags ≡ true → 2 ≡ first_fault t id flags
+  unfolding first_fault
+  fault-2 a b = rw (a, b)
 
-  pub fault-24 : is_table t ≡ true → bit_and flags known_flags ≡ flags → single_start flags ≡ true → 24 ≡ first_fault t id flags
-  unfolding first_fault unknown_flag
-  fault-24 a b s = rw (a, eq-eqb (bit_and flags known_flags) flags b, s)
+  pub fault-24 : is_table t ≡ true → unknown_flag flags ≡ false → single_start flags ≡ true → 24 ≡ first_fault t id flags
+  unfolding first_fault
+  fault-24 a b s = rw (a, b, s)
 
-  pub fault-3 : is_table t ≡ true → bit_and flags known_flags ≡ flags → single_start flags ≡ false → has_id t id ≡ true → 3 ≡ first_fault t id flags
-  unfolding first_fault unknown_flag
-  fault-3 a b s c = rw (a, eq-eqb (bit_and flags known_flags) flags b, s, c)
+  pub fault-3 : is_table t ≡ true → unknown_flag flags ≡ false → single_start flags ≡ false → has_id t id ≡ true → 3 ≡ first_fault t id flags
+  unfolding first_fault
+  fault-3 a b s c = rw (a, b, s, c)
 
-  pub fault-4 : is_table t ≡ true → bit_and flags known_flags ≡ flags → single_start flags ≡ false → has_id t id ≡ false → max_rules ≤ rules_of t → 4 ≡ first_fault t id flags
-  unfolding first_fault unknown_flag
-  fault-4 a b s c d = rw (a, eq-eqb (bit_and flags known_flags) flags b, s, c, le-leb max_rules (rules_of t) d)
+  pub fault-4 : is_table t ≡ true → unknown_flag flags ≡ false → single_start flags ≡ false → has_id t id ≡ false → max_rules ≤ rules_of t → 4 ≡ first_fault t id flags
+  unfolding first_fault
+  fault-4 a b s c d = rw (a, b, s, c, le-leb max_rules (rules_of t) d)
 
-  pub fault-0 : is_table t ≡ true → bit_and flags known_flags ≡ flags → single_start flags ≡ false → has_id t id ≡ false → rules_of t < max_rules → 0 ≡ first_fault t id flags
-  unfolding first_fault unknown_flag
-  fault-0 a b s c d = rw (a, eq-eqb (bit_and flags known_flags) flags b, s, c, lt-leb max_rules (rules_of t) d)
+  pub fault-0 : is_table t ≡ true → unknown_flag flags ≡ false → single_start flags ≡ false → has_id t id ≡ false → rules_of t < max_rules → 0 ≡ first_fault t id flags
+  unfolding first_fault
+  fault-0 a b s c d = rw (a, b, s, c, lt-leb max_rules (rules_of t) d)
 
 -- ---- the answer and the words
 
@@ -167,18 +138,18 @@ module _ (t : List ℕ) (a : Addition) where
           go false false z = refl
 
       -- by the reader
-      pub unread : (r : Reading) → r ≡ answer_of given → (r.number ≡ 0 → ⊥) → Answers (answer r.number r.place) t
+      pub unread : (r : Answer) → r ≡ answer_of given → (r.number ≡ 0 → ⊥) → Answers (answer r.number r.place) t
       unfolding answer_of placed
       unread r e n = kept (answer r.number r.place) (go given refl ∙ sym then-read) n
         where
           go : (d : Read) → given ≡ d → answer r.number r.place ≡ placed (positions_of t) (length a.pattern) given
           go (refused number place) z =
               let q : r ≡ answer_of (refused number place) = e ∙ ap answer_of z in
-              ap₂ answer (ap (λ (x : Reading). x.number) q) (ap (λ (x : Reading). x.place) q) ∙ sym (ap (placed (positions_of t) (length a.pattern)) z)
-          go (tree x) z = absurd (n (ap (λ (x : Reading). x.number) (e ∙ ap answer_of z)))
+              ap₂ answer (ap (λ (x : Answer). x.number) q) (ap (λ (x : Answer). x.place) q) ∙ sym (ap (placed (positions_of t) (length a.pattern)) z)
+          go (tree x) z = absurd (n (ap (λ (x : Answer). x.number) (e ∙ ap answer_of z)))
 
       -- the pattern is read
-      module _ (r : Reading) (is : r ≡ answer_of given) (fine : r.number ≡ 0) where
+      module _ (r : Answer) (is : r ≡ answer_of given) (fine : r.number ≡ 0) where
         x : Syntax
         x = (accepted-tree a.pattern (options_of a.flags) r is fine).0
 

@@ -1,4 +1,5 @@
--- The laws of an addition, from words to rules: Rows (sets in words), Steps (the private writers),
+-- The laws of an addition, from words to rules: Blocks (what the library's methods write and find),
+-- Rows (sets in words), Flags (the flags of a rule), Steps (the private writers),
 -- Place (the new rule's place), GapSets (the sets of the gaps, as they are written), Numbers (one
 -- for each rule), Windows (the table with the windows of one more, and no rule yet), Regions, Made,
 -- Kept, Views (the table with one rule more: its words, how they are made, that they pass the test,
@@ -7,7 +8,9 @@
 -- lengths), Readings (what an accepted pattern is), Checks (what an accepted addition has passed),
 -- Additions (lists of additions), Answer (the answer of one), Local (words beyond the first 16,384
 -- count for nothing).
+pub mod Blocks
 pub mod Rows
+pub mod Flags
 pub mod Steps
 pub mod Place
 pub mod GapSets

@@ -1,9 +1,8 @@
 -- One law for each private writer: what a turn of its loop keeps, or what its calls make together.
-use mathlib.Core.Path.{◌≡◌, refl, sym, ap, ap₂, ◌∙◌, subst, fun_ext}
+use mathlib.Core.Path.{◌≡◌, refl, sym, ap, ap₂, ◌∙◌, subst}
 use mathlib.Core.Bool.{Bool, true, false, not, ◌&&◌, ◌||◌, and-false, and-true, or-false, not-not}
 use mathlib.Core.List.{List, [], ◌∷◌}
 use Prim.Native.Nat.{ℕ, ◌+◌, ◌-◌, ◌*◌, ◌/◌, ◌%◌, ◌≤◌, ◌<◌}
-use native.Mathlib.Nat.{add-zero}
 use native.Mathlib.Numerals.{add-one}
 use native.Mathlib.Decide.{dec_lt}
 use native.Mathlib.Omega.{arith}
@@ -12,14 +11,11 @@ use lib.ListN.{length, get_or}
 use borrow.Author.Tests.{lt-ltb, le-ltb, eq-eqb, ne_eqb}
 use Rattle.sets.specs.Set.{has, set_of, empty_set, full_set, inserted, union_of, intersection_of, complement_of, kept_below, is_empty, any, count, as_one}
 use Rattle.sets.proofs.Laws.{has-set_of, has-full, has-intersection, set_of-ext, inserted-set_of, union-set_of, intersection-set_of, complement-set_of, any-ext}
-use Rattle.table.specs.Layout.{max_positions, leftmosts_at, keepers_at, first_at, id_at, id_word, last_at, lates_at, follow_at, takers_at, row_has, from_to, lengths_at, lengths_of}
+use Rattle.table.specs.Layout.{max_positions, leftmosts_at, keepers_at, first_at, id_at, last_at, lates_at, follow_at, takers_at, row_has, from_to, lengths_at, lengths_of}
 use Rattle.table.specs.Gaps.{last_gaps, follow_gaps, inner_gaps, unsettled}
 use Rattle.table.proofs.Over.{from-to-in, from-to-below, from-to-above, over, over-ext, Written, written_none, written-above, written-block, written_all}
 use Rattle.table.specs.Invariants.{copied, moved_up}
-use Rattle.nodes.specs.Nodes.{Syntax, asserts}
 use Rattle.automaton.specs.declared.Parts.{Parts}
-use Rattle.automaton.proofs.Unasserted.{same_parts}
-use Rattle.rules.specs.Gaps.{holding_at, parts_at}
 use Rattle.rules.specs.Words.{digits_with, lengths_with, lengths_put}
 use Rattle.rules.specs.Invariants.{merged, merged_row, rows_word, merged_rows, smaller, number_put, digits_put, owners_put, new_keepers, keepers_put, place_put, new_takers, follow_put, gap_put, gaps_put, inner_rows, late_set, lates_put, opener_of}
 use Rattle.rules.proofs.Rows.{merged-words, merged-same}
@@ -59,23 +55,6 @@ rows-turn at k n new t s s' r e =
 pub rows_whole : (at rows k n : ℕ) (new : ℕ → List ℕ) (t s : List ℕ) → Written at (at + k * 4) (rows_word at n new t) t s → k ≡ rows → s ≡ merged_rows at rows n new t
 unfolding merged_rows
 rows_whole at rows k n new t s r e = written_all r (ap (λ (j : ℕ). at + j * 4) e)
-
--- ---- the place of an id
-
-module _ (t : List ℕ) (id : ℕ) where
-  pub place_none : 0 ≡ count 0 (smaller t id)
-  unfolding count
-  place_none = refl
-
-  turn : (a : ℕ) → count (a + 1) (smaller t id) ≡ count a (smaller t id) + as_one (smaller t id a)
-  unfolding count
-  turn a = ap (λ (j : ℕ). count j (smaller t id)) (add-one a)
-
-  pub place-hit : (a k : ℕ) → k ≡ count a (smaller t id) → id_word t a < id → k + 1 ≡ count (a + 1) (smaller t id)
-  place-hit a k e h = sym (turn a ∙ ap₂ (λ (j : ℕ) (b : Bool). j + as_one b) (sym e) (lt-ltb (id_word t a) id h))
-
-  pub place-miss : (a k : ℕ) → k ≡ count a (smaller t id) → id ≤ id_word t a → k ≡ count (a + 1) (smaller t id)
-  place-miss a k e h = sym (turn a ∙ ap₂ (λ (j : ℕ) (b : Bool). j + as_one b) (sym e) (le-ltb (id_word t a) id h) ∙ add-zero k)
 
 -- ---- the new positions that take a byte
 
@@ -254,9 +233,3 @@ gaps-none n parts t = refl
 pub gaps-turn : (g n : ℕ) (parts : ℕ → Parts) (p : Parts) (t s s' : List ℕ) → s ≡ gaps_put g n parts t → p ≡ parts g → s' ≡ gap_put g n p s → s' ≡ gaps_put (g + 1) n parts t
 unfolding gaps_put
 gaps-turn g n parts p t s s' a b c = c ∙ ap₂ (gap_put g n) b a ∙ ap (λ (m : ℕ). gaps_put m n parts t) (sym (add-one g))
-
--- a rule without assertions has at every gap what it has at the first
-pub gaps-same : (m n : ℕ) (x : Syntax) (p : Parts) (t : List ℕ) → asserts x ≡ false → p ≡ parts_at x n 0
-    → gaps_put m n (λ g. p) t ≡ gaps_put m n (parts_at x n) t
-gaps-same m n x p t free e =
-    ap (λ (f : ℕ → Parts). gaps_put m n f t) (fun_ext (λ g. e ∙ same_parts x free n (holding_at 0) (holding_at g)))

@@ -12,7 +12,7 @@ use lib.Dec.{eqb, ltb}
 use lib.ListN.{length, get_or}
 use borrow.Author.Tests.{lt-ltb, le-ltb, eq-eqb, ne_eqb}
 use Rattle.sets.specs.Set.{on, has, any, as_one}
-use Rattle.sets.proofs.Digits.{on-word_of}
+use Rattle.sets.proofs.Bits.{on-word_of}
 use Rattle.sets.proofs.Laws.{any-ext}
 use Rattle.table.specs.Layout.{leftmosts_at, windowed_at, lowest_at, highest_at, lengths_at, lengths_of, shortest_at, table_words, max_rules, max_positions, bytes, rules_of, positions_of, singles_of, leftmosts_of, keepers_at, first_at, id_word, owner_at, last_at, follow_at, takers_at, row_has, from_to, lates_at}
 use Rattle.table.specs.Gaps.{first_gaps, last_gaps, follow_gaps, inner_gaps, unsettled}

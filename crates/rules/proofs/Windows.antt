@@ -12,7 +12,7 @@ use lib.ListN.{length, get_or, drop}
 use borrow.Author.Tests.{lt-ltb, le-ltb, le-leb, eq-eqb, ne_eqb}
 use Rattle.sets.specs.Set.{on, any, count}
 use Rattle.sets.proofs.Laws.{any-ext, count-ext}
-use Rattle.sets.proofs.Digits.{on-word_of}
+use Rattle.sets.proofs.Bits.{on-word_of}
 use Rattle.table.specs.Layout.{table_words, max_rules, max_positions, rules_of, positions_of, id_at, id_word, windowed_at, windowed_of, lowest_at, highest_at, lengths_at, lengths_of, shortest_at}
 use Rattle.table.specs.Automaton.{automaton}
 use Rattle.table.proofs.Over.{length_over, over-in, drop-over, over-ext}

@@ -3,6 +3,7 @@
 // is written. specs/Add.antt says what the answer is, specs/Words.antt what the words are then.
 #![tactic(auto)]
 
+mod rule;
 mod write;
 
 ghost use Rattle.std.specs.Prelude.{◌≡◌, ◌≤◌, length};
@@ -12,9 +13,9 @@ ghost use Rattle.rules.specs.Add.{addition, addition_in, has_id, add_answer, add
 ghost use Rattle.rules.specs.Invariants.{first_fault};
 
 use pattern::Bounds;
-use table::layout::{
-    IDS_AT, KNOWN_FLAGS, LEFTMOST, MAX_POSITIONS, MAX_RULES, NO_END, POSITIONS_AT, RULES_AT, SINGLE,
-};
+use refusals::code;
+use rule::{Flags, Rule};
+use table::layout::{IDS_AT, MAX_POSITIONS, MAX_RULES, NO_END, POSITIONS_AT, RULES_AT};
 
 // The answer of an addition: number 0 and place 0, or the refusal's number and place.
 #[derive(Clone, Copy)]
@@ -28,36 +29,29 @@ fn has_id(words: &[u64], rules: usize, id: u64) -> bool
     requires { (table_words ≤ length words.now) × (rules ≤ max_rules) × (rules ≡ rules_of words.now) }
     ensures { result ≡ has_id words.now id }
 {
-    let mut a: usize = 0;
-    while a < rules {
-        if words[IDS_AT + a] == id {
-            return true;
-        }
-        a += 1;
-    }
-    false
+    words[IDS_AT..IDS_AT + rules].contains(&id)
 }
 
 // The checks of table, flags and id, in order: the number of the first that fails, or 0.
-fn first_fault(words: &[u64], id: u32, flags: u32) -> u32
-    ensures { result ≡ first_fault words.now id flags }
+fn first_fault(words: &[u64], id: u32, flags: Flags) -> u32
+    ensures { result ≡ first_fault words.now id flags.bits }
 {
-    if table::is_table(words) {
-        if flags as u64 & KNOWN_FLAGS != flags as u64 {
-            return 2;
-        }
-        if (flags / SINGLE % 2 == 1) & (flags / LEFTMOST % 2 == 1) {
-            return 24;
-        }
-        if has_id(words, words[RULES_AT] as usize, id as u64) {
-            return 3;
-        }
-        if words[RULES_AT] >= MAX_RULES {
-            return 4;
-        }
-        return 0;
+    if !table::is_table(words) {
+        return 1;
     }
-    1
+    if !flags.known() {
+        return 2;
+    }
+    if flags.single_start() {
+        return 24;
+    }
+    if has_id(words, words[RULES_AT] as usize, id as u64) {
+        return 3;
+    }
+    if words[RULES_AT] >= MAX_RULES {
+        return 4;
+    }
+    0
 }
 
 // Adds a rule with no window, or refuses it and leaves every word as it was.
@@ -76,27 +70,34 @@ pub fn add(words: &mut [u64], id: u32, flags: u32, pattern: &[u8]) -> Added
 pub fn add_within(words: &mut [u64], id: u32, flags: u32, bounds: Bounds, pattern: &[u8]) -> Added
     ensures { (result ≡ add_answer words.old (addition_in id flags (windows_of bounds) pattern.now)) × (words.new ≡ add_words words.old (addition_in id flags (windows_of bounds) pattern.now)) }
 {
-    let fault = first_fault(words, id, flags);
+    let rule = Rule {
+        id,
+        flags: Flags { bits: flags },
+        keeping: write::needs_start(Flags { bits: flags }, bounds),
+    };
+    let fault = first_fault(words, id, rule.flags);
     if fault != 0 {
         return Added {
             number: fault,
             place: 0,
         };
     }
-    let size = pattern::size_fault(pattern.len(), bounds);
+    let size = code(&pattern::size_fault(pattern.len(), bounds));
     if size != 0 {
         return Added {
             number: size,
             place: 0,
         };
     }
-    let reading = pattern::read(pattern, flags);
-    if reading.number != 0 {
-        return Added {
-            number: reading.number,
-            place: reading.place,
-        };
-    }
+    let reading = match pattern::read(pattern, flags) {
+        Ok(reading) => reading,
+        Err(fault) => {
+            return Added {
+                number: fault.refusal.number(),
+                place: fault.place,
+            };
+        }
+    };
     let nodes = reading.nodes;
     if words[POSITIONS_AT] + reading.positions as u64 > MAX_POSITIONS {
         return Added {
@@ -110,9 +111,8 @@ pub fn add_within(words: &mut [u64], id: u32, flags: u32, bounds: Bounds, patter
         words[POSITIONS_AT] as usize,
         write::holding(0),
     );
-    let keeping = write::needs_start(flags, bounds);
     write::put_window(words, id, bounds);
-    write::add_rule(words, id, flags, keeping, &nodes, reading.root, parts);
+    write::add_rule(words, rule, &nodes, reading.root, &parts);
     Added {
         number: 0,
         place: 0,

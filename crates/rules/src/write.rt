@@ -1,25 +1,26 @@
-// Writing a rule into the table, once every refusal is settled. Loops stand in small writers; what
-// is above them is a row of calls, one for each part of the table. specs/Invariants.antt says what
+// Writing a rule into the table, once every refusal is settled. Small writers make each a part of
+// the table; what is above them is a row of calls. specs/Invariants.antt says what
 // each makes, and `add_rule` makes the words of specs/Words.antt.
-ghost use Rattle.std.specs.Prelude.{◌≡◌, cond, ◌+◌, ◌*◌, ◌-◌, ◌≤◌, ◌<◌, eqb, ltb, length, get_or};
+ghost use Rattle.std.specs.Prelude.{◌≡◌, cond, ◌+◌, ◌*◌, ◌-◌, ◌≤◌, ◌<◌, eqb, ltb, length, count_by};
 ghost use Rattle.sets.specs.Set.{on, count};
 ghost use Rattle.table.specs.Layout.{table_words, max_rules, max_positions, rules_of, positions_of, first_at};
-ghost use Rattle.table.specs.Invariants.{copied, moved_up};
+ghost use Rattle.table.specs.Invariants.{copied};
 ghost use Rattle.table.specs.Gaps.{first_gaps};
 ghost use Rattle.meaning.specs.Form.{write, positions};
 ghost use Rattle.nodes.specs.Nodes.{tree_at};
 ghost use Rattle.pattern.specs.Windows.{windows_of};
 ghost use Rattle.rules.specs.Gaps.{holding_at, parts_at};
-ghost use Rattle.rules.specs.Words.{digits_with, owner_with, has_offsets, needs_start, lengths_with, lengths_put, shortest_put, with_offsets, with_window, added};
+ghost use Rattle.rules.specs.Words.{is_single, is_leftmost, digits_with, owner_with, has_offsets, needs_start, lengths_put, shortest_put, with_offsets, with_window, added};
 ghost use Rattle.rules.specs.Invariants.{merged, masked_rows, smaller, number_put, digits_put, owners_put, new_keepers, keepers_put, place_put, new_takers, takers_put, follow_put, gap_put, gaps_put, inner_rows, lates_put, opener_of, openers_put, counts_put};
 
+use crate::rule::{Flags, Rule, Span};
 use automaton::Parts;
 use pattern::Bounds;
 use table::gaps::{FIRST_GAPS, FOLLOW_GAPS, INNER_GAPS, LAST_GAPS, UNSETTLED};
 use table::layout::{
-    FIRST_AT, FOLLOW_AT, FOLLOW_WORDS, HIGHEST_AT, IDS_AT, KEEPERS_AT, LAST_AT, LATES_AT, LEFTMOST,
+    FIRST_AT, FOLLOW_AT, FOLLOW_WORDS, HIGHEST_AT, IDS_AT, KEEPERS_AT, LAST_AT, LATES_AT,
     LEFTMOSTS_AT, LENGTHS_AT, LOWEST_AT, MAX_POSITIONS, MAX_RULES, NO_END, OPENERS_AT, OWNERS_AT,
-    POSITIONS_AT, RULES_AT, SET_WORDS, SHORTEST_AT, SINGLE, SINGLES_AT, TAKERS_AT, WINDOWED_AT,
+    POSITIONS_AT, RULES_AT, SET_WORDS, SHORTEST_AT, SINGLES_AT, TAKERS_AT, WINDOWED_AT,
 };
 
 // The words that are kept by position.
@@ -47,36 +48,12 @@ pub(super) fn holding(gap: usize) -> u64
     HOLDING[gap]
 }
 
-// n words of src at `at`.
-fn put_words(words: &mut [u64], at: usize, src: &[u64], n: usize)
-    requires { (at + n ≤ length words.old) × (n ≤ length src.now) }
-    ensures { words.new ≡ copied at n src.now words.old }
-{
-    let mut i: usize = 0;
-    while i < n {
-        words[at + i] = src[i];
-        i += 1;
-    }
-}
-
 // The four words of a set at `at`.
 fn put_set(words: &mut [u64], at: usize, set: [u64; 4])
     requires { at + 4 ≤ length words.old }
     ensures { words.new ≡ copied at 4 set words.old }
 {
-    put_words(words, at, &set, SET_WORDS);
-}
-
-// The n words from `at` on, one up.
-fn move_up(words: &mut [u64], at: usize, n: usize)
-    requires { at + 1 + n ≤ length words.old }
-    ensures { words.new ≡ moved_up at n words.old }
-{
-    let mut i = n;
-    while 0 < i {
-        i -= 1;
-        words[at + 1 + i] = words[at + i];
-    }
+    words[at..at + SET_WORDS].copy_from_slice(&set);
 }
 
 // Keeps the set at `at` to the positions below n, and joins new ones.
@@ -96,11 +73,16 @@ fn mask_rows(words: &mut [u64], at: usize, rows: usize, n: usize)
     ensures { words.new ≡ masked_rows at rows n words.old }
 {
     let none = sets::empty();
-    let mut k: usize = 0;
-    while k < rows {
+    for k in 0..rows {
         merge_row(words, at + k * SET_WORDS, n, none);
-        k += 1;
     }
+}
+
+// How many of these ids are below this one.
+fn below(ids: &[u64], id: u64) -> usize
+    ensures { result ≡ count_by (λ x. ltb x id) ids.now }
+{
+    ids.iter().filter(|x| **x < id).count()
 }
 
 // How many of the rules have an id below this one: the place of a rule with this id.
@@ -108,15 +90,7 @@ fn place_of(words: &[u64], rules: usize, id: u64) -> usize
     requires { (table_words ≤ length words.now) × (rules ≤ max_rules) }
     ensures { (result ≤ rules) × (result ≡ count rules (smaller words.now id)) }
 {
-    let mut k: usize = 0;
-    let mut a: usize = 0;
-    while a < rules {
-        if words[IDS_AT + a] < id {
-            k += 1;
-        }
-        a += 1;
-    }
-    k
+    below(&words[IDS_AT..IDS_AT + rules], id)
 }
 
 // Puts a number in place k of those that stand from `at` on, one for each rule, and moves those
@@ -125,9 +99,8 @@ fn put_number(words: &mut [u64], at: usize, rules: usize, k: usize, new: u64)
     requires { (at + max_rules ≤ length words.old) × (rules < max_rules) × (k ≤ rules) }
     ensures { words.new ≡ number_put at rules k new words.old }
 {
-    move_up(words, at + k, rules - k);
-    let one = [new];
-    put_words(words, at + k, &one, 1);
+    words.copy_within(at + k..at + rules, at + k + 1);
+    words[at + k] = new;
 }
 
 // The digit of place a, once a rule is put in at place k.
@@ -136,12 +109,12 @@ fn digit_at(old: u64, k: usize, new: bool, a: usize) -> bool
     ensures { result ≡ cond (ltb a k) (on old a) (cond (eqb a k) new (on old (a - 1))) }
 {
     if a < k {
-        return old >> a & 1 == 1;
+        old >> a & 1 == 1
+    } else if a == k {
+        new
+    } else {
+        old >> (a - 1) & 1 == 1
     }
-    if a == k {
-        return new;
-    }
-    old >> (a - 1) & 1 == 1
 }
 
 // The digits of some places, once one is put in at place k.
@@ -149,12 +122,10 @@ fn digits_with(old: u64, k: usize, new: bool) -> u64
     ensures { result ≡ digits_with k new old }
 {
     let mut found: u64 = 0;
-    let mut a: usize = 0;
-    while a < 64 {
+    for a in 0..64 {
         if digit_at(old, k, new, a) {
-            found = found | 1 << a;
+            found |= 1 << a;
         }
-        a += 1;
     }
     found
 }
@@ -164,22 +135,21 @@ fn put_digits(words: &mut [u64], at: usize, k: usize, new: bool)
     requires { at < length words.old }
     ensures { words.new ≡ digits_put at k new words.old }
 {
-    let one = [digits_with(words[at], k, new)];
-    put_words(words, at, &one, 1);
+    words[at] = digits_with(words[at], k, new);
 }
 
 // Whether a rule has a window of end offsets: both are left out where it has none.
 fn has_window(bounds: Bounds) -> bool
     ensures { result ≡ has_offsets (windows_of bounds) }
 {
-    (bounds.lowest != 0) | (bounds.highest != NO_END)
+    bounds.lowest != 0 || bounds.highest != NO_END
 }
 
 // Whether a rule's positions keep a start: it reports one, or has a smallest length.
-pub(super) fn needs_start(flags: u32, bounds: Bounds) -> bool
-    ensures { result ≡ needs_start flags (windows_of bounds) }
+pub(super) fn needs_start(flags: Flags, bounds: Bounds) -> bool
+    ensures { result ≡ needs_start flags.bits (windows_of bounds) }
 {
-    (flags / LEFTMOST % 2 == 1) | (bounds.shortest != 0)
+    flags.leftmost() || bounds.shortest != 0
 }
 
 // The end offsets of a rule with this id, put in at the rule's place.
@@ -195,19 +165,13 @@ fn put_offsets(words: &mut [u64], id: u32, bounds: Bounds)
 }
 
 // The word that is not 0 where some rule has a smallest length, with that of one more.
-fn lengths_with(old: u64, shortest: u64) -> u64
-    ensures { result ≡ lengths_with shortest old }
-{
-    if shortest == 0 { old } else { 1 }
-}
-
-// The same in the words.
 fn put_lengths(words: &mut [u64], shortest: u64)
     requires { table_words ≤ length words.old }
     ensures { words.new ≡ lengths_put shortest words.old }
 {
-    let one = [lengths_with(words[LENGTHS_AT], shortest)];
-    put_words(words, LENGTHS_AT, &one, 1);
+    if shortest != 0 {
+        words[LENGTHS_AT] = 1;
+    }
 }
 
 // A smallest length for each position from n on.
@@ -215,11 +179,7 @@ fn put_shortest(words: &mut [u64], n: usize, shortest: u64)
     requires { (table_words ≤ length words.old) × (n ≤ max_positions) }
     ensures { words.new ≡ shortest_put n shortest words.old }
 {
-    let mut q = n;
-    while q < POSITIONS {
-        words[SHORTEST_AT + q] = shortest;
-        q += 1;
-    }
+    words[SHORTEST_AT + n..SHORTEST_AT + POSITIONS].fill(shortest);
 }
 
 // The windows of a rule with this id, whose positions come after those that the table has.
@@ -233,13 +193,11 @@ pub(super) fn put_window(words: &mut [u64], id: u32, bounds: Bounds)
     put_shortest(words, n, bounds.shortest);
 }
 
-// The owner of position q, which was `o`, once a rule with the positions from n on is put in at
-// place k.
-fn owner_with(n: usize, more: usize, k: usize, q: usize, o: u64) -> u64
-    requires { n + more ≤ max_positions }
-    ensures { result ≡ owner_with n more k q o }
+// The owner of position q, which was `o`, once a rule with these positions is put in at place k.
+fn owner_with(span: Span, k: usize, q: usize, o: u64) -> u64
+    ensures { result ≡ owner_with span.n span.more k q o }
 {
-    if q < n {
+    if q < span.n {
         if o < k as u64 {
             return o;
         }
@@ -248,168 +206,128 @@ fn owner_with(n: usize, more: usize, k: usize, q: usize, o: u64) -> u64
         }
         return o;
     }
-    if q < n + more {
+    if q < span.n + span.more {
         return k as u64;
     }
     o
 }
 
 // The same in the words.
-fn put_owners(words: &mut [u64], n: usize, more: usize, k: usize)
-    requires { (table_words ≤ length words.old) × (n + more ≤ max_positions) }
-    ensures { words.new ≡ owners_put n more k words.old }
+fn put_owners(words: &mut [u64], span: Span, k: usize)
+    requires { table_words ≤ length words.old }
+    ensures { words.new ≡ owners_put span.n span.more k words.old }
 {
-    let mut q: usize = 0;
-    while q < POSITIONS {
-        let o = words[OWNERS_AT + q];
-        words[OWNERS_AT + q] = owner_with(n, more, k, q, o);
-        q += 1;
+    for q in 0..POSITIONS {
+        words[OWNERS_AT + q] = owner_with(span, k, q, words[OWNERS_AT + q]);
     }
 }
 
-// The new positions, from n on, that keep a start.
-fn new_keepers(n: usize, more: usize, keeping: bool) -> [u64; 4]
-    requires { n + more ≤ max_positions }
-    ensures { result ≡ new_keepers n more keeping }
+// The new positions that keep a start.
+fn new_keepers(span: Span, keeping: bool) -> [u64; 4]
+    ensures { result ≡ new_keepers span.n span.more keeping }
 {
     if keeping {
-        let all = sets::below(sets::full(), n + more);
-        let old = sets::below(sets::full(), n);
+        let all = sets::below(sets::full(), span.n + span.more);
+        let old = sets::below(sets::full(), span.n);
         return sets::intersection(all, sets::complement(old));
     }
     sets::empty()
 }
 
 // The same in the words.
-fn put_keepers(words: &mut [u64], n: usize, more: usize, keeping: bool)
-    requires { (table_words ≤ length words.old) × (n + more ≤ max_positions) }
-    ensures { words.new ≡ keepers_put n more keeping words.old }
+fn put_keepers(words: &mut [u64], span: Span, keeping: bool)
+    requires { table_words ≤ length words.old }
+    ensures { words.new ≡ keepers_put span.n span.more keeping words.old }
 {
-    let new = new_keepers(n, more, keeping);
-    merge_row(words, KEEPERS_AT, n, new);
+    merge_row(words, KEEPERS_AT, span.n, new_keepers(span, keeping));
 }
 
 // Puts a rule in the place of its id: the id, its digits, the owners of the positions, and those
 // that keep a start.
-fn put_place(
-    words: &mut [u64],
-    rules: usize,
-    n: usize,
-    more: usize,
-    id: u64,
-    single: bool,
-    leftmost: bool,
-    keeping: bool,
-)
-    requires { (table_words ≤ length words.old) × (rules < max_rules) × (n + more ≤ max_positions) }
-    ensures { words.new ≡ place_put rules n more id single leftmost keeping words.old }
+fn put_place(words: &mut [u64], rules: usize, span: Span, rule: Rule)
+    requires { (table_words ≤ length words.old) × (rules < max_rules) }
+    ensures { words.new ≡ place_put rules span.n span.more rule.id (is_single rule.flags.bits) (is_leftmost rule.flags.bits) rule.keeping words.old }
 {
-    let k = place_of(words, rules, id);
-    put_number(words, IDS_AT, rules, k, id);
-    put_digits(words, SINGLES_AT, k, single);
-    put_digits(words, LEFTMOSTS_AT, k, leftmost);
-    put_owners(words, n, more, k);
-    put_keepers(words, n, more, keeping);
+    let k = place_of(words, rules, rule.id as u64);
+    put_number(words, IDS_AT, rules, k, rule.id as u64);
+    put_digits(words, SINGLES_AT, k, rule.flags.single());
+    put_digits(words, LEFTMOSTS_AT, k, rule.flags.leftmost());
+    put_owners(words, span, k);
+    put_keepers(words, span, rule.keeping);
 }
 
-// Follow sets from `at` on: those of the n old positions, and after them the new ones.
-fn put_follow(words: &mut [u64], at: usize, n: usize, follow: &[u64; 1024], more: usize)
-    requires { (at + 1024 ≤ length words.old) × (n + more ≤ max_positions) }
-    ensures { words.new ≡ follow_put at n follow.now more words.old }
+// Follow sets from `at` on: those of the old positions, and after them the new ones.
+fn put_follow(words: &mut [u64], at: usize, span: Span, follow: &[u64; 1024])
+    requires { at + 1024 ≤ length words.old }
+    ensures { words.new ≡ follow_put at span.n follow.now span.more words.old }
 {
-    mask_rows(words, at, n, n);
-    put_words(words, at + n * SET_WORDS, follow, more * SET_WORDS);
+    mask_rows(words, at, span.n, span.n);
+    let from = at + span.n * SET_WORDS;
+    let size = span.more * SET_WORDS;
+    words[from..from + size].copy_from_slice(&follow[..size]);
 }
 
-// The new positions, from n on, that take byte x.
-fn takers_of(takes: &[u64; 1024], n: usize, more: usize, x: u8) -> [u64; 4]
-    requires { n + more ≤ max_positions }
-    ensures { result ≡ new_takers takes.now n more x }
+// The new positions that take byte x.
+fn takers_of(takes: &[u64; 1024], span: Span, x: u8) -> [u64; 4]
+    ensures { result ≡ new_takers takes.now span.n span.more x }
 {
     let mut s = sets::empty();
-    let mut i: usize = 0;
-    while i < more {
-        let t = table::row(takes, i * SET_WORDS);
-        if sets::contains(t, x) {
-            let r = sets::insert(s, (n + i) as u8);
+    for i in 0..span.more {
+        if sets::contains(table::row(takes, i * SET_WORDS), x) {
+            // By way of a name: the check covers no call whose array goes into a variable at once.
+            let r = sets::insert(s, (span.n + i) as u8);
             s = r;
         }
-        i += 1;
     }
     s
 }
 
 // For each byte the positions that take it.
-fn put_takers(words: &mut [u64], n: usize, takes: &[u64; 1024], more: usize)
-    requires { (table_words ≤ length words.old) × (n + more ≤ max_positions) }
-    ensures { words.new ≡ takers_put n takes.now more words.old }
+fn put_takers(words: &mut [u64], span: Span, takes: &[u64; 1024])
+    requires { table_words ≤ length words.old }
+    ensures { words.new ≡ takers_put span.n takes.now span.more words.old }
 {
-    let mut x: usize = 0;
-    while x < 256 {
-        let new = takers_of(takes, n, more, x as u8);
-        merge_row(words, TAKERS_AT + x * SET_WORDS, n, new);
-        x += 1;
+    for x in 0..256 {
+        let new = takers_of(takes, span, x as u8);
+        merge_row(words, TAKERS_AT + x * SET_WORDS, span.n, new);
     }
 }
 
 // The sets of the parts at one gap: the first positions, then, at a gap where a match can end,
 // those that can end one, and, at a gap between two bytes, what follows each.
-fn put_gap(words: &mut [u64], gap: usize, n: usize, parts: Parts)
-    requires { (table_words ≤ length words.old) × (gap < first_gaps) × (n + parts.positions ≤ max_positions) }
-    ensures { words.new ≡ gap_put gap n parts words.old }
+fn put_gap(words: &mut [u64], gap: usize, n: usize, parts: &Parts)
+    requires { (table_words ≤ length words.old) × (gap < first_gaps) × (n + parts.now.positions ≤ max_positions) }
+    ensures { words.new ≡ gap_put gap n parts.now words.old }
 {
-    let first = parts.first;
-    merge_row(words, FIRST_AT + gap * SET_WORDS, n, first);
+    merge_row(words, FIRST_AT + gap * SET_WORDS, n, parts.first);
     if gap >= LAST_GAPS {
         return;
     }
-    let last = parts.last;
-    merge_row(words, LAST_AT + gap * SET_WORDS, n, last);
+    merge_row(words, LAST_AT + gap * SET_WORDS, n, parts.last);
     if gap >= FOLLOW_GAPS {
         return;
     }
-    let follow = parts.follow;
-    let more = parts.positions;
-    put_follow(words, FOLLOW_AT + gap * FOLLOW_WORDS, n, &follow, more);
+    let span = Span {
+        n,
+        more: parts.positions,
+    };
+    put_follow(words, FOLLOW_AT + gap * FOLLOW_WORDS, span, &parts.follow);
 }
 
-// The sets of a rule at every gap: the tree of node `root`, its positions numbered from n on, is
-// built for each.
-fn put_each(words: &mut [u64], n: usize, nodes: &[u64], root: usize)
-    requires { (table_words ≤ length words.old) × (n + positions (write (tree_at nodes.now root)) ≤ max_positions) }
+// The sets of a rule at every gap: the tree of node `root`, its positions numbered from n on.
+// `parts` are its parts at the first. Without an assertion a rule has the same parts at all.
+fn put_gaps(words: &mut [u64], n: usize, nodes: &[u64], root: usize, parts: &Parts)
+    requires { (table_words ≤ length words.old) × (n + positions (write (tree_at nodes.now root)) ≤ max_positions) × (parts.now ≡ parts_at (tree_at nodes.now root) n 0) }
     ensures { words.new ≡ gaps_put first_gaps n (parts_at (tree_at nodes.now root) n) words.old }
 {
-    let mut g: usize = 0;
-    while g < FIRST_GAPS {
-        let parts = automaton::build(nodes, root, n, holding(g));
-        put_gap(words, g, n, parts);
-        g += 1;
+    let asserts = nodes::asserts(nodes, root);
+    for g in 0..FIRST_GAPS {
+        if asserts {
+            put_gap(words, g, n, &automaton::build(nodes, root, n, holding(g)));
+        } else {
+            put_gap(words, g, n, parts);
+        }
     }
-}
-
-// The same sets at every gap.
-fn put_same(words: &mut [u64], n: usize, parts: Parts)
-    requires { (table_words ≤ length words.old) × (n + parts.positions ≤ max_positions) }
-    ensures { words.new ≡ gaps_put first_gaps n (λ g. parts) words.old }
-{
-    let mut g: usize = 0;
-    while g < FIRST_GAPS {
-        put_gap(words, g, n, parts);
-        g += 1;
-    }
-}
-
-// The sets of a rule at every gap; `parts` are its parts at the first. Without an assertion a rule
-// has the same parts at all.
-fn put_gaps(words: &mut [u64], n: usize, nodes: &[u64], root: usize, parts: Parts)
-    requires { (table_words ≤ length words.old) × (n + positions (write (tree_at nodes.now root)) ≤ max_positions) × (parts ≡ parts_at (tree_at nodes.now root) n 0) }
-    ensures { words.new ≡ gaps_put first_gaps n (parts_at (tree_at nodes.now root) n) words.old }
-{
-    if nodes::asserts(nodes, root) {
-        put_each(words, n, nodes, root);
-        return;
-    }
-    put_same(words, n, parts);
 }
 
 // What some set has of those of the gaps between two bytes, which stand from `at` on.
@@ -418,11 +336,10 @@ fn inner_rows(words: &[u64], at: usize) -> [u64; 4]
     ensures { result ≡ inner_rows words.now at }
 {
     let mut s = sets::empty();
-    let mut g: usize = 0;
-    while g < INNER_GAPS {
+    for g in 0..INNER_GAPS {
+        // By way of a name: the check covers no call whose array goes into a variable at once.
         let t = sets::union(s, table::row(words, at + g * SET_WORDS));
         s = t;
-        g += 1;
     }
     s
 }
@@ -447,9 +364,10 @@ fn opener(words: &[u64], first: [u64; 4], x: usize) -> u64
 {
     let takers = table::row(words, TAKERS_AT + x * SET_WORDS);
     if sets::is_empty(sets::intersection(takers, first)) {
-        return 0;
+        0
+    } else {
+        1
     }
-    1
 }
 
 // For each byte whether a match can begin with it inside a stream.
@@ -458,10 +376,8 @@ fn put_openers(words: &mut [u64])
     ensures { words.new ≡ openers_put words.old }
 {
     let first = inner_rows(words, FIRST_AT);
-    let mut x: usize = 0;
-    while x < 256 {
+    for x in 0..256 {
         words[OPENERS_AT + x] = opener(words, first, x);
-        x += 1;
     }
 }
 
@@ -470,34 +386,25 @@ fn put_counts(words: &mut [u64], rules: u64, positions: u64)
     requires { table_words ≤ length words.old }
     ensures { words.new ≡ counts_put rules positions words.old }
 {
-    let counts = [rules, positions];
-    put_words(words, RULES_AT, &counts, 2);
+    words[RULES_AT] = rules;
+    words[POSITIONS_AT] = positions;
 }
 
 // The table with one rule more, the tree of node `root`, whose positions come after those that the
-// table has, and keep a start if `keeping`. `parts` are its parts at the first gap.
-pub(super) fn add_rule(
-    words: &mut [u64],
-    id: u32,
-    flags: u32,
-    keeping: bool,
-    nodes: &[u64],
-    root: usize,
-    parts: Parts,
-)
-    requires { (table_words ≤ length words.old) × (rules_of words.old < max_rules) × (positions_of words.old + positions (write (tree_at nodes.now root)) ≤ max_positions) × (parts ≡ parts_at (tree_at nodes.now root) (positions_of words.old) 0) }
-    ensures { words.new ≡ added words.old id flags keeping (parts_at (tree_at nodes.now root) (positions_of words.old)) }
+// table has. `parts` are its parts at the first gap.
+pub(super) fn add_rule(words: &mut [u64], rule: Rule, nodes: &[u64], root: usize, parts: &Parts)
+    requires { (table_words ≤ length words.old) × (rules_of words.old < max_rules) × (positions_of words.old + positions (write (tree_at nodes.now root)) ≤ max_positions) × (parts.now ≡ parts_at (tree_at nodes.now root) (positions_of words.old) 0) }
+    ensures { words.new ≡ added words.old rule.id rule.flags.bits rule.keeping (parts_at (tree_at nodes.now root) (positions_of words.old)) }
 {
     let rules = words[RULES_AT] as usize;
-    let n = words[POSITIONS_AT] as usize;
-    let more = parts.positions;
-    let single = flags / SINGLE % 2 == 1;
-    let leftmost = flags / LEFTMOST % 2 == 1;
-    put_place(words, rules, n, more, id as u64, single, leftmost, keeping);
-    put_gaps(words, n, nodes, root, parts);
-    let takes = parts.takes;
-    put_takers(words, n, &takes, more);
+    let span = Span {
+        n: words[POSITIONS_AT] as usize,
+        more: parts.positions,
+    };
+    put_place(words, rules, span, rule);
+    put_gaps(words, span.n, nodes, root, parts);
+    put_takers(words, span, &parts.takes);
     put_openers(words);
     put_lates(words);
-    put_counts(words, rules as u64 + 1, (n + more) as u64);
+    put_counts(words, rules as u64 + 1, (span.n + span.more) as u64);
 }

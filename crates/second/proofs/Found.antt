@@ -10,7 +10,7 @@ use lib.Dec.{leb, ltb}
 use lib.ListN.{length, get_or, length-append}
 use borrow.Author.Tests.{le-leb, not-true}
 use Rattle.sets.specs.Set.{on, has, set_of, any, empty_set, intersection_of, complement_of}
-use Rattle.sets.proofs.Digits.{on-zero}
+use Rattle.sets.proofs.Bits.{on-zero}
 use Rattle.sets.proofs.Laws.{Words, words-set_of, has-empty, has-intersection, has-complement, any-never, any_none}
 use Rattle.table.specs.Layout.{max_positions}
 use Rattle.table.specs.Automaton.{Automaton}

@@ -10,7 +10,7 @@ use lib.Dec.{eqb, leb, ltb}
 use lib.ListN.{length, get_or}
 use borrow.Author.Tests.{le-leb, leb-true}
 use Rattle.sets.specs.Set.{on, has, any, empty_set, union_of, size_of}
-use Rattle.sets.proofs.Digits.{on_or, on-zero}
+use Rattle.sets.proofs.Bits.{on_or, on-zero}
 use Rattle.sets.proofs.Laws.{has-empty, has-union, any-ext, any-never}
 use Rattle.kinds.specs.declared.Side.TheVariants.{Other, Word, Newline}
 use Rattle.table.specs.Layout.{max_positions, rules_of, positions_of}

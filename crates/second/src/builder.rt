@@ -1,6 +1,7 @@
 // Building a second table: the records of the entries, breadth first, then their rows. All words
 // from 16 on are written once, from the lowest up, and the header last.
 ghost use Rattle.std.specs.Prelude.{◌≡◌, true, not, ◌&&◌, cond, ◌+◌, ◌*◌, ◌/◌, ◌<◌, ◌≤◌, eqb, length};
+ghost use Rattle.refusals.specs.Refusal.{code_of};
 ghost use Rattle.sets.specs.Set.{is_empty};
 ghost use Rattle.table.specs.Table.{is_table};
 ghost use Rattle.table.specs.Automaton.{automaton};
@@ -17,7 +18,8 @@ use super::layout::{
     ROWS_AT, SECOND_WORDS,
 };
 use super::test::words_at;
-use kinds::{Side, side_in, side_of, side_word};
+use kinds::{Side, side_of};
+use refusals::Refusal;
 use steps::{ending, keepers, late_ending, leftmosts, line_ending, line_step, meets, step};
 use table::layout::{POSITIONS_AT, RULES_AT};
 
@@ -35,7 +37,7 @@ fn key_at(second: &[u64], e: usize) -> Key
     let at = RECORDS_AT + e * RECORD_WORDS;
     let live = words_at(second, at);
     let held = words_at(second, at + HELD);
-    let last = side_in(second[at + LAST]);
+    let last = Side::from(second[at + LAST]);
     Key {
         live,
         held,
@@ -52,13 +54,11 @@ fn held_after(k: Key, e: usize, words: &[u64], byte: u8) -> [u64; 4]
     if byte != NEWLINE {
         return sets::empty();
     }
-    let live = k.live;
-    let before = k.last;
     let positions = words[POSITIONS_AT] as usize;
     line_step(
-        before,
+        k.last,
         side_of(byte),
-        live,
+        k.live,
         e as u64,
         words,
         positions,
@@ -77,9 +77,7 @@ fn pending_after(k: Key, e: usize, words: &[u64], byte: u8) -> u64
     if e == 0 {
         return 0;
     }
-    let live = k.live;
-    let before = k.last;
-    line_ending(before, live, words)
+    line_ending(k.last, k.live, words)
 }
 
 // What a byte makes of an entry. Of the bytes taken it counts only whether there are some.
@@ -87,16 +85,13 @@ fn reach(k: Key, e: usize, words: &[u64], byte: u8) -> Key
     requires { is_table words.now ≡ true }
     ensures { result ≡ reached (automaton words.now) e k byte }
 {
-    let live = k.live;
-    let before = k.last;
     let last = side_of(byte);
     let among = sets::below(sets::full(), words[POSITIONS_AT] as usize);
-    let after = step(before, last, live, e as u64, words, among, byte);
-    let next = after.live;
-    let held = held_after(k, e, words, byte);
+    let after = step(k.last, last, k.live, e as u64, words, among, byte);
+    let live = after.live;
     Key {
-        live: next,
-        held,
+        live,
+        held: held_after(k, e, words, byte),
         pending: pending_after(k, e, words, byte),
         last,
     }
@@ -108,16 +103,11 @@ fn without_starts(k: Key, words: &[u64]) -> Key
     ensures { result ≡ startless (automaton words.now) k }
 {
     let others = sets::complement(keepers(words));
-    let live = k.live;
-    let held = k.held;
-    let last = k.last;
-    let lives = sets::intersection(live, others);
-    let holds = sets::intersection(held, others);
     Key {
-        live: lives,
-        held: holds,
+        live: sets::intersection(k.live, others),
+        held: sets::intersection(k.held, others),
         pending: k.pending,
-        last,
+        last: k.last,
     }
 }
 
@@ -127,15 +117,11 @@ fn needs_old(k: Key, e: usize, words: &[u64], byte: u8) -> bool
     ensures { result ≡ needs_old (automaton words.now) e k byte }
 {
     let j = reach(k, e, words, byte);
-    let live = j.live;
-    let held = j.held;
-    let before = k.last;
-    let was = k.live;
     let keeping = keepers(words);
     let telling = leftmosts(words);
-    let keeps = meets(live, keeping) | meets(held, keeping);
-    let late = late_ending(before, side_of(byte), was, words) & telling != 0;
-    let own = ending(live, words) & telling != 0;
+    let keeps = meets(j.live, keeping) | meets(j.held, keeping);
+    let late = late_ending(k.last, side_of(byte), k.live, words) & telling != 0;
+    let own = ending(j.live, words) & telling != 0;
     keeps | ((j.pending & telling != 0) | (late | own))
 }
 
@@ -156,7 +142,7 @@ fn same_key(k: Key, j: Key) -> bool
     let lives = j.live;
     let holds = j.held;
     let side = j.last;
-    let sides = side_word(last) == side_word(side);
+    let sides = u64::from(last) == u64::from(side);
     same_words(live, lives) & (same_words(held, holds) & ((k.pending == j.pending) & sides))
 }
 
@@ -173,14 +159,12 @@ fn place(k: Key, second: &[u64], count: usize) -> usize
     requires { (second_words ≤ length second.now) × (count ≤ max_entries) }
     ensures { result ≡ first_of count (has_key second.now k) }
 {
-    let mut e: usize = 0;
-    while e < count {
+    for e in 0..count {
         if has_key(k, second, e) {
             return e;
         }
-        e += 1;
     }
-    e
+    count
 }
 
 // Sixteen words at `at`.
@@ -188,11 +172,7 @@ fn put_record(second: &mut [u64], at: usize, row: [u64; 16])
     requires { at + 16 ≤ length second.old }
     ensures { second.new ≡ copied at 16 row second.old }
 {
-    let mut i: usize = 0;
-    while i < RECORD_WORDS {
-        second[at + i] = row[i];
-        i += 1;
-    }
+    second[at..at + RECORD_WORDS].copy_from_slice(&row);
 }
 
 // Writes the record of an entry.
@@ -200,15 +180,18 @@ fn put_entry(words: &[u64], second: &mut [u64], e: usize, k: Key)
     requires { (is_table words.now ≡ true) × (second_words ≤ length second.old) × (e < max_entries) }
     ensures { second.new ≡ copied (record_at e) 16 (record_of (automaton words.now) k) second.old }
 {
-    let live = k.live;
-    let held = k.held;
-    let last = k.last;
+    let Key {
+        live,
+        held,
+        last,
+        ..
+    } = k;
     let own = ending(live, words);
     let other = late_ending(last, Side::Other, live, words);
     let word = late_ending(last, Side::Word, live, words);
     let newline = late_ending(last, Side::Newline, live, words);
     let busy = sets::size(live) as u64;
-    let side = side_word(last);
+    let side = u64::from(last);
     let row = [
         live[0], live[1], live[2], live[3], held[0], held[1], held[2], held[3], k.pending, side,
         own, other, word, newline, busy, 0,
@@ -242,11 +225,9 @@ fn visit(words: &[u64], second: &mut [u64], count: usize, n: usize) -> usize
 fn start_entry() -> Key
     ensures { result ≡ start_key }
 {
-    let live = sets::empty();
-    let held = sets::empty();
     Key {
-        live,
-        held,
+        live: sets::empty(),
+        held: sets::empty(),
         pending: 0,
         last: Side::Other,
     }
@@ -260,11 +241,8 @@ fn gather(words: &[u64], second: &mut [u64]) -> usize
 {
     put_entry(words, second, 0, start_entry());
     let mut count: usize = 1;
-    let mut n: usize = 0;
-    while n < ASKED {
-        let more = visit(words, second, count, n);
-        count = more;
-        n += 1;
+    for n in 0..ASKED {
+        count = visit(words, second, count, n);
     }
     count
 }
@@ -274,11 +252,7 @@ fn clear(second: &mut [u64], from: usize, to: usize)
     requires { (from ≤ to) × (to ≤ length second.old) }
     ensures { second.new ≡ over from to (λ i. 0) second.old }
 {
-    let mut i = from;
-    while i < to {
-        second[i] = 0;
-        i += 1;
-    }
+    second[from..to].fill(0);
 }
 
 // Whether a byte that leads from one entry to another reports nothing, and something is live before
@@ -289,7 +263,7 @@ fn is_quiet(second: &[u64], e: usize, j: usize, byte: u8) -> bool
 {
     let from = RECORDS_AT + e * RECORD_WORDS;
     let to = RECORDS_AT + j * RECORD_WORDS;
-    let side = side_word(side_of(byte)) as usize;
+    let side = u64::from(side_of(byte)) as usize;
     let silent = (second[from + LATE + side] == 0) & (second[to + OWN] == 0);
     let before = words_at(second, from);
     let after = words_at(second, to);
@@ -328,11 +302,8 @@ fn fill(words: &[u64], second: &mut [u64], count: usize)
     requires { (is_table words.now ≡ true) × (second_words ≤ length second.old) × (count ≡ length (entries (automaton words.now))) × Recorded (automaton words.now) second.old }
     ensures { second.new ≡ over 4096 (4096 + count * 256) (second_word (automaton words.now) (entries (automaton words.now))) second.old }
 {
-    let mut n: usize = 0;
-    while n < count * BYTES {
-        let word = target_of(words, second, count, n);
-        second[ROWS_AT + n] = word;
-        n += 1;
+    for n in 0..count * BYTES {
+        second[ROWS_AT + n] = target_of(words, second, count, n);
     }
 }
 
@@ -342,9 +313,7 @@ fn at_rest(second: &[u64], e: usize, side: Side) -> bool
     ensures { result ≡ rests second.now side e }
 {
     let k = key_at(second, e);
-    let live = k.live;
-    let last = k.last;
-    (e != 0) & (sets::is_empty(live) & (side_word(last) == side_word(side)))
+    (e != 0) & (sets::is_empty(k.live) & (u64::from(k.last) == u64::from(side)))
 }
 
 // The row of the first such entry, of so many; 0 where there is none.
@@ -352,26 +321,24 @@ fn resting_row(second: &[u64], count: usize, side: Side) -> u64
     requires { (second_words ≤ length second.now) × (count ≤ max_entries) }
     ensures { result ≡ resting_in second.now count side }
 {
-    let mut e: usize = 0;
-    while e < count {
+    for e in 0..count {
         if at_rest(second, e, side) {
             return (ROWS_AT + e * BYTES) as u64;
         }
-        e += 1;
     }
     0
 }
 
 // Builds the second table of a rule table.
-pub fn build(words: &[u64], second: &mut [u64]) -> u32
-    ensures number { result ≡ build_number words.now second.old }
+pub fn build(words: &[u64], second: &mut [u64]) -> Result<(), Refusal>
+    ensures number { code_of result ≡ build_number words.now second.old }
     ensures words { second.new ≡ built words.now second.old }
 {
     if !table::is_table(words) {
-        return 1;
+        return Err(Refusal::NoTable);
     }
     if second.len() < SECOND_WORDS {
-        return 29;
+        return Err(Refusal::SmallSecond);
     }
     let count = gather(words, second);
     clear(second, RECORDS_AT + count * RECORD_WORDS, ROWS_AT);
@@ -399,5 +366,5 @@ pub fn build(words: &[u64], second: &mut [u64]) -> u32
         0,
     ];
     put_record(second, 0, header);
-    0
+    Ok(())
 }

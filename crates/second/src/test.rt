@@ -50,24 +50,18 @@ fn names(second: &[u64], entries: usize) -> Named
     requires { (second_words ≤ length second.now) × (entries ≤ max_entries) }
     ensures { result ≡ named_by_all second.now entries }
 {
-    let none = sets::empty();
     let mut all = Named {
-        set: none,
+        set: sets::empty(),
         rules: 0,
         counted: true,
     };
-    let mut e: usize = 0;
-    while e < entries {
+    for e in 0..entries {
         let more = named_by(second, e);
-        let old = all.set;
-        let new = more.set;
-        let set = sets::union(old, new);
         all = Named {
-            set,
+            set: sets::union(all.set, more.set),
             rules: all.rules | more.rules,
             counted: all.counted & more.counted,
         };
-        e += 1;
     }
     all
 }
@@ -87,7 +81,5 @@ pub fn is_second(words: &[u64], second: &[u64]) -> bool
         return false;
     }
     let all = names(second, entries as usize);
-    let set = all.set;
-    let named = all.rules;
-    inside(set, positions as usize) & (pending_inside(named, rules) & all.counted)
+    inside(all.set, positions as usize) & (pending_inside(all.rules, rules) & all.counted)
 }

@@ -20,8 +20,8 @@ use mir.Syntax.{w64}
 use mir.Val.{Fits}
 use borrow.Author.Tests.{eq-eqb, ne_eqb, lt-ltb, le-ltb, lt-leb, le-leb, not-true, not-false}
 use Rattle.sets.specs.Set.{on, has, word_of, set_of, any, count, empty_set, full_set, inserted, inserted_range, union_of, intersection_of, complement_of, kept_below, is_empty, size_of}
-use Rattle.sets.proofs.Digits.{on-word_of, word_of-ext, word_of-on, word_of-lt}
-pub use Rattle.sets.proofs.Digits.{on_or, on_and, on-not, on-zero, on-ones, on-pow, count-ext, count_add, count-never, count-le, ones-count}
+use Rattle.sets.proofs.Bits.{on-word_of, word_of-ext, word_of-on, word_of-lt}
+pub use Rattle.sets.proofs.Bits.{on_or, on_and, on-not, on-zero, on-ones, on-pow, count-ext, count_add, count-never, count-le, ones-count}
 
 -- ---- four words of 64 bits
 

@@ -1,2 +1,4 @@
--- What the contracts cite: Set (membership, and what each operation makes).
+-- What the contracts cite: Set (membership, and what each operation makes), Walk (a word's digits one
+-- by one).
 pub mod Set
+pub mod Walk

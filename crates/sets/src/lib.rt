@@ -4,6 +4,9 @@
 #![tactic(auto)]
 
 ghost use Rattle.std.specs.Prelude.{◌≡◌, ◌-◌, ◌^◌, min};
+ghost use Rattle.std.specs.Int.Count.{ones};
+ghost use Rattle.std.specs.Iterator.{at_most};
+ghost use Rattle.sets.specs.Walk.{GivesLowest};
 ghost use Rattle.sets.specs.Set.{has, empty_set, full_set, inserted, inserted_range, union_of, intersection_of, complement_of, kept_below, is_empty, size_of};
 
 // The set with no members.
@@ -21,13 +24,11 @@ pub fn full() -> [u64; 4]
 }
 
 // s with b.
-pub fn insert(s: [u64; 4], b: u8) -> [u64; 4]
+pub fn insert(mut s: [u64; 4], b: u8) -> [u64; 4]
     ensures { result ≡ inserted s b }
 {
-    let i = b as usize / 64;
-    let mut t = s;
-    t[i] = t[i] | 1 << (b % 64);
-    t
+    s[b as usize / 64] |= 1 << (b % 64);
+    s
 }
 
 // s with lo up to hi, both included; s itself where lo is above hi.
@@ -42,8 +43,7 @@ pub fn insert_range(s: [u64; 4], lo: u8, hi: u8) -> [u64; 4]
 pub fn contains(s: [u64; 4], b: u8) -> bool
     ensures { result ≡ has s b }
 {
-    let i = b as usize / 64;
-    s[i] >> (b % 64) & 1 == 1
+    s[b as usize / 64] >> (b % 64) & 1 == 1
 }
 
 // What is in s or in t.
@@ -78,7 +78,7 @@ pub fn is_empty(s: [u64; 4]) -> bool
 pub fn size(s: [u64; 4]) -> u32
     ensures { result ≡ size_of s }
 {
-    u64::count_ones(s[0]) + u64::count_ones(s[1]) + u64::count_ones(s[2]) + u64::count_ones(s[3])
+    s[0].count_ones() + s[1].count_ones() + s[2].count_ones() + s[3].count_ones()
 }
 
 // The word whose digit k is 1 where base + k is below n: its lowest n - base digits, none where n
@@ -105,4 +105,25 @@ pub fn below(s: [u64; 4], n: usize) -> [u64; 4]
         s[2] & mask(n, 128),
         s[3] & mask(n, 192),
     ]
+}
+
+// The digits of a word that are 1, the lowest first.
+#[derive(Clone, Copy)]
+pub struct Digits(pub u64);
+
+impl Iterator for Digits {
+    type Item = usize;
+
+    ghost next_gives = { λ s r t. GivesLowest s.0 r t.0 };
+
+    ghost remaining = { λ s. at_most (ones s.0) };
+
+    fn next(&mut self) -> Option<usize> {
+        if self.0 == 0 {
+            return None;
+        }
+        let k = self.0.trailing_zeros() as usize;
+        self.0 &= self.0 - 1;
+        Some(k)
+    }
 }

@@ -14,7 +14,7 @@ use lib.Dec.{eqb, ltb}
 use lib.ListN.{get_or}
 use borrow.Author.Tests.{lt-ltb}
 use Rattle.sets.specs.Set.{on, has, any}
-use Rattle.sets.proofs.Digits.{on-zero}
+use Rattle.sets.proofs.Bits.{on-zero}
 use Rattle.sets.proofs.Laws.{any-ext, any-never}
 use Rattle.table.specs.Layout.{max_rules, max_positions}
 use Rattle.starts.specs.Order.{start_ok, starts_ok}

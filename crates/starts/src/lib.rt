@@ -25,10 +25,8 @@ fn joined(starts: &[u64], base: usize) -> u64
     ensures { NoneIn starts.now base 64 result }
 {
     let mut all: u64 = 0;
-    let mut i: usize = 0;
-    while i < 64 {
-        all = all | starts[base + i];
-        i += 1;
+    for i in 0..64 {
+        all |= starts[base + i];
     }
     all
 }
@@ -40,11 +38,8 @@ fn each_ok(starts: &[u64], base: usize, there: u64, taken: u64) -> bool
     ensures { result ≡ starts_in starts.now base 64 (on there) taken }
 {
     let mut ok = true;
-    let mut i: u32 = 0;
-    while i < 64 {
-        let start = starts[base + i as usize];
-        ok = ok & start_ok((there >> i) % 2 == 1, taken, start);
-        i += 1;
+    for i in 0..64 {
+        ok &= start_ok((there >> i) % 2 == 1, taken, starts[base + i]);
     }
     ok
 }
@@ -80,8 +75,6 @@ fn pairs_ok(pairs: &[u64; 64], pending: u64, taken: u64) -> bool
 pub fn starts_ok(s: Stream, live: &[u64; 256], held: &[u64; 256], pairs: &[u64; 64]) -> bool
     ensures { result ≡ in_order s live.now held.now pairs.now }
 {
-    let alive = s.live;
-    let waiting = s.held;
-    set_ok(live, alive, s.taken)
-        & (set_ok(held, waiting, s.taken) & pairs_ok(pairs, s.pending, s.taken))
+    set_ok(live, s.live, s.taken)
+        & (set_ok(held, s.held, s.taken) & pairs_ok(pairs, s.pending, s.taken))
 }

@@ -10,23 +10,21 @@ use lib.ListN.{length, get_or, drop, get_or-append}
 use lib.Seq.{get_or-append-add, ext_get_or}
 use Rattle.sets.specs.Set.{empty_set}
 use Rattle.sets.proofs.Laws.{words-set_of, below-four}
-use Rattle.kinds.specs.declared.Side.{Side}
-use Rattle.kinds.specs.declared.Side.TheVariants.{Other, Word, Newline}
 use Rattle.kinds.specs.Side.{side_of}
+use Rattle.kinds.proofs.Sides.{side-read}
 use Rattle.table.specs.Layout.{max_rules, max_positions}
 use Rattle.table.specs.Table.{is_table}
 use Rattle.table.specs.Automaton.{Automaton}
 use Rattle.steps.specs.Step.{stepped, stepped_starts}
 use Rattle.steps.proofs.Carrying.{list_length, list_at, list-is}
 use Rattle.stream.specs.declared.Stream.{Stream}
-use Rattle.stream.specs.declared.Opened.{Opened}
 use Rattle.stream.specs.Byte.{after, next_held, byte_state, state_after}
 use Rattle.stream.specs.Calls as stream
-use Rattle.stream.specs.Calls.{fresh}
+use Rattle.stream.specs.Calls.{Opened, fresh}
 use Rattle.traced.specs.declared.Traced.{Traced}
 use Rattle.traced.specs.Byte.{traced, next_state, next_starts}
 use Rattle.traced.specs.Calls as trace
-use Rattle.states.specs.State.{live_at, held_at, pairs_at, trace_words, side_in, side_word, state_of, trace_of, part, stream_words, live_words, held_words, traced_words, stored, Form}
+use Rattle.states.specs.State.{live_at, held_at, pairs_at, trace_words, state_of, trace_of, part, stream_words, live_words, held_words, traced_words, stored, Form}
 use Rattle.states.specs.Call.{short, stored_in, Given, Call, left, on_state}
 use Rattle.traced.proofs.Carrying.{list_ext}
 use Rattle.traced.proofs.Same.{stream_after}
@@ -48,13 +46,6 @@ four l e =
     let words : List ℕ = get_or l 0 0 ∷ get_or l 1 0 ∷ get_or l 2 0 ∷ get_or l 3 0 ∷ [] in
     ext_get_or 0 words l (sym e) (below-four (λ (i : ℕ). get_or words i 0 ≡ get_or l i 0) refl refl refl refl)
 
--- a side, written as its word
-side : (x : Side) → side_in (side_word x) ≡ x
-unfolding side_in side_word
-side Other = refl
-side Word = refl
-side Newline = refl
-
 -- the closed mark, written as 1 or 0
 mark : (b : Bool) → not (eqb (cond b 1 0) 0) ≡ b
 mark true = refl
@@ -68,7 +59,7 @@ front-back s more e = λ i. record {
   held = four s.held e.1 i;
   reported = s.reported;
   pending = s.pending;
-  last = side s.last i;
+  last = side-read s.last i;
   taken = s.taken;
   rules = s.rules;
   positions = s.positions;

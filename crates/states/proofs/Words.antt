@@ -2,22 +2,23 @@
 -- `stored`; and the same with starts.
 use mathlib.Core.Path.{◌≡◌, refl, sym, ap, ap₂, ◌∙◌}
 use mathlib.Core.Bool.{Bool, true, false, cond, not}
-use mathlib.Core.List.{List, [], ◌∷◌, ◌++◌}
-use Prim.Native.Nat.{ℕ, ◌+◌, ◌-◌, ◌≤◌, ◌<◌}
+use mathlib.Core.List.{List, [], ◌∷◌, ◌++◌, append_assoc}
+use Prim.Native.Nat.{ℕ, ◌+◌, ◌≤◌}
 use native.Mathlib.Nat.{zero-add}
 use native.Mathlib.Omega.{arith}
 use mir.Val.{bool_byte}
 use lib.Dec.{eqb}
-use lib.ListN.{length, get_or, drop, length-append, length-drop, get_or-append}
-use lib.Seq.{get_or-append-add, get_or-drop, drop-drop}
+use lib.ListN.{length, get_or, take, drop, length-append, length-drop}
+use lib.Seq.{get_or-drop, drop-drop, length-take-le, take_at, drop_at}
+use borrow.Rule.Slice.PartMut.{put_mid}
+use Rattle.std.proofs.lemmas.List.{get_or-take}
 use Rattle.kinds.specs.declared.Side.{Side}
+use Rattle.kinds.specs.Side.{side_in, side_word}
 use Rattle.table.specs.Layout.{max_rules, max_positions}
-use Rattle.table.proofs.Over.{over, over-in, over-is, length_over}
-use Rattle.steps.specs.Step.{list_from}
-use Rattle.steps.proofs.Carrying.{list_length, list_at, list-is}
+use Rattle.steps.proofs.Carrying.{list_length, list-is}
 use Rattle.stream.specs.declared.Stream.{Stream}
 use Rattle.traced.specs.declared.Traced.{Traced}
-use Rattle.states.specs.State.{state_words, live_at, held_at, pairs_at, trace_words, side_in, side_word, state_of, trace_of, part, stream_words, live_words, held_words, traced_words, stored}
+use Rattle.states.specs.State.{state_words, live_at, held_at, pairs_at, trace_words, state_of, trace_of, part, stream_words, live_words, held_words, traced_words, stored}
 
 -- a state has fifteen words
 pub length-words : (s : Stream) → length (stream_words s) ≡ state_words
@@ -67,71 +68,19 @@ laid s side e = ap₂ (array s) e (bool-byte s.closed)
 
 -- ---- words that are copied
 
--- what `copy` leaves: n words of one list, from `first` on, at a place of another
-abbrev pub pasted : (from : List ℕ) → (first at n : ℕ) → List ℕ → List ℕ
-pasted from first at n t = over at (at + n) (λ w. get_or from (first + (w - at)) 0) t
+-- a part of some words as a list of its own
+pub cut_part : (t : List ℕ) (at n : ℕ) → at + n ≤ length t → take n (drop at t) ≡ part at n t
+cut_part t at n h =
+    list-is n (take n (drop at t)) (λ q. get_or t (at + q) 0) (length-take-le n (drop at t) (omega (arith, length-drop at t)))
+    (λ q lt. get_or-take n (drop at t) q 0 lt ∙ get_or-drop at t q 0)
 
--- as a whole list
-pub read-part : (t : List ℕ) (first n : ℕ) (to : List ℕ) → length to ≡ n → pasted t first 0 n to ≡ part first n t
-read-part t first n to l =
-    list-is n (pasted t first 0 n to) (λ q. get_or t (first + q) 0) (length_over 0 (0 + n) (λ w. get_or t (first + (w - 0)) 0) to ∙ l)
-    (λ q h.
-    let below : q < 0 + n = omega arith in
-    let e : q - 0 ≡ q = omega arith in
-    over-in 0 (0 + n) (λ w. get_or t (first + (w - 0)) 0) to q (omega arith) below (omega (arith, l))
-    ∙ ap (λ (i : ℕ). get_or t (first + i) 0) e)
+-- a list whose length is known, as a part
+pub whole : (n : ℕ) (l : List ℕ) → length l ≡ n → l ≡ part 0 n l
+whole n l e = list-is n l (λ q. get_or l (0 + q) 0) e (λ q lt. ap (λ (i : ℕ). get_or l i 0) (sym (zero-add q)))
 
--- after a list, over the first words of another
-module _ (a b from : List ℕ) (n : ℕ) (h : n ≤ length b) where
-  private-length : length ((a ++ part 0 n from) ++ drop n b) ≡ length (a ++ b)
-  private-length =
-      omega (
-        arith,
-        length-append (a ++ part 0 n from) (drop n b),
-        length-append a (part 0 n from),
-        list_length 0 n (λ q. get_or from (0 + q) 0),
-        length-drop n b,
-        length-append a b,
-      )
-
-  pub write-part : pasted from 0 (length a) n (a ++ b) ≡ (a ++ part 0 n from) ++ drop n b
-  write-part =
-      sym (over-is (length a) (length a + n) (λ w. get_or from (0 + (w - length a)) 0) (a ++ b) ((a ++ part 0 n from) ++ drop n b) private-length inside below above)
-    where
-      front : length (a ++ part 0 n from) ≡ length a + n
-      front = length-append a (part 0 n from) ∙ ap (λ (k : ℕ). length a + k) (list_length 0 n (λ q. get_or from (0 + q) 0))
-
-      inside : (w : ℕ) → length a ≤ w → w < length a + n → w < length (a ++ b) → get_or ((a ++ part 0 n from) ++ drop n b) w 0 ≡ get_or from (0 + (w - length a)) 0
-      inside w p q l =
-          let e : length a + (w - length a) ≡ w = omega arith in
-          get_or-append (a ++ part 0 n from) (drop n b) 0 w (omega (arith, front))
-          ∙ ap (λ (i : ℕ). get_or (a ++ part 0 n from) i 0) (sym e)
-          ∙ get_or-append-add a (part 0 n from) (w - length a) 0
-          ∙ list_at 0 n (λ q. get_or from (0 + q) 0) (w - length a) (omega arith)
-          ∙ ap (λ (i : ℕ). get_or from (0 + i) 0) (zero-add (w - length a))
-
-      below : (w : ℕ) → w < length a → get_or ((a ++ part 0 n from) ++ drop n b) w 0 ≡ get_or (a ++ b) w 0
-      below w p =
-          get_or-append (a ++ part 0 n from) (drop n b) 0 w (omega (arith, front))
-          ∙ get_or-append a (part 0 n from) 0 w p ∙ sym (get_or-append a b 0 w p)
-
-      above : (w : ℕ) → length a + n ≤ w → get_or ((a ++ part 0 n from) ++ drop n b) w 0 ≡ get_or (a ++ b) w 0
-      above w p =
-          let e : length (a ++ part 0 n from) + (w - (length a + n)) ≡ w = omega (arith, front) in
-          let d : n + (w - (length a + n)) ≡ w - length a = omega arith in
-          let f : length a + (w - length a) ≡ w = omega arith in
-          ap (λ (i : ℕ). get_or ((a ++ part 0 n from) ++ drop n b) i 0) (sym e)
-          ∙ get_or-append-add (a ++ part 0 n from) (drop n b) (w - (length a + n)) 0
-          ∙ get_or-drop n b (w - (length a + n)) 0
-          ∙ ap (λ (i : ℕ). get_or b i 0) d
-          ∙ sym (get_or-append-add a b (w - length a) 0)
-          ∙ ap (λ (i : ℕ). get_or (a ++ b) i 0) f
-
--- ---- a state at the front of some words
-
-pub stored_is : (s : Stream) (t : List ℕ) → state_words ≤ length t → pasted (stream_words s) 0 0 state_words t ≡ stored (stream_words s) t
-unfolding stream_words list_from
-stored_is s t h = write-part [] t (stream_words s) state_words h
+-- a state over the first words
+pub stored_is : (s : Stream) (t : List ℕ) → stream_words s ++ drop state_words t ≡ stored (stream_words s) t
+stored_is s t = ap (λ (k : ℕ). stream_words s ++ drop k t) (sym (length-words s))
 
 -- the state that is read, with its starts
 pub loaded-traced : (t : List ℕ) {live held pairs : List ℕ} {s : Stream} → s ≡ state_of t
@@ -160,10 +109,21 @@ pub length-stored : (a t : List ℕ) → length a ≤ length t → length (store
 length-stored a t h = length-append a (drop (length a) t) ∙ omega (arith, length-drop (length a) t)
 
 -- one part more, at the place where the words before it end
-pub more : (a : List ℕ) (at n : ℕ) (from t : List ℕ) → length a ≡ at → at + n ≤ length t
-    → pasted from 0 at n (stored a t) ≡ stored (a ++ part 0 n from) t
-more a at n from t e b =
-    ap (λ (k : ℕ). pasted from 0 k n (stored a t)) (sym e)
-    ∙ write-part a (drop (length a) t) from n (omega (arith, length-drop (length a) t))
-    ∙ ap (λ (l : List ℕ). (a ++ part 0 n from) ++ l) (drop-drop n (length a) t)
+pub more : (a : List ℕ) (at n : ℕ) (from t : List ℕ) → length a ≡ at → length from ≡ n
+    → put_mid at n (stored a t) from ≡ stored (a ++ part 0 n from) t
+more a at n from t e f =
+    ap₂ (λ (x y : List ℕ). x ++ (from ++ drop n y)) (take_at a (drop (length a) t) at e) (drop_at a (drop (length a) t) at e)
+    ∙ sym (append_assoc a from (drop n (drop (length a) t)))
+    ∙ ap₂ (λ (x y : List ℕ). (a ++ x) ++ y) (whole n from f) (drop-drop n (length a) t)
     ∙ ap (λ (k : ℕ). (a ++ part 0 n from) ++ drop k t) (sym (long a (length a) n from refl))
+
+-- the state's words, and each list of starts behind the words before it
+pub all_stored : (z : Traced) (t : List ℕ) {words live held pairs : List ℕ} → words ≡ stored (stream_words z.stream) t
+    → live ≡ z.starts.live → held ≡ z.starts.held → pairs ≡ z.starts.pairs
+    → length z.starts.live ≡ max_positions → length z.starts.held ≡ max_positions → length z.starts.pairs ≡ max_rules
+    → put_mid pairs_at max_rules (put_mid held_at max_positions (put_mid live_at max_positions words live) held) pairs ≡ stored (traced_words z) t
+all_stored z t {words} {live} {held} {pairs} w l h p m n q =
+    ap₂ (put_mid pairs_at max_rules)
+    (ap₂ (put_mid held_at max_positions) (ap₂ (put_mid live_at max_positions) w l ∙ more (stream_words z.stream) live_at max_positions z.starts.live t (length-words z.stream) m) h
+    ∙ more (live_words z.stream z.starts.live) held_at max_positions z.starts.held t (length-live z.stream z.starts.live) n) p
+    ∙ more (held_words z.stream z.starts.live z.starts.held) pairs_at max_rules z.starts.pairs t (length-held z.stream z.starts.live z.starts.held) q

@@ -4,8 +4,7 @@
 -- the held pairs after them, 591 words in all. Every so many words are some state. Assumes nothing:
 -- these are definitions.
 use Rattle.std.specs.Prelude.{cond, not, List, [], ◌∷◌, ◌++◌, ℕ, ◌+◌, eqb, length, get_or, drop}
-use Rattle.kinds.specs.declared.Side.{Side}
-use Rattle.kinds.specs.declared.Side.TheVariants.{Other, Word, Newline}
+use Rattle.kinds.specs.Side.{side_in, side_word}
 use Rattle.table.specs.Layout.{max_rules, max_positions}
 use Rattle.steps.specs.Step.{list_from}
 use Rattle.stream.specs.declared.Stream.{Stream}
@@ -27,16 +26,8 @@ pairs_at = 527
 abbrev pub trace_words : ℕ
 trace_words = 591
 
--- the side of the last byte: 1 is a word byte, 2 a newline, every other number neither
-unfoldable pub side_in : ℕ → Side
-side_in x = cond (eqb x 1) Word (cond (eqb x 2) Newline Other)
-
-unfoldable pub side_word : Side → ℕ
-side_word Other = 0
-side_word Word = 1
-side_word Newline = 2
-
--- the state that words are: any closed word but 0 is closed
+-- the state that words are: the last byte's side is a word byte by 1, a newline by 2, neither by
+-- every other number; any closed word but 0 is closed
 unfoldable pub state_of : List ℕ → Stream
 state_of t = record {
   live = get_or t 0 0 ∷ get_or t 1 0 ∷ get_or t 2 0 ∷ get_or t 3 0 ∷ [];

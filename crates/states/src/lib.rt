@@ -3,10 +3,10 @@
 // held pairs. Too few words are read as none, and stay as they are.
 #![tactic(auto)]
 
-ghost use Rattle.std.specs.Prelude.{◌≡◌, [], ◌+◌, ◌-◌, ◌≤◌, length, get_or};
-ghost use Rattle.table.specs.Invariants.{over};
-ghost use Rattle.states.specs.State.{state_words, trace_words, side_in, side_word, state_of, trace_of, stream_words, live_words, held_words, pair_words, traced_words, stored, stream_form, traced_form};
-ghost use Rattle.states.specs.Call.{state_in, stored_in};
+ghost use Rattle.std.specs.Prelude.{◌≡◌, ℕ, [], ◌≤◌, length, refl};
+ghost use Rattle.std.proofs.Common.{arith};
+ghost use Rattle.states.specs.State.{state_words, trace_words, state_of, stream_words, traced_words, stored, Form, stream_form, traced_form};
+ghost use Rattle.states.specs.Call.{state_in, stored_in, busy_figure};
 
 use kinds::Side;
 use stream::Stream;
@@ -16,51 +16,36 @@ use traced::{Starts, Traced};
 // rules'.
 pub const SHORT_STATE: u32 = 100;
 
-// How many words a state has, and one with starts.
-pub const STATE_WORDS: usize = 15;
+// A kind of state, in words that the caller owns.
+pub trait InWords: Copy {
+    // Which state words are, and which words a state has.
+    ghost form: { Form Self };
 
-pub const TRACE_WORDS: usize = 591;
+    ghost WORDS: { ℕ };
 
-// Where its starts stand, and how many.
-const LIVE_AT: usize = 15;
+    // How many words it has.
+    const WORDS: usize;
+
+    // The state that words are; too few are read as none.
+    fn load(words: &[u64]) -> Self
+        ensures { result ≡ state_in form words.now };
+
+    // Writes it over the first words; too few stay.
+    fn store(self, words: &mut [u64])
+        ensures { words.new ≡ stored_in form self words.old };
+
+    ghost sized: { form.size ≡ WORDS };
+
+    // A stream's state comes first.
+    ghost holds_stream: { state_words ≤ WORDS };
+}
+
+// Where the starts of a state stand.
+const LIVE_AT: usize = Stream::WORDS;
 
 const HELD_AT: usize = 271;
 
 const PAIRS_AT: usize = 527;
-
-const POSITION_STARTS: usize = 256;
-
-const PAIR_STARTS: usize = 64;
-
-// The words that name a word byte and a newline; every other names neither.
-const WORD: u64 = 1;
-
-const NEWLINE: u64 = 2;
-
-// The side that a word names.
-fn side_in(word: u64) -> Side
-    ensures { result ≡ side_in word }
-{
-    if word == WORD {
-        return Side::Word;
-    }
-    if word == NEWLINE {
-        Side::Newline
-    } else {
-        Side::Other
-    }
-}
-
-// The word that names a side.
-fn side_word(side: Side) -> u64
-    ensures { result ≡ side_word side }
-{
-    match side {
-        Side::Other => 0,
-        Side::Word => WORD,
-        Side::Newline => NEWLINE,
-    }
-}
 
 // The state that no words are.
 fn no_state() -> Stream
@@ -84,42 +69,16 @@ fn state_in(words: &[u64]) -> Stream
     requires { state_words ≤ length words.now }
     ensures { result ≡ state_of words.now }
 {
-    let live = [words[0], words[1], words[2], words[3]];
-    let held = [words[4], words[5], words[6], words[7]];
-    let last = side_in(words[10]);
     Stream {
-        live,
-        held,
+        live: [words[0], words[1], words[2], words[3]],
+        held: [words[4], words[5], words[6], words[7]],
         reported: words[8],
         pending: words[9],
-        last,
+        last: Side::from(words[10]),
         taken: words[11],
         rules: words[12],
         positions: words[13],
         closed: words[14] != 0,
-    }
-}
-
-// The state that words are.
-pub fn load(words: &[u64]) -> Stream
-    ensures { result ≡ state_in stream_form words.now }
-{
-    if words.len() < STATE_WORDS {
-        no_state()
-    } else {
-        state_in(words)
-    }
-}
-
-// Copies n words of one list, from the place `first` on, to the place `at` of another.
-fn copy(from: &[u64], first: usize, to: &mut [u64], at: usize, n: usize)
-    requires { (first + n ≤ length from.now) × (at + n ≤ length to.old) }
-    ensures { to.new ≡ over at (at + n) (λ w. get_or from.now (first + (w - at)) 0) to.old }
-{
-    let mut i: usize = 0;
-    while i < n {
-        to[at + i] = from[first + i];
-        i += 1;
     }
 }
 
@@ -128,109 +87,105 @@ fn put_state(words: &mut [u64], s: Stream)
     requires { state_words ≤ length words.old }
     ensures { words.new ≡ stored (stream_words s) words.old }
 {
-    let live = s.live;
-    let held = s.held;
-    let last = s.last;
     let from = [
-        live[0],
-        live[1],
-        live[2],
-        live[3],
-        held[0],
-        held[1],
-        held[2],
-        held[3],
+        s.live[0],
+        s.live[1],
+        s.live[2],
+        s.live[3],
+        s.held[0],
+        s.held[1],
+        s.held[2],
+        s.held[3],
         s.reported,
         s.pending,
-        side_word(last),
+        u64::from(s.last),
         s.taken,
         s.rules,
         s.positions,
         s.closed as u64,
     ];
-    copy(&from, 0, words, 0, STATE_WORDS);
+    words[..Stream::WORDS].copy_from_slice(&from);
 }
 
-// Stores a state.
-pub fn store(words: &mut [u64], s: Stream)
-    ensures { words.new ≡ stored_in stream_form s words.old }
-{
-    if STATE_WORDS <= words.len() {
-        put_state(words, s);
+impl InWords for Stream {
+    ghost form = { stream_form };
+
+    ghost WORDS = { 15 };
+
+    const WORDS: usize = 15;
+
+    ghost sized = { refl };
+
+    ghost holds_stream = { Prim.omega arith };
+
+    fn load(words: &[u64]) -> Stream {
+        if words.len() < Stream::WORDS {
+            no_state()
+        } else {
+            state_in(words)
+        }
+    }
+
+    fn store(self, words: &mut [u64]) {
+        if Stream::WORDS <= words.len() {
+            put_state(words, self);
+        }
     }
 }
 
-// The state with starts that words are. One function, since the compiler would copy the starts once
-// more for a second.
-pub fn load_traced(words: &[u64]) -> Traced
-    ensures { result ≡ state_in traced_form words.now }
-{
-    let mut stream = no_state();
-    let mut live = [0u64; 256];
-    let mut held = [0u64; 256];
-    let mut pairs = [0u64; 64];
-    if TRACE_WORDS <= words.len() {
-        stream = state_in(words);
-        copy(words, LIVE_AT, &mut live, 0, POSITION_STARTS);
-        copy(words, HELD_AT, &mut held, 0, POSITION_STARTS);
-        copy(words, PAIRS_AT, &mut pairs, 0, PAIR_STARTS);
-    }
-    Traced {
-        stream,
-        starts: Starts { live, held, pairs },
-    }
-}
-
-// Writes a state and the starts of its live positions over the first words.
-fn store_live(words: &mut [u64], s: Stream, live: &[u64; 256])
-    requires { trace_words ≤ length words.old }
-    ensures { words.new ≡ stored (live_words s live.now) words.old }
-{
-    put_state(words, s);
-    copy(live, 0, words, LIVE_AT, POSITION_STARTS);
-}
-
-// The same, and the starts of its held positions.
-fn store_held(words: &mut [u64], s: Stream, live: &[u64; 256], held: &[u64; 256])
-    requires { trace_words ≤ length words.old }
-    ensures { words.new ≡ stored (held_words s live.now held.now) words.old }
-{
-    store_live(words, s, live);
-    copy(held, 0, words, HELD_AT, POSITION_STARTS);
-}
-
-// The same, and the starts of its held pairs.
-fn store_pairs(
-    words: &mut [u64],
-    s: Stream,
-    live: &[u64; 256],
-    held: &[u64; 256],
-    pairs: &[u64; 64],
-)
-    requires { trace_words ≤ length words.old }
-    ensures { words.new ≡ stored (pair_words s live.now held.now pairs.now) words.old }
-{
-    store_held(words, s, live, held);
-    copy(pairs, 0, words, PAIRS_AT, PAIR_STARTS);
-}
-
-// The same, of a state with starts.
+// Writes a state with starts over the first words.
 fn put_traced(words: &mut [u64], z: Traced)
     requires { trace_words ≤ length words.old }
     ensures { words.new ≡ stored (traced_words z) words.old }
 {
-    let stream = z.stream;
-    let live = z.starts.live;
-    let held = z.starts.held;
-    let pairs = z.starts.pairs;
-    store_pairs(words, stream, &live, &held, &pairs);
+    put_state(words, z.stream);
+    words[LIVE_AT..HELD_AT].copy_from_slice(&z.starts.live);
+    words[HELD_AT..PAIRS_AT].copy_from_slice(&z.starts.held);
+    words[PAIRS_AT..Traced::WORDS].copy_from_slice(&z.starts.pairs);
 }
 
-// Stores a state with starts.
-pub fn store_traced(words: &mut [u64], z: Traced)
-    ensures { words.new ≡ stored_in traced_form z words.old }
-{
-    if TRACE_WORDS <= words.len() {
-        put_traced(words, z);
+impl InWords for Traced {
+    ghost form = { traced_form };
+
+    ghost WORDS = { 591 };
+
+    const WORDS: usize = 591;
+
+    ghost sized = { refl };
+
+    ghost holds_stream = { Prim.omega arith };
+
+    // One function, since the compiler would copy the starts once more for a second.
+    fn load(words: &[u64]) -> Traced {
+        let mut stream = no_state();
+        let mut live = [0; 256];
+        let mut held = [0; 256];
+        let mut pairs = [0; 64];
+        if Traced::WORDS <= words.len() {
+            stream = state_in(words);
+            live.copy_from_slice(&words[LIVE_AT..HELD_AT]);
+            held.copy_from_slice(&words[HELD_AT..PAIRS_AT]);
+            pairs.copy_from_slice(&words[PAIRS_AT..Traced::WORDS]);
+        }
+        Traced {
+            stream,
+            starts: Starts { live, held, pairs },
+        }
     }
+
+    fn store(self, words: &mut [u64]) {
+        if Traced::WORDS <= words.len() {
+            put_traced(words, self);
+        }
+    }
+}
+
+// How many positions are live in the state that words are; too few have none.
+pub fn busy<S: InWords>(words: &[u64]) -> u32
+    ensures { result ≡ busy_figure S.form words.now }
+{
+    if words.len() < S::WORDS {
+        return 0;
+    }
+    Stream::load(words).busy()
 }

@@ -10,7 +10,7 @@ use native.Mathlib.Omega.{arith}
 use native.Mathlib.Decide.{dec_lt, ℕ_discrete}
 use lib.Count.{ones}
 use Rattle.sets.specs.Set.{on, as_one, count}
-use Rattle.sets.proofs.Digits.{on-zero, count_add, count-le, ones-count, zeros-off, zeros-on, clear-low, cleared-shr, cleared-on, cleared-off}
+use Rattle.sets.proofs.Bits.{on-zero, count_add, count-le, ones-count, zeros-off, zeros-on, clear-low, cleared-shr, cleared-on, cleared-off}
 use Rattle.steps.specs.Walk.{left, asked, AsksEachOnce}
 use Rattle.table.proofs.Members.{count-below}
 
@@ -121,18 +121,7 @@ module _ (word : ℕ) (fits : word < 2 ^ 64) where
       go zero e = refl
       go (suc x) e = absurd (omega (arith, turns-bound (suc (ones word)) (after_next (ones word) last (omega arith))))
 
-  -- while something is left there is a turn to come, which asks a digit of the word; else all turns
-  -- were taken, at most 64
-  pub goes_on : (n : ℕ) → n ≤ ones word → ¬ (left word n ≡ 0) → (n < ones word) × (asked word n < 64)
-  goes_on n h some = go (ℕ_discrete n (ones word))
-    where
-      go : Dec (n ≡ ones word) → (n < ones word) × (asked word n < 64)
-      go (yes e) = absurd (some (ap (left word) e ∙ nothing_left))
-      go (no d) = (omega arith, lowest-inside n (after n h) (some_left n (after n h) (omega arith)))
-
-  pub ends_with : (n : ℕ) → n ≤ ones word → left word n ≡ 0 → n ≡ ones word
-  ends_with n h e = sym (number ∙ all-counted n (after n h) e)
-
+  -- there are at most 64 turns
   pub few : ones word ≤ 64
   few = omega (arith, number, count-le 64 (on word))
 

@@ -1,7 +1,6 @@
--- What the code asks of numbers: sums and products that fit a word, measures that fall. Each is
--- stated over plain numbers, since `omega` is dear where all that is known of a call is in reach.
-use mathlib.Core.Path.{◌≡◌}
-use Prim.Native.Nat.{ℕ, ◌+◌, ◌*◌, ◌-◌, ◌<◌, ◌≤◌}
+-- What the code asks of numbers: sums and products that fit a word. Each is stated over plain
+-- numbers, since `omega` is dear where all that is known of a call is in reach.
+use Prim.Native.Nat.{ℕ, ◌+◌, ◌*◌, ◌<◌, ◌≤◌}
 use native.Mathlib.Omega.{arith}
 use mathlib.Core.List.{List}
 use mir.Syntax.{w32, w64}
@@ -14,17 +13,6 @@ use borrow.Kind.Array.{e_int, good_length}
 use Rattle.sets.proofs.Laws.{Words, words-owned}
 use Rattle.table.specs.Layout.{table_words, first_at, last_at}
 use Rattle.table.specs.Gaps.{last_gaps, first_gaps, follow_gaps}
-
--- a place is one more, or has reached the end
-pub up : (a n : ℕ) → a < n → a + 1 ≤ n
-up a n h = omega arith
-
-pub reached : (a n : ℕ) → a ≤ n → n ≤ a → a ≡ n
-reached a n h l = omega arith
-
--- what is left falls
-pub less-left : (n from at : ℕ) → from ≤ at → at < n → n - (at + 1) < n - from
-less-left n from at h l = omega arith
 
 -- ---- the sets of a gap
 

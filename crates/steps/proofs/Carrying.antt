@@ -5,7 +5,7 @@ use mathlib.Core.Path.{◌≡◌, refl, sym, ap, ap₂, subst, ◌∙◌}
 use mathlib.Core.Logic.{◌⊎◌, inl, inr}
 use mathlib.Core.Bool.{Bool, true, false, true≢false, cond, ◌&&◌, ◌||◌, and_assoc}
 use mathlib.Core.List.{List}
-use Prim.Native.Nat.{ℕ, zero, suc, ◌+◌, ◌-◌, ◌*◌, ◌/◌, ◌%◌, ◌^◌, ◌≤◌, ◌<◌}
+use Prim.Native.Nat.{ℕ, zero, suc, ◌+◌, ◌-◌, ◌*◌, ◌/◌, ◌%◌, ◌^◌, ◌≤◌, ◌<◌, min}
 use native.Mathlib.Omega.{arith}
 use native.Mathlib.Decide.{ℕ_discrete, dec_lt}
 use lib.Bits.{bit_and, and_le_r}
@@ -13,14 +13,14 @@ use lib.Count.{count_trailing_zeros}
 use lib.Dec.{eqb, ltb}
 use lib.ListN.{length, get_or, set, replicate, length-set}
 use lib.Seq.{ext_get_or, get_or-set_same, get_or-set_other}
-use mir.Syntax.{w64}
-use mir.Val.{Fits}
 use borrow.Author.Tests.{eq-eqb, ne_eqb, lt-ltb, le-ltb, lt-leb, le-leb}
 use native.Mathlib.Nat.{zero-add}
 use Rattle.kinds.specs.declared.Side.{Side}
+use Rattle.std.proofs.Common.{Some}
 use Rattle.sets.specs.Set.{on, has, set_of, smallest, intersection_of}
-use Rattle.sets.proofs.Laws.{has-set_of, has-intersection}
-use Rattle.sets.proofs.Digits.{on-zero, zeros-off, zeros-on, clear-low, cleared-on, cleared-off}
+use Rattle.sets.specs.Walk.{GivesLowest}
+use Rattle.sets.proofs.Laws.{has-set_of, has-intersection, below_next}
+use Rattle.sets.proofs.Bits.{on-zero, zeros-off, zeros-on, clear-low, cleared-on, cleared-off}
 use Rattle.sets.proofs.Smallest.{smallest-under, smallest-at, smallest-is}
 use Rattle.table.specs.Layout.{table_words, max_rules, max_positions, owner_at, row_has}
 use Rattle.table.specs.Gaps.{gap_of}
@@ -29,7 +29,7 @@ use Rattle.table.proofs.GapBounds.{gap_of-follow}
 use Rattle.steps.specs.Step.{list_from, list_on, start_after, stepped_starts, start_at}
 use Rattle.steps.proofs.Bounds.{follow_rows}
 use Rattle.steps.proofs.Steps.{follow-row}
-use Rattle.steps.specs.Invariants.{chosen_of, in_word, Put, Followed, least_owned}
+use Rattle.steps.specs.Invariants.{chosen_of, in_word, Changed, Put, Followed, least_owned}
 
 -- ---- a turn over the digits of a word
 
@@ -88,34 +88,17 @@ module _ (w : ℕ) (fits : w < 2 ^ 64) (some : ¬ (w ≡ 0)) where
             (on-turn (q % 64) ∙ ap (λ (b : Bool). b || on (bit_and w (w - 1)) (q % 64)) (ne_eqb (q % 64) z (λ d. ne (omega (arith, e, d)))))
         go (no e) = ap (λ (b : Bool). b && on w (q % 64)) (ne_eqb (q / 64) i e) ∙ sym (ap (λ (b : Bool). b && on (bit_and w (w - 1)) (q % 64)) (ne_eqb (q / 64) i e))
 
--- the places of the walk: all fit
-module _ (i n : ℕ) (li : i < 4) (ln : n < 64) where
-  pub base-fits : Fits w64 (i * 64)
-  base-fits = record { fits = omega arith }
+-- A turn as the iterator over the digits tells of it: a digit is left, and what holds of the lowest
+-- digit and of the word without it holds of what the turn gives.
+pub some_left : {w k v : ℕ} → GivesLowest w (Some k) v → ¬ (w ≡ 0)
+some_left g e = omega (arith, g.0, e)
 
-  pub digit-fits : Fits w64 n
-  digit-fits = record { fits = omega arith }
+pub taken : {w k v : ℕ} → GivesLowest w (Some k) v → (P : ℕ → ℕ → Type 0) → P (count_trailing_zeros 64 w) (bit_and w (w - 1)) → P k v
+taken {w} {k} {v} g P p = subst (λ (j : ℕ). P j v) (sym g.3) (subst (P (count_trailing_zeros 64 w)) (sym g.4) p)
 
-  pub place-fits : Fits w64 (i * 64 + n)
-  place-fits = record { fits = omega arith }
-
-  pub bytes_fit : Fits w64 ((i * 64 + n) * 8)
-  bytes_fit = record { fits = omega arith }
-
-  pub place_inside : i * 64 + n < 256
-  place_inside = omega arith
-
-  pub row-offset-fits : Fits w64 ((i * 64 + n) * 4)
-  row-offset-fits = record { fits = omega arith }
-
-  pub row-place-fits : (rows : ℕ) → rows ≤ 14336 → Fits w64 (rows + (i * 64 + n) * 4)
-  row-place-fits rows g = record { fits = omega arith }
-
-  pub row_inside : (rows m : ℕ) → rows ≤ 14336 → table_words ≤ m → rows + (i * 64 + n) * 4 + 4 ≤ m
-  row_inside rows m g h = omega arith
-
-pub at_least_one : (n : ℕ) → ¬ (n ≡ 0) → 1 ≤ n
-at_least_one n h = omega arith
+-- the place of a digit
+place_inside : (i n : ℕ) → i < 4 → n < 64 → i * 64 + n < 256
+place_inside i n li ln = omega arith
 
 -- no digit is left
 pub none_left : (i q : ℕ) → in_word 0 i q ≡ false
@@ -124,6 +107,14 @@ none_left i q = ap (λ (b : Bool). eqb (q / 64) i && b) (on-zero (q % 64)) ∙ a
     and_no : (b : Bool) → (b && false) ≡ false
     and_no true = refl
     and_no false = refl
+
+-- of two starts the smaller
+pub smaller : (old new : ℕ) → min old new ≡ chosen_of true old new
+smaller old new = go (dec_lt old new)
+  where
+    go : Dec (old < new) → min old new ≡ cond (true && ltb old new) old new
+    go (yes l) = rw (lt-ltb old new l) (omega arith)
+    go (no l) = rw (le-ltb old new (omega arith)) (omega arith)
 
 -- ---- putting a start in
 
@@ -151,10 +142,10 @@ pub record PutLeft (word₀ i : ℕ) (keep : Bool) (start : ℕ) (old : List ℕ
 pub put-none : (word i : ℕ) (keep : Bool) (start : ℕ) (old : List ℕ) → word < 2 ^ 64 → PutLeft word i keep start old word old
 put-none word i keep start old fits = record { small = fits; as_long = refl; same = λ full q lt. refl }
 
-pub put-turn : (word₀ i : ℕ) (keep : Bool) (start : ℕ) (old : List ℕ) (word : ℕ) (new : List ℕ) → PutLeft word₀ i keep start old word new → ¬ (word ≡ 0) → i < 4 → (v : ℕ)
+put-lowest : (word₀ i : ℕ) (keep : Bool) (start : ℕ) (old : List ℕ) (word : ℕ) (new : List ℕ) → PutLeft word₀ i keep start old word new → ¬ (word ≡ 0) → i < 4 → (v : ℕ)
     → v ≡ chosen_of keep (get_or new (i * 64 + count_trailing_zeros 64 word) 0) start
     → PutLeft word₀ i keep start old (bit_and word (word - 1)) (set new (i * 64 + count_trailing_zeros 64 word) v)
-put-turn word₀ i keep start old word new h some li v is = record {
+put-lowest word₀ i keep start old word new h some li v is = record {
   small = fits-still word h.small some;
   as_long = length-set new p v ∙ h.as_long;
   same = λ full q lt. h.same full q lt ∙ go full q (ℕ_discrete q p);
@@ -182,6 +173,12 @@ put-turn word₀ i keep start old word new h some li v is = record {
         let at : ℕ = i * 64 + count_trailing_zeros 64 word in
         ap₂ (λ (b : Bool) (x : ℕ). cond b (chosen_of keep x start) x) (others-left word h.small some i q ne) (sym (get_or-set_other new at q v 0 ne))
 
+pub put-turn : (word₀ i : ℕ) (keep : Bool) (start : ℕ) (old : List ℕ) {word k rest : ℕ} (new : List ℕ) → PutLeft word₀ i keep start old word new → GivesLowest word (Some k) rest → i < 4 → (v : ℕ)
+    → v ≡ chosen_of keep (get_or new (i * 64 + k) 0) start → PutLeft word₀ i keep start old rest (set new (i * 64 + k) v)
+put-turn word₀ i keep start old {word} new h g li v =
+    taken g (λ k rest. v ≡ chosen_of keep (get_or new (i * 64 + k) 0) start → PutLeft word₀ i keep start old rest (set new (i * 64 + k) v))
+    (put-lowest word₀ i keep start old word new h (some_left g) li v)
+
 pub put_all : (word₀ i : ℕ) (keep : Bool) (start : ℕ) (old : List ℕ) (word : ℕ) (new : List ℕ) → PutLeft word₀ i keep start old word new → word ≡ 0
     → Put (in_word word₀ i) keep start old new
 put_all word₀ i keep start old word new h e = record {
@@ -204,42 +201,65 @@ put-join f g keep start a b c h k = record {
     both false true v = refl
     both false false v = refl
 
--- a set is its four words
-pub four-words : (set : List ℕ) (q : ℕ) → q < max_positions
-    → (((in_word (get_or set 0 0) 0 q || in_word (get_or set 1 0) 1 q) || in_word (get_or set 2 0) 2 q) || in_word (get_or set 3 0) 3 q) ≡ has set q
-unfolding has
-four-words set q lt = go (q / 64) refl
-  where
-    test : ℕ → Bool
-    test i = on (get_or set i 0) (q % 64)
+-- ---- the words of a set, one after the other
 
-    go : (n : ℕ) → q / 64 ≡ n
-        → (((in_word (get_or set 0 0) 0 q || in_word (get_or set 1 0) 1 q) || in_word (get_or set 2 0) 2 q) || in_word (get_or set 3 0) 3 q) ≡ on (get_or set (q / 64) 0) (q % 64)
-    go n e =
-        ap (λ (i : ℕ). (((eqb i 0 && on (get_or set 0 0) (q % 64) || eqb i 1 && on (get_or set 1 0) (q % 64)) || eqb i 2 && on (get_or set 2 0) (q % 64)) || eqb i 3 && on (get_or set 3 0) (q % 64))) e
-        ∙ pick n (omega (arith, e)) ∙ ap (λ (i : ℕ). on (get_or set i 0) (q % 64)) (sym e)
+-- q is a member that stands in one of the first i words
+abbrev pub in_words : (set : List ℕ) (i q : ℕ) → Bool
+in_words set i q = ltb (q / 64) i && has set q
+
+pub words-none : (set : List ℕ) (q : ℕ) → in_words set 0 q ≡ false
+words-none set q = ap (λ (b : Bool). b && has set q) (le-ltb (q / 64) 0 (omega arith))
+
+pub words-more : (set : List ℕ) (i q : ℕ) → (in_words set i q || in_word (get_or set i 0) i q) ≡ in_words set (i + 1) q
+unfolding has
+words-more set i q = go (ℕ_discrete (q / 64) i) ∙ sym (ap (λ (b : Bool). b && on (get_or set (q / 64) 0) (q % 64)) (below_next (q / 64) i))
+  where
+    go : Dec (q / 64 ≡ i)
+        → (ltb (q / 64) i && on (get_or set (q / 64) 0) (q % 64) || eqb (q / 64) i && on (get_or set i 0) (q % 64))
+        ≡ ((ltb (q / 64) i || eqb (q / 64) i) && on (get_or set (q / 64) 0) (q % 64))
+    go (yes e) =
+        ap (λ (j : ℕ). ltb (q / 64) i && on (get_or set (q / 64) 0) (q % 64) || eqb (q / 64) i && on (get_or set j 0) (q % 64)) (sym e)
+        ∙ spread (ltb (q / 64) i) (eqb (q / 64) i) (on (get_or set (q / 64) 0) (q % 64))
+      where
+        spread : (x y z : Bool) → (x && z || y && z) ≡ ((x || y) && z)
+        spread true y true = refl
+        spread true true false = refl
+        spread true false false = refl
+        spread false y z = refl
+    go (no e) =
+        ap (λ (b : Bool). ltb (q / 64) i && on (get_or set (q / 64) 0) (q % 64) || b && on (get_or set i 0) (q % 64)) (ne_eqb (q / 64) i e)
+        ∙ or_no (ltb (q / 64) i && on (get_or set (q / 64) 0) (q % 64))
+        ∙ sym (ap (λ (b : Bool). b && on (get_or set (q / 64) 0) (q % 64)) (ap (λ (b : Bool). ltb (q / 64) i || b) (ne_eqb (q / 64) i e) ∙ or_no (ltb (q / 64) i)))
       where
         or_no : (b : Bool) → (b || false) ≡ b
         or_no true = refl
         or_no false = refl
 
-        pick : (n : ℕ) → n < 4
-            → (((eqb n 0 && on (get_or set 0 0) (q % 64) || eqb n 1 && on (get_or set 1 0) (q % 64)) || eqb n 2 && on (get_or set 2 0) (q % 64)) || eqb n 3 && on (get_or set 3 0) (q % 64))
-            ≡ on (get_or set n 0) (q % 64)
-        pick zero h = or_no ((on (get_or set 0 0) (q % 64) || false) || false) ∙ or_no (on (get_or set 0 0) (q % 64) || false) ∙ or_no (on (get_or set 0 0) (q % 64))
-        pick (suc zero) h = or_no (on (get_or set 1 0) (q % 64) || false) ∙ or_no (on (get_or set 1 0) (q % 64))
-        pick (suc (suc zero)) h = or_no (on (get_or set 2 0) (q % 64))
-        pick (suc (suc (suc zero))) h = refl
-        pick (suc (suc (suc (suc n)))) h = absurd (omega arith)
+pub words-all : (set : List ℕ) (i q : ℕ) → i ≡ 4 → q < max_positions → in_words set i q ≡ has set q
+words-all set i q all lt = ap (λ (b : Bool). b && has set q) (lt-ltb (q / 64) i (omega arith))
 
-pub put-set : (set : List ℕ) (keep : Bool) (start : ℕ) (a b c d e : List ℕ) → Put (in_word (get_or set 0 0) 0) keep start a b → Put (in_word (get_or set 1 0) 1) keep start b c
-    → Put (in_word (get_or set 2 0) 2) keep start c d → Put (in_word (get_or set 3 0) 3) keep start d e → Put (has set) keep start a e
-put-set set keep start a b c d e h0 h1 h2 h3 =
-    let f : ℕ → Bool = λ q. in_word (get_or set 0 0) 0 q || in_word (get_or set 1 0) 1 q in
-    let g : ℕ → Bool = λ q. f q || in_word (get_or set 2 0) 2 q in
-    let all = put-join g (in_word (get_or set 3 0) 3) keep start a d e
-    (put-join f (in_word (get_or set 2 0) 2) keep start a c d (put-join (in_word (get_or set 0 0) 0) (in_word (get_or set 1 0) 1) keep start a b c h0 h1) h2) h3 in
-    record { as_long = all.as_long; each = λ full q lt. all.each full q lt ∙ ap (λ (t : Bool). cond t (chosen_of keep (get_or a q 0) start) (get_or a q 0)) (four-words set q lt) }
+-- what two descriptions of a change agree on
+pub changed-ext : (f g : ℕ → ℕ → ℕ) {a b : List ℕ} → ((q x : ℕ) → q < max_positions → f q x ≡ g q x) → Changed f a b → Changed g a b
+changed-ext f g {a} same h = record { as_long = h.as_long; each = λ full q lt. h.each full q lt ∙ same q (get_or a q 0) lt }
+
+pub changed-none : (f : ℕ → ℕ → ℕ) (a : List ℕ) → ((q x : ℕ) → f q x ≡ x) → Changed f a a
+changed-none f a same = record { as_long = refl; each = λ full q lt. sym (same q (get_or a q 0)) }
+
+module _ (set : List ℕ) (keep : Bool) (start : ℕ) where
+  abbrev put_in : (ℕ → Bool) → (q x : ℕ) → ℕ
+  put_in test q x = cond (test q) (chosen_of keep x start) x
+
+  pub put-first : (a : List ℕ) → Put (in_words set 0) keep start a a
+  put-first a = changed-none (put_in (in_words set 0)) a (λ q x. ap (λ (b : Bool). cond b (chosen_of keep x start) x) (words-none set q))
+
+  pub put-next : (i : ℕ) {a b c : List ℕ} → Put (in_words set i) keep start a b → Put (in_word (get_or set i 0) i) keep start b c → Put (in_words set (i + 1)) keep start a c
+  put-next i {a} {b} {c} h k =
+      changed-ext (put_in (λ q. in_words set i q || in_word (get_or set i 0) i q)) (put_in (in_words set (i + 1)))
+      (λ q x lt. ap (λ (t : Bool). cond t (chosen_of keep x start) x) (words-more set i q))
+      (put-join (in_words set i) (in_word (get_or set i 0) i) keep start a b c h k)
+
+  pub put-last : (i : ℕ) → i ≡ 4 → {a b : List ℕ} → Put (in_words set i) keep start a b → Put (has set) keep start a b
+  put-last i all = changed-ext (put_in (in_words set i)) (put_in (has set)) (λ q x lt. ap (λ (t : Bool). cond t (chosen_of keep x start) x) (words-all set i q all lt))
 
 -- ---- the smallest, part by part
 
@@ -364,10 +384,10 @@ module _ (next from : List ℕ) (rows : ℕ) (t : List ℕ) where
   pub follow-none : (word i : ℕ) (old : List ℕ) → word < 2 ^ 64 → FollowLeft word i old word old
   follow-none word i old fits = record { small = fits; as_long = refl; same = λ full q lt. refl }
 
-  pub follow-turn : (word₀ i : ℕ) (old : List ℕ) (word : ℕ) (new : List ℕ) → FollowLeft word₀ i old word new → ¬ (word ≡ 0) → i < 4 → (to new' : List ℕ)
+  follow-lowest : (word₀ i : ℕ) (old : List ℕ) (word : ℕ) (new : List ℕ) → FollowLeft word₀ i old word new → ¬ (word ≡ 0) → i < 4 → (to new' : List ℕ)
       → to ≡ intersection_of (set_of (row_has t (rows + (i * 64 + count_trailing_zeros 64 word) * 4))) next
       → Put (has to) true (get_or from (i * 64 + count_trailing_zeros 64 word) 0) new new' → FollowLeft word₀ i old (bit_and word (word - 1)) new'
-  follow-turn word₀ i old word new h some li to new' is put = record {
+  follow-lowest word₀ i old word new h some li to new' is put = record {
     small = fits-still word h.small some;
     as_long = put.as_long ∙ h.as_long;
     same = λ full q lt. h.same full q lt ∙ go full q lt (has next q) refl;
@@ -423,6 +443,12 @@ module _ (next from : List ℕ) (rows : ℕ) (t : List ℕ) where
           ∙ sym entry
           ∙ sym (ap (λ (b : Bool). cond b (smallest max_positions (λ k. in_word (bit_and word (word - 1)) i k && row_has t (rows + k * 4) q) (λ k. get_or from k 0) (get_or new' q 0)) (get_or new' q 0)) e)
 
+  pub follow-turn : (word₀ i : ℕ) (old : List ℕ) {word k rest : ℕ} (new : List ℕ) → FollowLeft word₀ i old word new → GivesLowest word (Some k) rest → i < 4 → (to new' : List ℕ)
+      → to ≡ intersection_of (set_of (row_has t (rows + (i * 64 + k) * 4))) next → Put (has to) true (get_or from (i * 64 + k) 0) new new' → FollowLeft word₀ i old rest new'
+  follow-turn word₀ i old {word} new h g li to new' =
+      taken g (λ k rest. to ≡ intersection_of (set_of (row_has t (rows + (i * 64 + k) * 4))) next → Put (has to) true (get_or from (i * 64 + k) 0) new new' → FollowLeft word₀ i old rest new')
+      (follow-lowest word₀ i old word new h (some_left g) li to new')
+
   pub follow-all : (word₀ i : ℕ) (old : List ℕ) (word : ℕ) (new : List ℕ) → FollowLeft word₀ i old word new → word ≡ 0 → Followed (in_word word₀ i) next from rows t old new
   follow-all word₀ i old word new h e = record {
     as_long = h.as_long;
@@ -463,21 +489,29 @@ module _ (next from : List ℕ) (rows : ℕ) (t : List ℕ) where
           (λ p. (f p || g p) && row_has t (rows + p * 4) q) x (λ p lt. spread (f p) (g p) (row_has t (rows + p * 4) q))
       both q false x = refl
 
-  pub follow-set : (live a b c d e : List ℕ) → Followed (in_word (get_or live 0 0) 0) next from rows t a b → Followed (in_word (get_or live 1 0) 1) next from rows t b c
-      → Followed (in_word (get_or live 2 0) 2) next from rows t c d → Followed (in_word (get_or live 3 0) 3) next from rows t d e → Followed (has live) next from rows t a e
-  follow-set live a b c d e h0 h1 h2 h3 =
-      let f : ℕ → Bool = λ q. in_word (get_or live 0 0) 0 q || in_word (get_or live 1 0) 1 q in
-      let g : ℕ → Bool = λ q. f q || in_word (get_or live 2 0) 2 q in
-      let all = follow-join g (in_word (get_or live 3 0) 3) a d e
-      (follow-join f (in_word (get_or live 2 0) 2) a c d (follow-join (in_word (get_or live 0 0) 0) (in_word (get_or live 1 0) 1) a b c h0 h1) h2) h3 in
-      record {
-        as_long = all.as_long;
-        each = λ full q lt.
-            all.each full q lt
-            ∙ ap (λ (y : ℕ). cond (has next q) y (get_or a q 0))
-            (smallest-ext max_positions (λ p. get_or from p 0) (λ p. (g p || in_word (get_or live 3 0) 3 p) && row_has t (rows + p * 4) q) (λ p. has live p && row_has t (rows + p * 4) q) (get_or a q 0)
-            (λ p l. ap (λ (b : Bool). b && row_has t (rows + p * 4) q) (four-words live p l)));
-      }
+  module _ (live : List ℕ) where
+    follow-same : (f g : ℕ → Bool) {a b : List ℕ} → ((p : ℕ) → p < max_positions → f p ≡ g p) → Followed f next from rows t a b → Followed g next from rows t a b
+    follow-same f g same =
+        changed-ext (follow_at f) (follow_at g)
+        (λ q x lt. ap (λ (y : ℕ). cond (has next q) y x)
+        (smallest-ext max_positions (λ p. get_or from p 0) (λ p. f p && row_has t (rows + p * 4) q) (λ p. g p && row_has t (rows + p * 4) q) x
+        (λ p l. ap (λ (b : Bool). b && row_has t (rows + p * 4) q) (same p l))))
+
+    pub follow-first : (a : List ℕ) → Followed (in_words live 0) next from rows t a a
+    follow-first a = follow-same (λ p. false) (in_words live 0) (λ p l. sym (words-none live p)) (changed-none (follow_at (λ p. false)) a (λ q x. none q x (has next q)))
+      where
+        none : (q x : ℕ) (b : Bool) → cond b (smallest max_positions (λ p. false && row_has t (rows + p * 4) q) (λ p. get_or from p 0) x) x ≡ x
+        none q x true = smallest-none (λ p. get_or from p 0) max_positions x
+        none q x false = refl
+
+    pub follow-next : (i : ℕ) {a b c : List ℕ} → Followed (in_words live i) next from rows t a b → Followed (in_word (get_or live i 0) i) next from rows t b c
+        → Followed (in_words live (i + 1)) next from rows t a c
+    follow-next i {a} {b} {c} h k =
+        follow-same (λ p. in_words live i p || in_word (get_or live i 0) i p) (in_words live (i + 1)) (λ p l. words-more live i p)
+        (follow-join (in_words live i) (in_word (get_or live i 0) i) a b c h k)
+
+    pub follow-last : (i : ℕ) → i ≡ 4 → {a b : List ℕ} → Followed (in_words live i) next from rows t a b → Followed (has live) next from rows t a b
+    follow-last i all = follow-same (in_words live i) (has live) (λ p l. words-all live i p all l)
 
 -- ---- the whole step
 
@@ -572,11 +606,11 @@ module _ (t : List ℕ) (a : ℕ) (starts : List ℕ) where
   pub least-none : (word i least : ℕ) → word < 2 ^ 64 → LeastLeft word i least word least
   least-none word i least fits = record { small = fits; same = refl }
 
-  pub least-turn : (word₀ i least₀ word least : ℕ) → LeastLeft word₀ i least₀ word least → ¬ (word ≡ 0) → i < 4 → (v : ℕ)
+  least-lowest : (word₀ i least₀ word least : ℕ) → LeastLeft word₀ i least₀ word least → ¬ (word ≡ 0) → i < 4 → (v : ℕ)
       → v ≡ cond (owned (i * 64 + count_trailing_zeros 64 word)) (chosen_of true least (get_or starts (i * 64 + count_trailing_zeros 64 word) 0)) least
       → LeastLeft word₀ i least₀ (bit_and word (word - 1)) v
   unfolding least_owned
-  least-turn word₀ i least₀ word least h some li v is = record {
+  least-lowest word₀ i least₀ word least h some li v is = record {
     small = fits-still word h.small some;
     same =
         h.same
@@ -593,6 +627,13 @@ module _ (t : List ℕ) (a : ℕ) (starts : List ℕ) where
       second true y e = e
       second false y e = absurd (true≢false (sym e))
 
+  pub least-turn : (word₀ i least₀ : ℕ) {word k rest : ℕ} (least : ℕ) → LeastLeft word₀ i least₀ word least → GivesLowest word (Some k) rest → i < 4 → (v : ℕ)
+      → v ≡ cond (owned (i * 64 + k)) (min least (get_or starts (i * 64 + k) 0)) least → LeastLeft word₀ i least₀ rest v
+  least-turn word₀ i least₀ {word} least h g li v =
+      taken g (λ k rest. v ≡ cond (owned (i * 64 + k)) (min least (get_or starts (i * 64 + k) 0)) least → LeastLeft word₀ i least₀ rest v)
+      (λ is. least-lowest word₀ i least₀ word least h (some_left g) li v
+      (is ∙ ap (λ (x : ℕ). cond (owned (i * 64 + count_trailing_zeros 64 word)) x least) (smaller least (get_or starts (i * 64 + count_trailing_zeros 64 word) 0))))
+
   pub least-all : (word₀ i least₀ word least : ℕ) → LeastLeft word₀ i least₀ word least → word ≡ 0 → least ≡ least_owned t (in_word word₀ i) a starts least₀
   unfolding least_owned
   least-all word₀ i least₀ word least h e =
@@ -601,33 +642,32 @@ module _ (t : List ℕ) (a : ℕ) (starts : List ℕ) where
       (λ p lt. ap (λ (b : Bool). b && owned p) (ap (λ (x : ℕ). in_word x i p) e ∙ none_left i p))
       ∙ smallest-none (λ p. get_or starts p 0) max_positions least)
 
-  pub least-set : (set : List ℕ) (d e f g h : ℕ) → e ≡ least_owned t (in_word (get_or set 0 0) 0) a starts d → f ≡ least_owned t (in_word (get_or set 1 0) 1) a starts e
-      → g ≡ least_owned t (in_word (get_or set 2 0) 2) a starts f → h ≡ least_owned t (in_word (get_or set 3 0) 3) a starts g → h ≡ least_owned t (has set) a starts d
-  unfolding least_owned
-  least-set set d e f g h ee ef eg eh =
-      let s : ℕ → ℕ = λ p. get_or starts p 0 in
-      let w0 : ℕ → Bool = in_word (get_or set 0 0) 0 in
-      let w1 : ℕ → Bool = in_word (get_or set 1 0) 1 in
-      let w2 : ℕ → Bool = in_word (get_or set 2 0) 2 in
-      let w3 : ℕ → Bool = in_word (get_or set 3 0) 3 in
-      let two : f ≡ smallest max_positions (λ p. (w0 p || w1 p) && owned p) s d =
-      ef ∙ ap (smallest max_positions (λ p. w1 p && owned p) s) ee
-      ∙ smallest-both max_positions s (λ p. w0 p && owned p) (λ p. w1 p && owned p) (λ p. (w0 p || w1 p) && owned p) d (λ p lt. spread (w0 p) (w1 p) (owned p)) in
-      let three : g ≡ smallest max_positions (λ p. ((w0 p || w1 p) || w2 p) && owned p) s d =
-      eg ∙ ap (smallest max_positions (λ p. w2 p && owned p) s) two
-      ∙ smallest-both max_positions s (λ p. (w0 p || w1 p) && owned p) (λ p. w2 p && owned p) (λ p. ((w0 p || w1 p) || w2 p) && owned p) d
-      (λ p lt. spread (w0 p || w1 p) (w2 p) (owned p)) in
-      eh ∙ ap (smallest max_positions (λ p. w3 p && owned p) s) three
-      ∙ smallest-both max_positions s (λ p. ((w0 p || w1 p) || w2 p) && owned p) (λ p. w3 p && owned p) (λ p. (((w0 p || w1 p) || w2 p) || w3 p) && owned p) d
-      (λ p lt. spread ((w0 p || w1 p) || w2 p) (w3 p) (owned p))
-      ∙ smallest-ext max_positions s (λ p. (((w0 p || w1 p) || w2 p) || w3 p) && owned p) (λ p. has set p && owned p) d
-      (λ p lt. ap (λ (b : Bool). b && owned p) (four-words set p lt))
-    where
-      spread : (x y z : Bool) → ((x || y) && z) ≡ (x && z || y && z)
-      spread true y true = refl
-      spread true true false = refl
-      spread true false false = refl
-      spread false y z = refl
+  module _ (set : List ℕ) (d : ℕ) where
+    pub least-first : least_owned t (in_words set 0) a starts d ≡ d
+    unfolding least_owned
+    least-first =
+        smallest-ext max_positions (λ p. get_or starts p 0) (λ p. in_words set 0 p && owned p) (λ p. false) d (λ p lt. ap (λ (b : Bool). b && owned p) (words-none set p))
+        ∙ smallest-none (λ p. get_or starts p 0) max_positions d
+
+    pub least-next : (i : ℕ) {x y : ℕ} → x ≡ least_owned t (in_words set i) a starts d → y ≡ least_owned t (in_word (get_or set i 0) i) a starts x
+        → y ≡ least_owned t (in_words set (i + 1)) a starts d
+    unfolding least_owned
+    least-next i {x} {y} h k =
+        k ∙ ap (smallest max_positions (λ p. in_word (get_or set i 0) i p && owned p) (λ p. get_or starts p 0)) h
+        ∙ smallest-both max_positions (λ p. get_or starts p 0) (λ p. in_words set i p && owned p) (λ p. in_word (get_or set i 0) i p && owned p) (λ p. in_words set (i + 1) p && owned p) d
+        (λ p lt. ap (λ (b : Bool). b && owned p) (sym (words-more set i p)) ∙ spread (in_words set i p) (in_word (get_or set i 0) i p) (owned p))
+      where
+        spread : (x y z : Bool) → ((x || y) && z) ≡ (x && z || y && z)
+        spread true y true = refl
+        spread true true false = refl
+        spread true false false = refl
+        spread false y z = refl
+
+    pub least-last : (i : ℕ) → i ≡ 4 → {x : ℕ} → x ≡ least_owned t (in_words set i) a starts d → x ≡ least_owned t (has set) a starts d
+    unfolding least_owned
+    least-last i all h =
+        h ∙ smallest-ext max_positions (λ p. get_or starts p 0) (λ p. in_words set i p && owned p) (λ p. has set p && owned p) d
+        (λ p lt. ap (λ (b : Bool). b && owned p) (words-all set i p all lt))
 
 -- of the positions that can end a match at a gap
 pub least-ending : (t : List ℕ) (gap : ℕ) (set row found starts : List ℕ) (a d : ℕ) → row ≡ set_of ((automaton t).ending gap) → found ≡ intersection_of set row
@@ -662,10 +702,10 @@ module _ (give : ℕ → ℕ) where
     done = λ a lt e. none a lt ∙ sym (ap (λ (b : Bool). cond b (give a) 0) e);
   }
 
-  pub rules-turn : (rules word : ℕ) (new : List ℕ) → RulesLeft rules word new → ¬ (word ≡ 0) → (v : ℕ)
+  rules-lowest : (rules word : ℕ) (new : List ℕ) → RulesLeft rules word new → ¬ (word ≡ 0) → (v : ℕ)
       → v ≡ give (count_trailing_zeros 64 word)
       → RulesLeft rules (bit_and word (word - 1)) (set new (count_trailing_zeros 64 word) v)
-  rules-turn rules word new h some v is = record {
+  rules-lowest rules word new h some v is = record {
     small = fits-still word h.small some;
     as_long = length-set new (count_trailing_zeros 64 word) v ∙ h.as_long;
     among = λ a lt e. h.among a lt (on-turn word h.small some a ∙ ap (λ (b : Bool). eqb a (count_trailing_zeros 64 word) || b) e ∙ or_right (eqb a (count_trailing_zeros 64 word)));
@@ -692,6 +732,10 @@ module _ (give : ℕ → ℕ) where
       go a lt e (no q) =
           get_or-set_other new (count_trailing_zeros 64 word) a v 0 q
           ∙ h.done a lt (on-turn word h.small some a ∙ ap₂ (λ (x y : Bool). x || y) (ne_eqb a (count_trailing_zeros 64 word) q) e)
+
+  pub rules-turn : (rules : ℕ) {word k rest : ℕ} (new : List ℕ) → RulesLeft rules word new → GivesLowest word (Some k) rest → (v : ℕ) → v ≡ give k → RulesLeft rules rest (set new k v)
+  rules-turn rules {word} new h g v =
+      taken g (λ k rest. v ≡ give k → RulesLeft rules rest (set new k v)) (rules-lowest rules word new h (some_left g) v)
 
   pub rules-all : (rules word : ℕ) (new : List ℕ) → RulesLeft rules word new → word ≡ 0 → (f : ℕ → ℕ) → ((a : ℕ) → give a ≡ f a)
       → new ≡ list_from 0 max_rules (λ a. cond (on rules a) (f a) 0)

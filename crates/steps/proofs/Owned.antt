@@ -15,8 +15,7 @@ use lib.ListN.{get_or}
 use lib.Pow.{pow-lt}
 use borrow.Author.Tests.{lt-ltb, le-ltb, eq-eqb, ne_eqb}
 use Rattle.sets.specs.Set.{has, word_of, any}
-use Rattle.sets.proofs.Digits.{on_or, on-pow, on-word_of, word_of-ext, word_of-lt, on-zero}
-use Rattle.sets.proofs.Laws.{Words}
+use Rattle.sets.proofs.Bits.{on_or, on-pow, on-word_of, word_of-ext, word_of-lt, on-zero}
 use Rattle.table.specs.Layout.{max_rules, owner_at}
 use Rattle.steps.specs.Invariants.{with_owner, collected, owners_of}
 use Rattle.table.proofs.Members.{word-is}
@@ -91,22 +90,11 @@ module _ (t : List ℕ) (rules : ℕ) (few : rules ≤ max_rules) (set : List �
       let whole : m + (n - m) ≡ n = omega arith in
       owned-on m (n - m) (λ p g l. e p g (omega arith)) ∙ ap state whole
 
-  owned-none : 0 ≡ state 0
+  pub owned-none : 0 ≡ state 0
   unfolding owners_of any
   owned-none = word-is 0 (owns 0) (omega arith) (λ a h. on-zero a ∙ sym (and-false (ltb a rules)))
 
-  owned-word : (i : ℕ) → get_or set i 0 < 2 ^ 64 → (x : ℕ) → x ≡ state (i * 64) → collected t rules (get_or set i 0) (i * 64) x (ones (get_or set i 0)) ≡ state (i * 64 + 64)
+  pub owned-word : (i : ℕ) → get_or set i 0 < 2 ^ 64 → (x : ℕ) → x ≡ state (i * 64) → collected t rules (get_or set i 0) (i * 64) x (ones (get_or set i 0)) ≡ state (i * 64 + 64)
   unfolding collected
   owned-word i fits x e =
       turned-word set state (λ s p. with_owner rules (owner_of p) s) owned-hit owned-skip i fits (collected t rules (get_or set i 0) (i * 64) x) e (λ n. refl)
-
-  -- the four words, one after the other
-  pub owned-all : Words set → (a b c d : ℕ)
-      → a ≡ collected t rules (get_or set 0 0) 0 0 (ones (get_or set 0 0)) → b ≡ collected t rules (get_or set 1 0) 64 a (ones (get_or set 1 0))
-      → c ≡ collected t rules (get_or set 2 0) 128 b (ones (get_or set 2 0)) → d ≡ collected t rules (get_or set 3 0) 192 c (ones (get_or set 3 0))
-      → d ≡ owners_of t rules set 256
-  owned-all w a b c d ea eb ec ed =
-      let one : a ≡ state 64 = ea ∙ owned-word 0 (w.small 0 (omega arith)) 0 owned-none in
-      let two : b ≡ state 128 = eb ∙ owned-word 1 (w.small 1 (omega arith)) a one in
-      let three : c ≡ state 192 = ec ∙ owned-word 2 (w.small 2 (omega arith)) b two in
-      ed ∙ owned-word 3 (w.small 3 (omega arith)) c three

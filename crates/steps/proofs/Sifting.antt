@@ -1,7 +1,7 @@
 -- The digits of a word that pass a test. Each turn takes the lowest digit that is left out of those
 -- that are asked, and drops it from those found unless it passes. So the rules whose window has an
 -- end offset are found. Assumes nothing.
-use mathlib.Core.Path.{◌≡◌, refl, sym, ap, ◌∙◌}
+use mathlib.Core.Path.{◌≡◌, refl, sym, ap, subst, ◌∙◌}
 use mathlib.Core.Bool.{Bool, true, false, true≢false, not, ◌&&◌, ◌||◌, and-true, and-false, and_assoc, or-true}
 use mathlib.Core.List.{List}
 use Prim.Native.Nat.{ℕ, suc, ◌-◌, ◌*◌, ◌/◌, ◌%◌, ◌^◌, ◌≤◌, ◌<◌}
@@ -13,13 +13,15 @@ use lib.Dec.{eqb, ltb}
 use lib.ListN.{length}
 use lib.Pow.{pow-lt}
 use borrow.Author.Tests.{eq-eqb, ne_eqb, lt-ltb}
+use Rattle.std.proofs.Common.{Some}
 use Rattle.sets.specs.Set.{on, word_of}
-use Rattle.sets.proofs.Digits.{on_and, on-not, on-pow, on-zero, zeros-on, clear-low, cleared-off, on-word_of, word_of-on, word_of-ext, shl_one}
+use Rattle.sets.specs.Walk.{GivesLowest}
+use Rattle.sets.proofs.Bits.{on_and, on-not, on-pow, on-zero, zeros-on, clear-low, cleared-off, on-word_of, word_of-on, word_of-ext, shl_one}
 use Rattle.table.specs.Layout.{table_words, max_rules, windowed_of}
 use Rattle.table.specs.Automaton.{Automaton, automaton}
 use Rattle.steps.specs.Step.{number_on, rules_where, windowed, in_window}
 use Rattle.steps.specs.Invariants.{window_has, Sifted}
-use Rattle.steps.proofs.Carrying.{digit, on-turn, fits-still}
+use Rattle.steps.proofs.Carrying.{digit, on-turn, fits-still, some_left, taken}
 use Rattle.steps.proofs.TableSets.{number-on}
 
 -- ---- one digit
@@ -49,9 +51,9 @@ pub record SiftLeft (asked : ℕ) (pass : ℕ → Bool) (all left found : ℕ) :
   pub each : (k : ℕ) → k < 64 → on found k ≡ (on all k && (on left k || pass k))
 
 module _ (asked : ℕ) (pass : ℕ → Bool) (others : (k : ℕ) → k < 64 → on asked k ≡ false → pass k ≡ true) where
-  pub sift-none : (all left : ℕ) → all < 2 ^ 64 → left < 2 ^ 64 → left ≡ bit_and all asked → SiftLeft asked pass all left all
-  sift-none all left fits less e = record {
-    small = less;
+  pub sift-none : (all left : ℕ) → all < 2 ^ 64 → left ≡ bit_and all asked → SiftLeft asked pass all left all
+  sift-none all left fits e = record {
+    small = omega (arith, and_le_l all asked);
     found_small = fits;
     only = λ k h. second (on all k) (on asked k) (sym (digits k) ∙ h);
     each = λ k h. sym (ap (λ (b : Bool). on all k && (b || pass k)) (digits k) ∙ go k h (on all k) (on asked k) refl);
@@ -77,20 +79,17 @@ module _ (asked : ℕ) (pass : ℕ → Bool) {all left found : ℕ} (inv : SiftL
   abbrev rest : ℕ
   rest = bit_and left (left - 1)
 
-  pub low : z < 64
+  low : z < 64
   low = digit left inv.small some
 
   there : on left z ≡ true
   there = (zeros-on 64 left inv.small (omega arith)).1
 
-  pub is-asked : on asked z ≡ true
-  is-asked = inv.only z there
-
   cleared : on rest z ≡ false
   cleared = ap (λ (x : ℕ). on x z) (clear-low 64 left inv.small (omega arith)) ∙ cleared-off (left / 2 ^ suc z) (suc z) z (omega arith)
 
-  pub sift-turn : {r : ℕ} (stays : Bool) → pass z ≡ stays → Sifted found z stays r → SiftLeft asked pass all rest r
-  sift-turn stays is s = record {
+  sift-lowest : {r : ℕ} (stays : Bool) → pass z ≡ stays → Sifted found z stays r → SiftLeft asked pass all rest r
+  sift-lowest stays is s = record {
     small = fits-still left inv.small some;
     found_small = s.small;
     only = λ k h. inv.only k (on-turn left inv.small some k ∙ ap (λ (b : Bool). eqb k z || b) h ∙ or-true (eqb k z));
@@ -109,6 +108,14 @@ module _ (asked : ℕ) (pass : ℕ → Bool) {all left found : ℕ} (inv : SiftL
       go k (no e) =
           let same : on left k ≡ on rest k = on-turn left inv.small some k ∙ ap (λ (b : Bool). b || on rest k) (ne_eqb k z e) in
           rw (ne_eqb k z e, same) (ap (λ (b : Bool). (on all k && (on rest k || pass k)) && b) (or-true stays) ∙ and-true (on all k && (on rest k || pass k)))
+
+module _ (asked : ℕ) (pass : ℕ → Bool) {all left found k rest : ℕ} (inv : SiftLeft asked pass all left found) (g : GivesLowest left (Some k) rest) where
+  pub is-asked : on asked k ≡ true
+  is-asked = inv.only k (subst (λ (j : ℕ). on left j ≡ true) (sym g.3) (zeros-on 64 left g.1 g.0).1)
+
+  pub sift-turn : {r : ℕ} (stays : Bool) → pass k ≡ stays → Sifted found k stays r → SiftLeft asked pass all rest r
+  sift-turn {r} stays =
+      taken g (λ k rest. pass k ≡ stays → Sifted found k stays r → SiftLeft asked pass all rest r) (sift-lowest asked pass inv (some_left g) stays)
 
 pub sift-done : (asked : ℕ) (pass : ℕ → Bool) {all left found : ℕ} → SiftLeft asked pass all left found → left ≡ 0
     → found ≡ word_of 64 (λ k. on all k && pass k)

@@ -12,7 +12,7 @@ use lib.Dec.{eqb, ltb}
 use lib.ListN.{length, get_or}
 use borrow.Author.Tests.{lt-ltb, le-ltb, le-leb, lt-leb}
 use Rattle.sets.specs.Set.{on, has, set_of, any, intersection_of, is_empty, empty_set}
-use Rattle.sets.proofs.Digits.{on_and, on-ones, word_of-ext}
+use Rattle.sets.proofs.Bits.{on_and, on-ones, word_of-ext}
 use Rattle.sets.proofs.Laws.{has-set_of, has-intersection, any-ext}
 use Rattle.table.specs.Layout.{table_words, max_rules, max_positions, rules_of, singles_of, leftmosts_of, last_at, lates_at, keepers_at, id_word, owner_at, row_has}
 use Rattle.table.specs.Gaps.{unsettled, last_gaps}

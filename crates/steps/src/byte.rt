@@ -68,17 +68,15 @@ pub fn step(
     ensures turns { result.turns ≡ number_on words.now (size_of live) }
 {
     if words.len() < TABLE_WORDS {
-        let none = sets::empty();
         return Stepped {
-            live: none,
+            live: sets::empty(),
             turns: 0,
         };
     }
     let first = firsts(first_gap(false, taken, before, after), words, byte);
     let rows = FOLLOW_AT + gap_of(false, before, after) * FOLLOW_WORDS;
     let walked = walk(live, first, rows, words);
-    let reached = walked.set;
-    let next = sets::intersection(sets::intersection(reached, takers(words, byte)), among);
+    let next = sets::intersection(sets::intersection(walked.set, takers(words, byte)), among);
     Stepped {
         live: next,
         turns: walked.turns,

@@ -13,13 +13,15 @@ ghost use Rattle.steps.specs.Step.{set_on, number_on, ends, ends_newly, lasts_of
 ghost use Rattle.steps.specs.Invariants.{with_owner, collected, owners_of};
 
 use kinds::Side;
+use sets::Digits;
 use table::gaps::UNSETTLED;
 use table::layout::{
     IDS_AT, KEEPERS_AT, LAST_AT, LATES_AT, LEFTMOSTS_AT, MAX_RULES, OWNERS_AT, RULES_AT, SET_WORDS,
     SINGLES_AT, TABLE_WORDS,
 };
 
-// The set whose four words stand at `at`.
+// The set whose four words stand at `at`. `table::row` promises it of any place, and so asks the
+// length each time; this one is read for each live position.
 pub(super) fn row(words: &[u64], at: usize) -> [u64; 4]
     requires { at + 4 ≤ length words.now }
     ensures { result ≡ set_of (row_has words.now at) }
@@ -32,8 +34,7 @@ fn rule_count(words: &[u64]) -> u64
     requires { table_words ≤ length words.now }
     ensures { result ≡ min (rules_of words.now) max_rules }
 {
-    let rules = words[RULES_AT];
-    if rules < MAX_RULES { rules } else { MAX_RULES }
+    words[RULES_AT].min(MAX_RULES)
 }
 
 // The id of the rule in this place; 0 where no table has a rule.
@@ -101,19 +102,14 @@ fn with_owner(found: u64, a: u64, rules: u64) -> u64
     found
 }
 
-// Collects the owners of the positions of one word, whose digit k is position base + k. The turns
-// are counted for the proof alone.
-fn owner_word(mut word: u64, base: usize, rules: u64, mut found: u64, words: &[u64]) -> u64
+// Collects the owners of the positions of one word, whose digit k is position base + k.
+fn owner_word(word: u64, base: usize, rules: u64, mut found: u64, words: &[u64]) -> u64
     requires { (table_words ≤ length words.now) × (base ≤ 192) × (rules ≤ max_rules) }
     ensures { result ≡ collected words.now rules word base found (ones word) }
 {
-    let mut turns: u32 = 0;
-    while word != 0 {
-        let p = base + u64::trailing_zeros(word) as usize;
-        let more = with_owner(found, words[OWNERS_AT + p], rules);
-        found = more;
-        word = word & (word - 1);
-        turns += 1;
+    for k in Digits(word) {
+        let p = base + k;
+        found = with_owner(found, words[OWNERS_AT + p], rules);
     }
     found
 }
@@ -123,10 +119,11 @@ fn owners(set: [u64; 4], rules: u64, words: &[u64]) -> u64
     requires { (table_words ≤ length words.now) × (rules ≤ max_rules) }
     ensures { result ≡ owners_of words.now rules set max_positions }
 {
-    let a = owner_word(set[0], 0, rules, 0, words);
-    let b = owner_word(set[1], 64, rules, a, words);
-    let c = owner_word(set[2], 128, rules, b, words);
-    owner_word(set[3], 192, rules, c, words)
+    let mut found = 0;
+    for i in 0..SET_WORDS {
+        found = owner_word(set[i], i * 64, rules, found, words);
+    }
+    found
 }
 
 // The rules of which a match ends at a gap with a position of the set: the owners of those that can

@@ -7,6 +7,7 @@ ghost use Rattle.table.specs.Layout.{table_words, max_positions, row_has};
 ghost use Rattle.steps.specs.Invariants.{joined};
 
 use super::rows::row;
+use sets::Digits;
 use table::layout::SET_WORDS;
 
 // What a walk leaves: the set that it has joined to, and how many turns it took.
@@ -16,9 +17,10 @@ pub(super) struct Walked {
     pub turns: u32,
 }
 
-// Joins the rows of the positions of one live word, whose digit k is position base + k.
+// Joins the rows of the positions of one live word, whose digit k is position base + k. `more` has
+// a name of its own, since no proof is made of a call that writes over an array.
 pub(super) fn walk_word(
-    mut word: u64,
+    word: u64,
     base: usize,
     mut set: [u64; 4],
     rows: usize,
@@ -28,30 +30,26 @@ pub(super) fn walk_word(
     ensures { (result.turns ≡ ones word) × (result.set ≡ joined words.now rows word base set (ones word)) }
 {
     let mut turns: u32 = 0;
-    while word != 0 {
-        let p = base + u64::trailing_zeros(word) as usize;
-        let after = row(words, rows + p * SET_WORDS);
-        let more = sets::union(set, after);
+    for k in Digits(word) {
+        let p = base + k;
+        let more = sets::union(set, row(words, rows + p * SET_WORDS));
         set = more;
-        word = word & (word - 1);
         turns += 1;
     }
     Walked { set, turns }
 }
 
-// Joins the row of each live position.
+// Joins the row of each live position. The four words stand by name, and the turns are counted on
+// the way: tried as a loop, with `sets::size` for the turns, 1.1 times slower where few are live.
 pub(super) fn walk(live: [u64; 4], from: [u64; 4], rows: usize, words: &[u64]) -> Walked
     requires { (table_words ≤ length words.now) × (rows ≤ 14336) }
     ensures turns { result.turns ≡ size_of live }
     ensures set { result.set ≡ set_of (λ q. has from q || any max_positions (λ p. has live p && row_has words.now (rows + p * 4) q)) }
 {
     let a = walk_word(live[0], 0, from, rows, words);
-    let one = a.set;
-    let b = walk_word(live[1], 64, one, rows, words);
-    let two = b.set;
-    let c = walk_word(live[2], 128, two, rows, words);
-    let three = c.set;
-    let d = walk_word(live[3], 192, three, rows, words);
+    let b = walk_word(live[1], 64, a.set, rows, words);
+    let c = walk_word(live[2], 128, b.set, rows, words);
+    let d = walk_word(live[3], 192, c.set, rows, words);
     let set = d.set;
     Walked {
         set,

@@ -1,37 +1,26 @@
 // The windows of the rules: of some rules, a digit for each place, those that may report at an end
 // offset.
-ghost use Rattle.std.specs.Prelude.{◌≡◌, ◌≤◌, ◌<◌, length};
+ghost use Rattle.std.specs.Prelude.{◌≡◌, ◌≤◌, length};
 ghost use Rattle.std.specs.Int.Bits.{bit_and};
 ghost use Rattle.table.specs.Layout.{table_words, windowed_of};
 ghost use Rattle.table.specs.Automaton.{automaton};
 ghost use Rattle.steps.specs.Step.{number_on, in_window};
-ghost use Rattle.steps.specs.Invariants.{window_has, Sifted};
 
+use sets::Digits;
 use table::layout::{HIGHEST_AT, LOWEST_AT, TABLE_WORDS, WINDOWED_AT};
-
-// A word of rules without the digit of place a, unless the window there has the end offset.
-fn sift(found: u64, a: usize, end: u64, words: &[u64]) -> u64
-    requires { (table_words ≤ length words.now) × (a < 64) }
-    ensures { Sifted found a (window_has words.now a end) result }
-{
-    if (words[LOWEST_AT + a] <= end) & (end <= words[HIGHEST_AT + a]) {
-        return found;
-    }
-    found & !(1 << a)
-}
 
 // Some rules without those whose window has not the end offset; `left` are those that have a
 // window.
-fn sift_all(rules: u64, mut left: u64, end: u64, words: &[u64]) -> u64
+fn sift_all(rules: u64, left: u64, end: u64, words: &[u64]) -> u64
     requires { (table_words ≤ length words.now) × (left ≡ bit_and rules (windowed_of words.now)) }
     ensures { result ≡ in_window (automaton words.now) rules end }
 {
     let mut found = rules;
-    while left != 0 {
-        let a = u64::trailing_zeros(left) as usize;
-        let kept = sift(found, a, end, words);
-        found = kept;
-        left = left & (left - 1);
+    for a in Digits(left) {
+        let inside = (words[LOWEST_AT + a] <= end) & (end <= words[HIGHEST_AT + a]);
+        if !inside {
+            found &= !(1 << a);
+        }
     }
     found
 }
@@ -43,6 +32,5 @@ pub fn in_window(rules: u64, end: u64, words: &[u64]) -> u64
     if words.len() < TABLE_WORDS {
         return 0;
     }
-    let left = rules & words[WINDOWED_AT];
-    sift_all(rules, left, end, words)
+    sift_all(rules, rules & words[WINDOWED_AT], end, words)
 }

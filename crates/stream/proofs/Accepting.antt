@@ -10,7 +10,7 @@ use lib.Bits.{bit_and, and_le_l}
 use lib.Dec.{eqb, leb, ltb}
 use borrow.Author.Tests.{not-true, eq-eqb, ne_eqb, lt-ltb, le-ltb, ltb-false, le-leb, leb-true, eqb-true}
 use Rattle.sets.specs.Set.{on, has, set_of, word_of, any, full_set, union_of, intersection_of, complement_of, kept_below, is_empty}
-use Rattle.sets.proofs.Digits.{on-zero, on-shr, on-bound, on-word_of, word_of-lt, off_zero}
+use Rattle.sets.proofs.Bits.{on-zero, on-shr, on-bound, on-word_of, word_of-lt, off_zero}
 use Rattle.sets.proofs.Laws.{has-full, has-set_of, has-union, has-intersection, has-complement, has-below, any_none, any_some, any-never, any-ext, empty-none}
 use Rattle.table.specs.Layout.{max_rules, max_positions, rules_of}
 use Rattle.table.specs.Table.{is_table}

@@ -1,13 +1,17 @@
 -- The answers of the calls, from what their parts promise. What waits for the stream's end is
 -- what the last byte taken leaves; each call's definition is then settled by its number.
 use mathlib.Core.Path.{◌≡◌, refl, sym, ap, ap₂, ◌∙◌, subst}
-use mathlib.Core.Bool.{Bool, true, false, true≢false, cond, ◌&&◌, and-false}
+use mathlib.Core.Bool.{Bool, true, false, cond, ◌&&◌, and-false}
 use mathlib.Core.List.{List}
 use Prim.Native.Nat.{ℕ, ◌+◌, ◌-◌, ◌<◌, ◌≤◌}
 use native.Mathlib.Omega.{arith}
 use lib.Dec.{eqb, ltb}
 use lib.ListN.{length, get_or}
 use borrow.Author.Tests.{eq-eqb, ne_eqb, eqb-true, eqb-false, lt-ltb}
+use Rattle.std.specs.Prelude.{Ok, Err}
+use Rattle.refusals.specs.declared.Refusal.{Refusal}
+use Rattle.refusals.specs.Refusal.{number_of}
+use Rattle.refusals.proofs.Laws.{number-above}
 use Rattle.sets.specs.Set.{empty_set}
 use Rattle.kinds.specs.declared.Side.{Side}
 use Rattle.kinds.specs.declared.Side.TheVariants.{Newline}
@@ -19,10 +23,10 @@ use Rattle.table.specs.Automaton.{Automaton, automaton}
 use Rattle.steps.specs.Step.{set_on, number_on, stepped, ends_newly, rules_where}
 use Rattle.steps.proofs.TableSets.{set_on_lem, number-on}
 use Rattle.stream.specs.declared.Stream.{Stream}
-use Rattle.stream.specs.declared.Advance.{Advance}
+use Rattle.stream.specs.declared.Progress.{Progress}
 use Rattle.stream.specs.declared.scan.Turn.{Turn}
 use Rattle.stream.specs.Byte.{Report, Machine, after, fits_by, next_held, next_pending, byte_state, plain, state_after, reports_of, cost_of}
-use Rattle.stream.specs.Calls.{Lists, Call, fresh, opened, space, close_number, call_number, taken_by, written, scanned, scanned_lists, shut, closed, closed_lists}
+use Rattle.stream.specs.Calls.{Lists, Call, fresh, opened, space, close_number, call_number, taken_by, written, scanned, scanned_of, scanned_lists, shut, closed, closed_of, closed_lists}
 use Rattle.stream.specs.Invariants.{state_of, side_at, Left, Ended, Running, Ran, AdvancedBy, Advanced}
 use Rattle.stream.proofs.Machines.{after_more, fits-is}
 use Rattle.stream.proofs.Blocks.{taken-after, last-after, rules-after, positions-after, closed_after}
@@ -143,20 +147,15 @@ opened-is t z e f = ap (λ (x : Stream). record { number = 0; stream = x }) f �
 
 -- ---- scanning
 
--- a scan that may not pause takes as many bytes as fit
-pub advanced-fits : {S : Type 0} (m : Machine S Report) (out : S → Stream) (s : S) (allowance : ℕ) (block : List ℕ) (l : Lists) (r : Advance) (l' : Lists)
-    → AdvancedBy m out s allowance block l false r l' → r.taken ≡ fits_by m s allowance block (space l) (length block)
+-- a scan takes as many bytes as fit
+pub advanced-fits : {S : Type 0} (m : Machine S Report) (out : S → Stream) (s : S) (allowance : ℕ) (block : List ℕ) (l : Lists) (r : Progress) (l' : Lists)
+    → AdvancedBy m out s allowance block l r l' → r.taken ≡ fits_by m s allowance block (space l) (length block)
 advanced-fits m out s allowance block l r l' h =
-    sym (fits-is m s block allowance (space l) r.taken (length block) h.inside (omega (arith, h.filled.count_is, h.filled.room)) (omega (arith, h.left_is))
-    (h.rests.stops (go r.stopped refl)))
-  where
-    go : (b : Bool) → r.stopped ≡ b → r.stopped ≡ true
-    go true e = e
-    go false e = absurd (true≢false (sym (h.rests.pauses e).0))
+    sym (fits-is m s block allowance (space l) r.taken (length block) h.inside (omega (arith, h.filled.count_is, h.filled.room)) (omega (arith, h.used_is, h.paid)) h.stops)
 
 -- what the loop left, put back into the state
-module _ {w : Automaton} {s : Stream} {allowance : ℕ} {block : List ℕ} {l l' : Lists} {pause : Bool} {r : Turn} {held : List ℕ} {pending : ℕ}
-    (ran : Ran w s allowance block l pause r l') (left : Left w s block r.before r.at held pending) where
+module _ {w : Automaton} {s : Stream} {allowance : ℕ} {block : List ℕ} {l l' : Lists} {r : Turn} {held : List ℕ} {pending : ℕ}
+    (ran : Ran w s allowance block l r l') (left : Left w s block r.before r.at held pending) where
   abbrev come : Stream
   come = record { live = r.live; held = held; reported = r.reported; pending = pending; last = r.side; taken = s.taken + r.at; rules = s.rules; positions = s.positions; closed = s.closed }
 
@@ -176,43 +175,48 @@ module _ {w : Automaton} {s : Stream} {allowance : ℕ} {block : List ℕ} {l l'
         closed = sym (closed_after w s block r.at) i;
       })
 
-  pub advanced : Advanced w s allowance block l pause (record { stopped = r.stopped; taken = r.at; reports = r.count; left = r.left; stream = come }) l'
-  advanced =
-      record { inside = ran.running.inside; left_is = ran.running.paid; stream_is = state_is; filled = ran.running.filled; rests = ran.rests }
+  -- what is left is at most the allowance
+  pub left-fits : r.left ≤ allowance
+  left-fits = omega (arith, ran.running.paid)
 
--- what is left is at most the allowance
-pub left-fits : {S : Type 0} {m : Machine S Report} {out : S → Stream} {s : S} {allowance : ℕ} {block : List ℕ} {l l' : Lists} {pause : Bool} {r : Advance} → AdvancedBy m out s allowance block l pause r l' → r.left ≤ allowance
-left-fits a = omega (arith, a.left_is)
+  pub advanced : Advanced w s allowance block l (record { taken = r.at; reports = r.count; used = allowance - r.left; stream = come }) l'
+  advanced = record {
+    inside = ran.running.inside;
+    used_is = omega (arith, ran.running.paid);
+    paid = omega arith;
+    stream_is = state_is;
+    filled = ran.running.filled;
+    stops = ran.stops;
+  }
 
-module _ (t : List ℕ) (s : Stream) (c : Call) (number : ℕ) (is : number ≡ call_number t s c) where
+module _ (t : List ℕ) (s : Stream) (c : Call) where
   -- a refused scan gives its number and leaves all else
-  module _ (refused : number ≡ 0 → ⊥) where
+  module _ (r : Refusal) (is : number_of r ≡ call_number t s c) where
     shut-test : eqb (call_number t s c) 0 ≡ false
-    shut-test = ne_eqb (call_number t s c) 0 (λ z. refused (is ∙ z))
+    shut-test = ne_eqb (call_number t s c) 0 (λ z. omega (arith, number-above r, is, z))
 
-    pub scan_refused : (record { number = number; taken = 0; reports = 0; used = 0; stream = s } ≡ scanned t s c) × (c.slots ≡ scanned_lists t s c)
+    pub scan_refused : (scanned_of s (Err r) ≡ scanned t s c) × (c.slots ≡ scanned_lists t s c)
     unfolding scanned scanned_lists
     scan_refused =
         (ap (λ (n : ℕ). record { number = n; taken = 0; reports = 0; used = 0; stream = s }) is ∙ sym (rw shut-test), sym (rw shut-test))
 
   -- an accepted scan gives what its definition says
-  module _ (accepted : number ≡ 0) (r : Advance) (l' : Lists) (done : Advanced (automaton t) s c.allowance c.block c.slots false r l') where
+  module _ (accepted : 0 ≡ call_number t s c) (r : Progress) (l' : Lists) (done : Advanced (automaton t) s c.allowance c.block c.slots r l') where
     open-test : eqb (call_number t s c) 0 ≡ true
-    open-test = eq-eqb (call_number t s c) 0 (sym is ∙ accepted)
+    open-test = eq-eqb (call_number t s c) 0 (sym accepted)
 
     taken_is : r.taken ≡ taken_by t s c
     unfolding taken_by
     taken_is = advanced-fits (plain (automaton t)) (λ s. s) s c.allowance c.block c.slots r l' done
 
-    answer-is : record { number = 0; taken = r.taken; reports = r.reports; used = c.allowance - r.left; stream = r.stream } ≡ scanned t s c
+    answer-is : scanned_of s (Ok r) ≡ scanned t s c
     unfolding scanned
     answer-is =
-        let spent : c.allowance - r.left ≡ cost_of (automaton t) s c.block r.taken = omega (arith, done.left_is) in
         (λ i. record {
           number = 0;
           taken = taken_is i;
           reports = (done.filled.count_is ∙ ap (λ (k : ℕ). length (reports_of (automaton t) s c.block k)) taken_is) i;
-          used = (spent ∙ ap (cost_of (automaton t) s c.block) taken_is) i;
+          used = (done.used_is ∙ ap (cost_of (automaton t) s c.block) taken_is) i;
           stream = (done.stream_is ∙ ap (state_after (automaton t) s c.block) taken_is) i;
         })
         ∙ sym (rw open-test)
@@ -221,34 +225,27 @@ module _ (t : List ℕ) (s : Stream) (c : Call) (number : ℕ) (is : number ≡ 
     unfolding scanned_lists
     lists_are = done.filled.lists_are ∙ ap (λ (k : ℕ). written (reports_of (automaton t) s c.block k) c.slots) taken_is ∙ sym (rw open-test)
 
-    pub scan_accepted : (record { number = 0; taken = r.taken; reports = r.reports; used = c.allowance - r.left; stream = r.stream } ≡ scanned t s c) × (l' ≡ scanned_lists t s c)
+    pub scan_accepted : (scanned_of s (Ok r) ≡ scanned t s c) × (l' ≡ scanned_lists t s c)
     scan_accepted = (answer-is, lists_are)
 
 -- ---- closing
 
-module _ (t : List ℕ) (s : Stream) (l : Lists) (number : ℕ) (is : number ≡ close_number t s (space l)) where
+module _ (t : List ℕ) (s : Stream) (l : Lists) where
   -- a refused closing gives its number and leaves all else
-  module _ (refused : number ≡ 0 → ⊥) where
+  module _ (r : Refusal) (is : number_of r ≡ close_number t s (space l)) where
     kept_test : eqb (close_number t s (space l)) 0 ≡ false
-    kept_test = ne_eqb (close_number t s (space l)) 0 (λ z. refused (is ∙ z))
+    kept_test = ne_eqb (close_number t s (space l)) 0 (λ z. omega (arith, number-above r, is, z))
 
-    pub close_refused : record { number = number; reports = 0; stream = s } ≡ closed t s l
-    unfolding closed
-    close_refused = ap (λ (n : ℕ). record { number = n; reports = 0; stream = s }) is ∙ sym (rw kept_test)
-
-    pub close-refused-lists : l ≡ closed_lists t s l
-    unfolding closed_lists
-    close-refused-lists = sym (rw kept_test)
+    pub close_refused : (closed_of s (Err r) ≡ closed t s l) × (l ≡ closed_lists t s l)
+    unfolding closed closed_lists
+    close_refused = (ap (λ (n : ℕ). record { number = n; reports = 0; stream = s }) is ∙ sym (rw kept_test), sym (rw kept_test))
 
   -- an accepted closing gives its runs and sets the mark
-  module _ (accepted : number ≡ 0) (reports : ℕ) (l' : Lists) (end : Ended (automaton t) s l reports l') where
+  module _ (accepted : 0 ≡ close_number t s (space l)) (reports : ℕ) (l' : Lists) (end : Ended (automaton t) s l reports l') where
     pass-test : eqb (close_number t s (space l)) 0 ≡ true
-    pass-test = eq-eqb (close_number t s (space l)) 0 (sym is ∙ accepted)
+    pass-test = eq-eqb (close_number t s (space l)) 0 (sym accepted)
 
-    pub close_accepted : record { number = 0; reports = reports; stream = shut s } ≡ closed t s l
-    unfolding closed
-    close_accepted = ap (λ (n : ℕ). record { number = 0; reports = n; stream = shut s }) end.reports_are ∙ sym (rw pass-test)
-
-    pub close-accepted-lists : l' ≡ closed_lists t s l
-    unfolding closed_lists
-    close-accepted-lists = end.lists_are ∙ sym (rw pass-test)
+    pub close_accepted : (closed_of s (Ok (record { reports = reports; stream = shut s })) ≡ closed t s l) × (l' ≡ closed_lists t s l)
+    unfolding closed closed_lists
+    close_accepted =
+        (ap (λ (n : ℕ). record { number = 0; reports = n; stream = shut s }) end.reports_are ∙ sym (rw pass-test), end.lists_are ∙ sym (rw pass-test))

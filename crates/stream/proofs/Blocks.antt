@@ -9,7 +9,7 @@ use native.Mathlib.Numerals.{add-one}
 use native.Mathlib.Omega.{arith}
 use lib.ListN.{length, get_or, length-append}
 use Rattle.sets.specs.Set.{has, size_of}
-use Rattle.sets.proofs.Digits.{count-le}
+use Rattle.sets.proofs.Bits.{count-le}
 use Rattle.table.specs.Layout.{max_positions}
 use Rattle.table.specs.Automaton.{Automaton}
 use Rattle.stream.specs.declared.Stream.{Stream}

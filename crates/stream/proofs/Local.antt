@@ -12,11 +12,9 @@ use Rattle.table.specs.Table.{is_table}
 use Rattle.table.specs.Automaton.{Automaton, automaton}
 use Rattle.table.proofs.Local.{same_word, automaton-local, is_table-local}
 use Rattle.stream.specs.declared.Stream.{Stream}
-use Rattle.stream.specs.declared.Scanned.{Scanned}
-use Rattle.stream.specs.declared.Closed.{Closed}
 use Rattle.stream.specs.Byte.{state_after, reports_of, cost_of, fits, close_reports}
 use Rattle.stream.specs.Valid.{valid}
-use Rattle.stream.specs.Calls.{Lists, Call, fresh, opened, space, space_number, scan_number, close_number, call_number, taken_by, written, scanned, scanned_lists, shut, closed, closed_lists, over_limit}
+use Rattle.stream.specs.Calls.{Scanned, Closed, Lists, Call, fresh, opened, space, space_number, scan_number, close_number, call_number, taken_by, written, scanned, scanned_lists, shut, closed, closed_lists, over_limit}
 
 module _ (t u : List ℕ) (same : take table_words t ≡ take table_words u) where
   table : is_table t ≡ is_table u

@@ -1,14 +1,13 @@
 -- A scan in two parts: some bytes of a block, and then an accepted scan of the rest with what they
 -- leave of the allowance and the lists. Over any machine.
 use mathlib.Core.Path.{◌≡◌, sym, ap, ◌∙◌}
-use mathlib.Core.Bool.{Bool}
 use mathlib.Core.Logic.{inl, inr}
 use mathlib.Core.List.{List}
-use Prim.Native.Nat.{ℕ, ◌+◌, ◌≤◌}
+use Prim.Native.Nat.{ℕ, ◌+◌, ◌-◌, ◌≤◌}
 use native.Mathlib.Omega.{arith}
 use lib.ListN.{length, drop, length-drop, length-append}
 use Rattle.stream.specs.declared.Stream.{Stream}
-use Rattle.stream.specs.declared.Advance.{Advance}
+use Rattle.stream.specs.declared.Progress.{Progress}
 use Rattle.stream.specs.Byte.{Report, Machine, after, reports_by, cost_by}
 use Rattle.stream.specs.Calls.{Lists, space}
 use Rattle.stream.specs.Invariants.{free, back, Filled, Over, AdvancedBy}
@@ -39,7 +38,7 @@ module _ {S : Type 0} (m : Machine S Report) (s : S) (allowance : ℕ) (block : 
       let e : j + k + 1 ≡ j + (k + 1) = omega arith in
       inr (omega (arith, ap (cost_by m s block) e, cost-later m s block j (k + 1), paid))
 
-  module _ (out : S → Stream) (pause : Bool) (r : Advance) (last : Lists) (h : AdvancedBy m out z left rest (free count l) pause r last) where
+  module _ (out : S → Stream) (r : Progress) (last : Lists) (h : AdvancedBy m out z left rest (free count l) r last) where
     -- both stay within the block and the space
     pub parts-inside : j + r.taken ≤ length block
     parts-inside = omega (arith, h.inside, length-drop j block)
@@ -47,15 +46,13 @@ module _ {S : Type 0} (m : Machine S Report) (s : S) (allowance : ℕ) (block : 
     pub parts-room : count + r.reports ≤ space l₀
     parts-room = omega (arith, h.filled.room, free-space l count (filled-inside filled), filled-space filled)
 
-    pub parts : AdvancedBy m out s allowance block l₀ pause
-        (record { stopped = r.stopped; taken = j + r.taken; reports = count + r.reports; left = r.left; stream = r.stream }) (back count l last)
+    pub parts : AdvancedBy m out s allowance block l₀
+        (record { taken = j + r.taken; reports = count + r.reports; used = allowance - left + r.used; stream = r.stream }) (back count l last)
     parts = record {
       inside = parts-inside;
-      left_is = omega (arith, h.left_is, paid, cost-later m s block j r.taken);
+      used_is = omega (arith, h.used_is, paid, cost-later m s block j r.taken);
+      paid = omega (arith, h.paid, paid);
       stream_is = h.stream_is ∙ ap out (sym (after-later m s block j r.taken));
       filled = filled-same (sym (reports-later m s block j r.taken)) (filled-part filled (reports_by m z rest r.taken) r.reports last h.filled);
-      rests = record {
-        stops = λ e b. later-over r.taken (h.rests.stops e (omega (arith, length-drop j block)));
-        pauses = λ e. ((h.rests.pauses e).0, (h.rests.pauses e).1, omega (arith, (h.rests.pauses e).2));
-      };
+      stops = λ b. later-over r.taken (h.stops (omega (arith, length-drop j block)));
     }

@@ -10,8 +10,12 @@ use native.Mathlib.Omega.{arith}
 use lib.Dec.{eqb, leb, ltb}
 use lib.ListN.{length, get_or}
 use borrow.Author.Tests.{lt-ltb, eq-eqb, ne_eqb, eqb-true, not-true, le-leb, ltb-true}
+use Rattle.std.specs.Prelude.{Result, Ok, Err}
+use Rattle.std.specs.Result.{IsOk}
+use Rattle.refusals.specs.declared.Refusal.{Refusal}
+use Rattle.refusals.proofs.Laws.{number-above}
 use Rattle.sets.specs.Set.{on, has, set_of, word_of, any, empty_set, is_empty, size_of}
-use Rattle.sets.proofs.Digits.{on-zero, on-word_of}
+use Rattle.sets.proofs.Bits.{on-zero, on-word_of}
 use Rattle.sets.proofs.Laws.{has-set_of, has-empty, any_none, any-never, count-never}
 use Rattle.kinds.specs.declared.Side.{Side}
 use Rattle.kinds.specs.declared.Side.TheVariants.{Newline}
@@ -23,11 +27,11 @@ use Rattle.table.specs.Automaton.{Automaton, automaton, single, starts}
 use Rattle.steps.specs.Step.{stepped, ends_newly, rules_where}
 use Rattle.table.proofs.Members.{not-below}
 use Rattle.stream.specs.declared.Stream.{Stream}
-use Rattle.stream.specs.declared.Scanned.{Scanned}
-use Rattle.stream.specs.declared.Closed.{Closed}
+use Rattle.stream.specs.declared.Progress.{Progress}
+use Rattle.stream.specs.declared.Ending.{Ending}
 use Rattle.stream.specs.Byte.{state_by, next_held, next_pending, run_marks, two_marks, late_test, own_test, byte_state, plain, after, state_after, reports_of, cost_of, close_reports, busy_of}
 use Rattle.stream.specs.Valid.{stream_limit, same_counts, live_inside, marks_single, under_limit, held_inside, pending_inside, pending_late, begun, sound, needs_starts, valid}
-use Rattle.stream.specs.Calls.{Lists, Call, fresh, opened, space, close_number, call_number, taken_by, scanned, shut, closed}
+use Rattle.stream.specs.Calls.{Scanned, Closed, Lists, Call, fresh, opened, space, close_number, call_number, taken_by, scanned, scanned_of, shut, closed, closed_of}
 use Rattle.stream.proofs.Machines.{fits_le, fits-within}
 use Rattle.stream.proofs.Blocks.{cost-some, cost-few, one-fits, taken-after}
 use Rattle.stream.proofs.Accepting.{Fitting, fitted, valid-is, Accepted, accepted, close-number}
@@ -306,3 +310,14 @@ module _ (t : List ℕ) (s : Stream) (l : Lists) where
       where
         held : Accepted t s 0 (space l)
         held = accepted t s 0 (space l) (close-number t s (space l) ∙ sym close-number-is ∙ ok)
+
+-- ---- what a function gives
+
+-- a call of number 0 is accepted
+pub scan-ok : (s : Stream) (r : Result Progress Refusal) → (scanned_of s r).number ≡ 0 → IsOk r
+scan-ok s (Ok p) z = refl
+scan-ok s (Err e) z = absurd (omega (arith, number-above e, z))
+
+pub close-ok : (s : Stream) (r : Result Ending Refusal) → (closed_of s r).number ≡ 0 → IsOk r
+close-ok s (Ok e) z = refl
+close-ok s (Err e) z = absurd (omega (arith, number-above e, z))

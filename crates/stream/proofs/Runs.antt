@@ -1,7 +1,7 @@
 -- A run of reports. How many there are is the number of set digits of the rules that end without
 -- those marked. A run's reports and marks look at the rules of the table alone. They are written
 -- from the lowest digit on: what is left to report loses its first report, and the word that digit.
-use mathlib.Core.Path.{◌≡◌, refl, sym, ap, ap₂, ◌∙◌}
+use mathlib.Core.Path.{◌≡◌, refl, sym, ap, ap₂, subst, ◌∙◌}
 use mathlib.Core.Bool.{Bool, true, false, true≢false, cond, not, ◌||◌, ◌&&◌, or-false, and-false, and-true, and_comm, and_assoc}
 use mathlib.Core.List.{List, [], ◌∷◌, ◌++◌, append-nil, append_assoc}
 use Prim.Native.Nat.{ℕ, zero, suc, ◌+◌, ◌-◌, ◌*◌, ◌/◌, ◌^◌, ◌<◌, ◌≤◌}
@@ -14,8 +14,10 @@ use lib.Dec.{ltb}
 use lib.ListN.{length, set, length-append}
 use mir.Syntax.{w64}
 use mir.Val.{Fits}
+use Rattle.std.specs.Prelude.{Some}
 use Rattle.sets.specs.Set.{on, as_one, count}
-use Rattle.sets.proofs.Digits.{on_or, on_and, on-zero, on-word_of, word_of-ext, word_of-lt, ones-count, count-ext, count-le, zeros-on, zeros-off, clear-low, cleared-on, cleared-off}
+use Rattle.sets.specs.Walk.{GivesLowest}
+use Rattle.sets.proofs.Bits.{on_or, on_and, on-zero, on-word_of, word_of-ext, word_of-lt, ones-count, count-ext, count-le, zeros-on, zeros-off, clear-low, cleared-on, cleared-off}
 use Rattle.table.specs.Automaton.{Automaton, single}
 use Rattle.table.proofs.Rows.{under}
 use Rattle.steps.specs.Step.{rules_where}
@@ -195,12 +197,9 @@ pub record Writing (w : Automaton) (ending marks : ℕ) (give : ℕ → Report) 
   pub next_is : n ≡ from + length done
   pub lists_are : l ≡ written_at from done l₀
 
--- what a turn needs: the lowest rule is one of the table's, and there is a place for its report
-pub record Turn (w : Automaton) (l₀ : Lists) (left n : ℕ) : Type 0 where
-  pub ruled : lowest left < w.rules
-  pub digit : lowest left < 64
-  pub fits : Fits w64 (lowest left)
-  pub some : 1 ≤ left
+-- what a turn needs: the rule is one of the table's, and there is a place for its report
+pub record Turn (w : Automaton) (l₀ : Lists) (a n : ℕ) : Type 0 where
+  pub ruled : a < w.rules
   pub room : n < space l₀
   pub ids_fit : length l₀.ids * 4 < 2 ^ 63 → Fits w64 (n * 4)
   pub offsets_fit : length l₀.offsets * 8 < 2 ^ 63 → Fits w64 (n * 8)
@@ -208,9 +207,10 @@ pub record Turn (w : Automaton) (l₀ : Lists) (left n : ℕ) : Type 0 where
 
 pub writing_start : (w : Automaton) (ending marks : ℕ) (give : ℕ → Report) (from : ℕ) (l₀ : Lists)
     → ending < 2 ^ 64 → marks < 2 ^ 64 → ending ≡ rules_where w (on ending) → w.rules ≤ 64
-    → Writing w ending marks give from l₀ l₀ (bit_and ending (2 ^ 64 - 1 - marks)) from
-writing_start w ending marks give from l₀ h l is few =
-    record {
+    → {left : ℕ} → left ≡ bit_and ending (2 ^ 64 - 1 - marks) → Writing w ending marks give from l₀ l₀ left from
+writing_start w ending marks give from l₀ h l is few e =
+    subst (λ (x : ℕ). Writing w ending marks give from l₀ l₀ x from) (sym e)
+    (record {
       small = lt_of_le_of_lt (and_le_l ending (2 ^ 64 - 1 - marks)) h;
       ruled = λ a m k.
           on-without ending marks a l k
@@ -224,7 +224,7 @@ writing_start w ending marks give from l₀ h l is few =
           ∙ and-true (due (on ending) marks a));
       next_is = sym (add-zero from);
       lists_are = sym (written-at-none l₀ from);
-    }
+    })
 
 module _ {w : Automaton} {ending marks : ℕ} {give : ℕ → Report} {from : ℕ} {l₀ l : Lists}
     {left n : ℕ} (h : Writing w ending marks give from l₀ l left n)
@@ -236,9 +236,13 @@ module _ {w : Automaton} {ending marks : ℕ} {give : ℕ → Report} {from : �
   pub writing-long : AsLong l l₀
   writing-long = long-written from h.done h.lists_are (omega (arith, parts))
 
-  module _ (some : ¬ (left ≡ 0)) where
-    low : (lowest left < 64) × (on left (lowest left) ≡ true)
-    low = lowest-on left h.small some
+  -- the next digit of the walk
+  module _ {a v : ℕ} (g : GivesLowest left (Some a) v) where
+    some : ¬ (left ≡ 0)
+    some e = omega (arith, g.0, e)
+
+    low : on left (lowest left) ≡ true
+    low = (lowest-on left h.small some).1
 
     ruled : lowest left < w.rules
     ruled = go (dec_lt (lowest left) w.rules)
@@ -246,22 +250,19 @@ module _ {w : Automaton} {ending marks : ℕ} {give : ℕ → Report} {from : �
         go : Dec (lowest left < w.rules) → lowest left < w.rules
         go (yes m) = m
         go (no m) =
-            absurd (true≢false (sym low.1 ∙ h.ruled (lowest left) (omega arith) low.0))
+            absurd (true≢false (sym low ∙ h.ruled (lowest left) (omega arith) (omega (arith, g.2, g.3))))
 
     first : reports_in left give w.rules
         ≡ give (lowest left) ∷ reports_in (without left) give w.rules
     first = lowest-first left h.small some give w.rules ruled
 
-    pub writing-turn : Turn w l₀ left n
+    pub writing-turn : Turn w l₀ a n
     writing-turn =
         let i : ℕ = length l₀.ids in
         let o : ℕ = length l₀.offsets in
         let here : n < space l₀ = omega (arith, parts, h.next_is, ap length first) in
         record {
-          ruled = ruled;
-          digit = low.0;
-          fits = record { fits = omega (arith, low.0) };
-          some = omega arith;
+          ruled = omega (arith, ruled, g.3);
           room = here;
           ids_fit = bounds.ids_fit n i o (le_of_lt here);
           offsets_fit = bounds.offsets_fit n i o (le_of_lt here);
@@ -270,12 +271,12 @@ module _ {w : Automaton} {ending marks : ℕ} {give : ℕ → Report} {from : �
 
     -- its report is stored, and its digit cleared
     pub writing-again : {l' : Lists}
-        → l' ≡ lists (set l.ids n (give (lowest left)).id)
-        (set l.offsets n (give (lowest left)).end)
-        → Writing w ending marks give from l₀ l' (without left) (n + 1)
-    writing-again e =
+        → l' ≡ lists (set l.ids n (give a).id) (set l.offsets n (give a).end)
+        → Writing w ending marks give from l₀ l' v (n + 1)
+    writing-again {l'} e =
         let r : Report = give (lowest left) in
-        record {
+        subst (λ (x : ℕ). Writing w ending marks give from l₀ l' x (n + 1)) (sym g.4)
+        (record {
           small = omega (arith, without-less left h.small some, h.small);
           ruled = λ a m k.
               sym (without-same left h.small some a (omega (arith, ruled))) ∙ h.ruled a m k;
@@ -286,10 +287,11 @@ module _ {w : Automaton} {ending marks : ℕ} {give : ℕ → Report} {from : �
           next_is = omega (arith, h.next_is, length-append h.done (r ∷ []));
           lists_are =
               e
+              ∙ ap (λ (k : ℕ). lists (set l.ids n (give k).id) (set l.offsets n (give k).end)) g.3
               ∙ ap (λ (x : Lists). lists (set x.ids n r.id) (set x.offsets n r.end))
               h.lists_are
               ∙ written-store l₀ from n h.done r h.next_is writing-turn.room;
-        }
+        })
 
   -- once nothing is left
   pub writing-done : left ≡ 0 → {marks' : ℕ} → marks' ≡ run_marks w (on ending) marks

@@ -1,14 +1,15 @@
 -- A byte that is offered: it is taken, or the turn stops before it, by what the parts of the code
 -- promise.
 use mathlib.Core.Path.{◌≡◌, refl, sym, ap, ◌∙◌, subst}
-use mathlib.Core.Bool.{Bool, true, false, true≢false, cond}
-use mathlib.Core.Logic.{◌⊎◌, inl, inr}
+use mathlib.Core.Bool.{Bool, true, false, cond}
+use mathlib.Core.Logic.{inl, inr}
 use mathlib.Core.List.{List, []}
 use Prim.Native.Nat.{ℕ, suc, ◌+◌, ◌-◌, ◌<◌, ◌≤◌}
 use native.Mathlib.Omega.{arith}
 use lib.Dec.{ltb}
 use lib.ListN.{length, get_or}
 use borrow.Author.Tests.{ltb-true, ltb-false}
+use Rattle.std.specs.Prelude.{None, Some}
 use Rattle.sets.specs.Set.{size_of}
 use Rattle.kinds.specs.declared.Side.{Side}
 use Rattle.kinds.specs.Side.{side_of}
@@ -19,7 +20,7 @@ use Rattle.stream.specs.declared.Stream.{Stream}
 use Rattle.stream.specs.declared.scan.Turn.{Turn}
 use Rattle.stream.specs.Byte.{given, next_live, late_test, own_test, byte_reports, byte_state}
 use Rattle.stream.specs.Calls.{Lists, space, written}
-use Rattle.stream.specs.Invariants.{waits_in, written_at, free, back, here_at, stop_at, Delivered, Offered}
+use Rattle.stream.specs.Invariants.{waits_in, written_at, free, back, here_at, Delivered, Offered}
 use Rattle.stream.proofs.Lists.{written-part, written-at-none, free-space}
 
 module _ (w : Automaton) (taken : ℕ) (block : List ℕ) (z : Turn) (l : Lists) where
@@ -29,19 +30,12 @@ module _ (w : Automaton) (taken : ℕ) (block : List ℕ) (z : Turn) (l : Lists)
   abbrev x : ℕ
   x = get_or block z.at 0
 
-  -- a turn that stops, the lists as they were
-  pub offered-stop : (r : Turn) (l' : Lists) → r ≡ stop_at z → l' ≡ l
-      → (z.at < length block → (space l < z.count + length (byte_reports w here x)) ⊎ (z.left < suc (size_of z.live))) → Offered w here block z l r l'
-  offered-stop r l' is same over = record {
-    stops = λ e. record { over = over; is = is; lists_are = same };
-    takes = λ e. absurd (true≢false (sym (ap (λ (y : Turn). y.stopped) is) ∙ e));
-  }
+  -- the end of the block, or too few units
+  pub offered-end : length block ≤ z.at → Offered w here block z l None l
+  offered-end h = record { over = λ b. absurd (omega arith); lists_are = refl }
 
-  pub offered-end : (r : Turn) → r ≡ stop_at z → length block ≤ z.at → Offered w here block z l r l
-  offered-end r is h = offered-stop r l is refl (λ b. absurd (omega arith))
-
-  pub offered-unpaid : (r : Turn) → r ≡ stop_at z → (turns : ℕ) → turns ≡ size_of z.live → z.left < 1 + turns → Offered w here block z l r l
-  offered-unpaid r is turns e h = offered-stop r l is refl (λ b. inr (omega (arith, e)))
+  pub offered-unpaid : (turns : ℕ) → turns ≡ size_of z.live → z.left < 1 + turns → Offered w here block z l None l
+  offered-unpaid turns e h = record { over = λ b. inr (omega (arith, e)); lists_are = refl }
 
 -- what was written into the free part of the lists once a step was taken: the next live set, the
 -- side of the byte, what the byte's runs came to, and whether a position waits for the next byte
@@ -88,10 +82,11 @@ module _ {w : Automaton} {taken : ℕ} {block : List ℕ} {z : Turn} {l : Lists}
       written-part l z.count (cond b [] (byte_reports w there byte)) last h.room
       (runs.lists_are ∙ ap (λ (y : Bool). written (cond y [] (byte_reports w there byte)) (free z.count l)) e)
 
-  pub offered-full : (r : Turn) → r ≡ stop_at z → full ≡ true → Offered w there block z l r (back z.count l last)
-  offered-full r is e =
-      offered-stop w taken block z l r (back z.count l last) is (wrote true e ∙ written-at-none l z.count)
-      (λ b. inl (omega (arith, ltb-true (space (free z.count l)) (length (byte_reports w there byte)) (sym full_if ∙ e), free-space l z.count h.room)))
+  pub offered-full : full ≡ true → Offered w there block z l None (back z.count l last)
+  offered-full e = record {
+    over = λ b. inl (omega (arith, ltb-true (space (free z.count l)) (length (byte_reports w there byte)) (sym full_if ∙ e), free-space l z.count h.room));
+    lists_are = wrote true e ∙ written-at-none l z.count;
+  }
 
   pub taken-room : full ≡ false → z.count + reports ≤ space l
   taken-room e =
@@ -104,28 +99,24 @@ module _ {w : Automaton} {taken : ℕ} {block : List ℕ} {z : Turn} {l : Lists}
 
   pub offered-taken : z.at < length block → full ≡ false → (turns : ℕ) → turns ≡ size_of z.live → 1 + turns ≤ z.left
       → Offered w there block z l
-      (record { live = next; before = z.live; reported = marks; side = new; waits = waits; at = z.at + 1; count = z.count + reports; left = z.left - (1 + turns); stopped = false })
+      (Some (record { live = next; before = z.live; reported = marks; side = new; waits = waits; at = z.at + 1; count = z.count + reports; left = z.left - (1 + turns) }))
       (back z.count l last)
   offered-taken inside e turns size paid =
       let cost : 1 + turns ≡ suc (size_of z.live) = omega (arith, size) in
       record {
-        stops = λ q. absurd (true≢false (sym q));
-        takes = λ q. record {
-          inside = inside;
-          room = omega (arith, taken-room e, reports_are e);
-          paid = omega (arith, cost);
-          is =
-              λ i. record {
-                live = h.step i;
-                before = z.live;
-                reported = marks_are e i;
-                side = h.side i;
-                waits = (h.wait ∙ ap (waits_in w) h.step) i;
-                at = z.at + 1;
-                count = z.count + reports_are e i;
-                left = z.left - cost i;
-                stopped = false;
-              };
-          lists_are = wrote false e;
-        };
+        inside = inside;
+        room = omega (arith, taken-room e, reports_are e);
+        paid = omega (arith, cost);
+        is =
+            λ i. record {
+              live = h.step i;
+              before = z.live;
+              reported = marks_are e i;
+              side = h.side i;
+              waits = (h.wait ∙ ap (waits_in w) h.step) i;
+              at = z.at + 1;
+              count = z.count + reports_are e i;
+              left = z.left - cost i;
+            };
+        lists_are = wrote false e;
       }

@@ -1,8 +1,8 @@
 -- The scanning loop. `Running` says what holds once some bytes are taken: live set, marks, units
 -- and lists are those of the definitions. Bytes passed over and a byte that is taken keep it, and
--- where the loop stops one more byte would not fit.
+-- where the loop ends one more byte would not fit.
 use mathlib.Core.Path.{◌≡◌, refl, sym, ap, ◌∙◌, subst}
-use mathlib.Core.Bool.{Bool, true, false, true≢false, cond, ◌&&◌}
+use mathlib.Core.Bool.{Bool, true, false, cond, ◌&&◌}
 use mathlib.Core.Logic.{◌⊎◌, inl, inr}
 use mathlib.Core.List.{List, ◌++◌, append-nil}
 use Prim.Native.Nat.{ℕ, zero, suc, ◌+◌, ◌-◌, ◌^◌, ◌<◌, ◌≤◌, min, zero-le}
@@ -12,7 +12,7 @@ use native.Mathlib.Omega.{arith}
 use lib.Dec.{ltb}
 use lib.ListN.{length, get_or, length-append}
 use borrow.Author.Tests.{lt-ltb, le-ltb}
-use Rattle.sets.specs.Set.{empty_set, is_empty, size_of}
+use Rattle.sets.specs.Set.{empty_set, size_of}
 use Rattle.kinds.specs.declared.Side.{Side}
 use Rattle.kinds.specs.Side.{side_of}
 use Rattle.table.specs.Gaps.{between, unsettled}
@@ -22,7 +22,7 @@ use Rattle.stream.specs.declared.Stream.{Stream}
 use Rattle.stream.specs.declared.scan.Turn.{Turn}
 use Rattle.stream.specs.Byte.{Report, after, reports_by, cost_by, given, next_live, late_test, own_test, byte_reports, byte_state, plain, state_after, reports_of, cost_of}
 use Rattle.stream.specs.Calls.{Lists, space}
-use Rattle.stream.specs.Invariants.{state_of, side_at, here_at, waits_in, passed_side, skip_to, stop_at, Skipped, Passed, Stops, Takes, Offered, Running, Over, Ran}
+use Rattle.stream.specs.Invariants.{state_of, side_at, here_at, waits_in, passed_side, skip_to, Skipped, Passed, Stops, Takes, Running, Over, Ran}
 use Rattle.stream.proofs.Lists.{filled-start, filled-space, filled_more, filled-same}
 use Rattle.stream.proofs.TwoRuns.{two_none, two-marks-none, two-marks-small}
 use Rattle.stream.proofs.Machines.{after_more, reports-more, cost-more}
@@ -40,7 +40,7 @@ side-next before block at = ap (side_at before block) (sym (add-one at))
 
 -- where the loop begins
 abbrev pub start_turn : Stream → (waits : Bool) → (allowance : ℕ) → Turn
-start_turn s waits allowance = record { live = s.live; before = s.live; reported = s.reported; side = s.last; waits = waits; at = 0; count = 0; left = allowance; stopped = false }
+start_turn s waits allowance = record { live = s.live; before = s.live; reported = s.reported; side = s.last; waits = waits; at = 0; count = 0; left = allowance }
 
 module _ (w : Automaton) (s : Stream) (allowance : ℕ) (block : List ℕ) (l₀ : Lists) where
   pub running-start : (waits : Bool) → waits ≡ waits_in w s.live → s.reported < 2 ^ 64 → Running w s allowance block l₀ (start_turn s waits allowance) l₀
@@ -107,36 +107,18 @@ module _ (w : Automaton) (s : Stream) (allowance : ℕ) (block : List ℕ) (l₀
           filled = filled-same (sym reports-next) (filled_more h.filled (byte_reports w here x) l' t.lists_are t.room);
         })
 
-    -- a turn that stops
-    module _ (r : Turn) (l' : Lists) (t : Stops w here block z l r l') where
-      pub running-stop : Running w s allowance block l₀ r l'
-      running-stop =
-          subst (λ (y : Turn). Running w s allowance block l₀ y l') (sym t.is) (subst (λ (y : Lists). Running w s allowance block l₀ (stop_at z) y) (sym t.lists_are)
-          (record {
-            inside = h.inside;
-            live_is = h.live_is;
-            before_is = h.before_is;
-            marks_are = h.marks_are;
-            side_is = h.side_is;
-            waits_is = h.waits_is;
-            small = h.small;
-            paid = h.paid;
-            filled = h.filled;
-          }))
-
-      pub stop-over : r.at < length block → Over (plain w) s allowance block (space l₀) (r.at + 1)
-      stop-over b =
-          let same : z.at ≡ r.at = ap (λ (y : Turn). y.at) (sym t.is) in
-          subst (λ (n : ℕ). Over (plain w) s allowance block (space l₀) (n + 1)) same (go (t.over (omega (arith, same))))
-        where
-          go : (space l < z.count + length (byte_reports w here x)) ⊎ (z.left < suc (size_of z.live)) → Over (plain w) s allowance block (space l₀) (z.at + 1)
-          go (inl g) =
-              inl (omega (arith, filled-space h.filled, h.filled.count_is, ap length reports-next, length-append (reports_of w s block z.at) (byte_reports w here x)))
-          go (inr g) = inr (omega (arith, h.paid, cost-next))
+    -- where it stops, one more would be too many
+    pub stop-over : (l' : Lists) → Stops w here block z l l' → z.at < length block → Over (plain w) s allowance block (space l₀) (z.at + 1)
+    stop-over l' t b = go (t.over b)
+      where
+        go : (space l < z.count + length (byte_reports w here x)) ⊎ (z.left < suc (size_of z.live)) → Over (plain w) s allowance block (space l₀) (z.at + 1)
+        go (inl g) =
+            inl (omega (arith, filled-space h.filled, h.filled.count_is, ap length reports-next, length-append (reports_of w s block z.at) (byte_reports w here x)))
+        go (inr g) = inr (omega (arith, h.paid, cost-next))
 
     -- a byte that is passed over: nothing is live, and it leaves it so
     abbrev pass_one : Turn
-    pass_one = record { live = z.live; before = z.live; reported = z.reported; side = side_of x; waits = z.waits; at = z.at + 1; count = z.count; left = z.left - 1; stopped = z.stopped }
+    pass_one = record { live = z.live; before = z.live; reported = z.reported; side = side_of x; waits = z.waits; at = z.at + 1; count = z.count; left = z.left - 1 }
 
     running-pass : z.at < length block → 0 < z.left → z.live ≡ empty_set → next_live w here x ≡ empty_set → Running w s allowance block l₀ pass_one l
     unfolding byte_reports byte_state
@@ -185,7 +167,6 @@ module _ (w : Automaton) (s : Stream) (allowance : ℕ) (block : List ℕ) (l₀
           at = n + 1;
           count = z.count;
           left = units i;
-          stopped = z.stopped;
         })
         (running-pass (skip_to block z n) l r (omega (arith, q.inside)) (omega (arith, q.inside)) empty still)
 
@@ -204,7 +185,6 @@ module _ (w : Automaton) (s : Stream) (allowance : ℕ) (block : List ℕ) (l₀
           at = place i;
           count = z.count;
           left = units i;
-          stopped = z.stopped;
         })
         h
     skip_all (suc d) b =
@@ -219,63 +199,23 @@ module _ (w : Automaton) (s : Stream) (allowance : ℕ) (block : List ℕ) (l₀
 
 -- ---- a turn
 
--- what the loop knows where a turn ends
-pub record Turned (w : Automaton) (s : Stream) (allowance : ℕ) (block : List ℕ) (l₀ : Lists) (pause going : Bool) (z : Turn) (l : Lists) : Type 0 where
-  pub running : Running w s allowance block l₀ z l
-  pub stops : z.stopped ≡ true → z.at < length block → Over (plain w) s allowance block (space l₀) (z.at + 1)
-  pub goes : going ≡ true → z.stopped ≡ false
-  pub rests : going ≡ false → z.stopped ≡ false → (pause ≡ true) × (is_empty z.live ≡ true) × (0 < z.at)
-
-pub turned-start : (w : Automaton) (s : Stream) (allowance : ℕ) (block : List ℕ) (l₀ : Lists) (pause waits : Bool) → waits ≡ waits_in w s.live → s.reported < 2 ^ 64
-    → Turned w s allowance block l₀ pause true (start_turn s waits allowance) l₀
-turned-start w s allowance block l₀ pause waits e h = record {
-  running = running-start w s allowance block l₀ waits e h;
-  stops = λ e. absurd (true≢false (sym e));
-  goes = λ e. refl;
-  rests = λ e. absurd (true≢false e);
-}
-
 -- bytes are passed over, and one is offered
-module _ {w : Automaton} {s : Stream} {allowance : ℕ} {block : List ℕ} {l₀ : Lists} {z o r : Turn} {l l' : Lists}
-    (h : Running w s allowance block l₀ z l) (p : Passed w s.taken block z o) (t : Offered w (here_at s.taken o) block o l r l') where
-  over : Running w s allowance block l₀ o l
-  over = running-skip w s allowance block l₀ z o l h p
+module _ {w : Automaton} {s : Stream} {allowance : ℕ} {block : List ℕ} {l₀ : Lists} {z o : Turn} {l : Lists}
+    (h : Running w s allowance block l₀ z l) (p : Passed w s.taken block z o) where
+  pub passed-over : Running w s allowance block l₀ o l
+  passed-over = running-skip w s allowance block l₀ z o l h p
 
-  turn-running : Running w s allowance block l₀ r l'
-  turn-running = go r.stopped refl
-    where
-      go : (b : Bool) → r.stopped ≡ b → Running w s allowance block l₀ r l'
-      go true e = running-stop w s allowance block l₀ o l over r l' (t.stops e)
-      go false e = running-take w s allowance block l₀ o l over r l' (t.takes e)
+  -- it is taken, and the next turn comes further
+  module _ {r : Turn} {l' : Lists} (t : Takes w (here_at s.taken o) block o l r l') where
+    pub turned : Running w s allowance block l₀ r l'
+    turned = running-take w s allowance block l₀ o l passed-over r l' t
 
-  -- it comes no less far, and further unless it stops
-  pub turn-rises : z.at ≤ r.at
-  turn-rises = go r.stopped refl
-    where
-      go : (b : Bool) → r.stopped ≡ b → z.at ≤ r.at
-      go true e = omega (arith, p.skipped.rises, ap (λ (y : Turn). y.at) (t.stops e).is)
-      go false e = omega (arith, p.skipped.rises, ap (λ (y : Turn). y.at) (t.takes e).is)
+    pub further : length block - r.at < length block - z.at
+    further = omega (arith, p.skipped.rises, ap (λ (y : Turn). y.at) t.is, t.inside)
 
-  pub turn-further : r.stopped ≡ false → (z.at < r.at) × (z.at < length block)
-  turn-further e =
-      let k = t.takes e in
-      (omega (arith, p.skipped.rises, ap (λ (y : Turn). y.at) k.is), omega (arith, p.skipped.rises, k.inside))
-
-  pub turned : (pause going : Bool) → (going ≡ true → r.stopped ≡ false) × (going ≡ false → r.stopped ≡ false → (pause ≡ true) × (is_empty r.live ≡ true))
-      → Turned w s allowance block l₀ pause going r l'
-  turned pause going g = record {
-    running = turn-running;
-    stops = λ e. stop-over w s allowance block l₀ o l over r l' (t.stops e);
-    goes = g.0;
-    rests = λ e n. ((g.1 e n).0, (g.1 e n).1, omega (arith, (turn-further n).0));
+  -- or the loop ends
+  pub ran : {l' : Lists} → Stops w (here_at s.taken o) block o l l' → Ran w s allowance block l₀ o l'
+  ran {l'} t = record {
+    running = subst (Running w s allowance block l₀ o) (sym t.lists_are) passed-over;
+    stops = stop-over w s allowance block l₀ o l passed-over l' t;
   }
-
-pub ran : {w : Automaton} {s : Stream} {allowance : ℕ} {block : List ℕ} {l₀ : Lists} {pause going : Bool} {z : Turn} {l : Lists}
-    → going ≡ false → Turned w s allowance block l₀ pause going z l → Ran w s allowance block l₀ pause z l
-ran e h = record { running = h.running; rests = record { stops = h.stops; pauses = h.rests e } }
-
--- the loop's measure
-pub turn-less : (going next stopped : Bool) (at to n : ℕ) → going ≡ true → (next ≡ true → stopped ≡ false) → at ≤ to → (stopped ≡ false → (at < to) × (at < n))
-    → cond next 1 0 + (n - to) < cond going 1 0 + (n - at)
-turn-less going true stopped at to n e g h f = let k = f (g refl) in omega (arith, k.0, k.1, ap {B = ℕ} (λ (b : Bool). cond b 1 0) e)
-turn-less going false stopped at to n e g h f = omega (arith, ap {B = ℕ} (λ (b : Bool). cond b 1 0) e)

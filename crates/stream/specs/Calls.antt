@@ -1,15 +1,17 @@
 -- The calls on a stream: the answer and the lent lists afterwards, for any words, any state and any
 -- inputs. Assumes nothing: these are definitions.
-use Rattle.std.specs.Prelude.{Bool, true, false, cond, List, ◌++◌, map, ℕ, ◌+◌, ◌*◌, min, eqb, ltb, length, drop}
+use Rattle.std.specs.Prelude.{Bool, true, false, cond, Result, Ok, Err, List, ◌++◌, map, ℕ, ◌+◌, ◌*◌, min, eqb, ltb, length, drop}
+use Rattle.refusals.specs.declared.Refusal.{Refusal}
+use Rattle.refusals.specs.Refusal.{number_of, number_if}
 use Rattle.sets.specs.Set.{empty_set}
 use Rattle.kinds.specs.declared.Side.TheVariants.{Other}
 use Rattle.table.specs.Layout.{rules_of, positions_of}
 use Rattle.table.specs.Table.{is_table}
 use Rattle.table.specs.Automaton.{automaton}
 use Rattle.stream.specs.declared.Stream.{Stream}
-use Rattle.stream.specs.declared.Opened.{Opened}
-use Rattle.stream.specs.declared.Scanned.{Scanned}
-use Rattle.stream.specs.declared.Closed.{Closed}
+use Rattle.stream.specs.declared.Opened as given
+use Rattle.stream.specs.declared.Progress.{Progress}
+use Rattle.stream.specs.declared.Ending.{Ending}
 use Rattle.stream.specs.Byte.{Report, state_after, reports_of, cost_of, fits, close_reports}
 use Rattle.stream.specs.Valid.{valid, stream_limit}
 
@@ -17,6 +19,14 @@ use Rattle.stream.specs.Valid.{valid, stream_limit}
 -- difference
 abbrev pub fresh : (rules positions : ℕ) → Bool → Stream
 fresh rules positions closed = record { live = empty_set; held = empty_set; reported = 0; pending = 0; last = Other; taken = 0; rules = rules; positions = positions; closed = closed }
+
+-- the answer of an opening, by its number, and what a function gives as that answer
+pub record Opened : Type 0 where
+  pub number : ℕ
+  pub stream : Stream
+
+abbrev pub opened_of : given.Opened → Opened
+opened_of o = record { number = number_if o.refusal; stream = o.stream }
 
 -- "opening only 1"; "A refused opening hands back a closed state, all else in it zero."
 unfoldable pub opened : List ℕ → Opened
@@ -75,6 +85,20 @@ pub record Call : Type 0 where
 abbrev pub call : (allowance : ℕ) (block : List ℕ) (slots : Lists) → Call
 call allowance block slots = record { allowance = allowance; block = block; slots = slots }
 
+-- The answer of a scan: its number, the bytes that it took, the reports that it wrote, the work that
+-- it used, and the state afterwards.
+pub record Scanned : Type 0 where
+  pub number : ℕ
+  pub taken : ℕ
+  pub reports : ℕ
+  pub used : ℕ
+  pub stream : Stream
+
+-- what a function that is handed state s gives as that answer
+abbrev pub scanned_of : Stream → Result Progress Refusal → Scanned
+scanned_of s (Ok p) = record { number = 0; taken = p.taken; reports = p.reports; used = p.used; stream = p.stream }
+scanned_of s (Err r) = record { number = number_of r; taken = 0; reports = 0; used = 0; stream = s }
+
 -- A scan on any words, state and inputs: the answer, and the lists afterwards. "Other refusals
 -- return the number, no bytes taken, no reports, the state unchanged."; it "says what it used, 0
 -- when refused"; "An allowance of 0 takes nothing and is by itself no refusal."; "Reports fill two
@@ -107,6 +131,15 @@ abbrev pub shut : Stream → Stream
 shut s = record { live = s.live; held = s.held; reported = s.reported; pending = s.pending; last = s.last; taken = s.taken; rules = s.rules; positions = s.positions; closed = true }
 
 -- A closing likewise.
+pub record Closed : Type 0 where
+  pub number : ℕ
+  pub reports : ℕ
+  pub stream : Stream
+
+abbrev pub closed_of : Stream → Result Ending Refusal → Closed
+closed_of s (Ok e) = record { number = 0; reports = e.reports; stream = e.stream }
+closed_of s (Err r) = record { number = number_of r; reports = 0; stream = s }
+
 module _ (t : List ℕ) (s : Stream) (l : Lists) where
   unfoldable pub closed : Closed
   closed =

@@ -1,8 +1,8 @@
 -- What the private functions promise, where that is not an equation with a definition that a reader
 -- must believe. Assumes nothing: these are definitions.
-use Rattle.std.specs.Prelude.{◌≡◌, Bool, true, false, cond, ◌&&◌, ◌⊎◌, List, [], ◌++◌, map, ℕ, zero, suc, ◌+◌, ◌-◌, ◌^◌, ◌<◌, ◌≤◌, min, eqb, ltb, length, get_or, take, drop}
+use Rattle.std.specs.Prelude.{◌≡◌, Option, None, Some, Bool, true, false, cond, ◌&&◌, ◌⊎◌, List, [], ◌++◌, map, ℕ, zero, suc, ◌+◌, ◌-◌, ◌^◌, ◌<◌, ◌≤◌, min, eqb, ltb, length, get_or, take, drop}
 use borrow.Rule.Slice.PartMut.{put_mid}
-use Rattle.sets.specs.Set.{has, any, empty_set, full_set, is_empty, kept_below, union_of, size_of}
+use Rattle.sets.specs.Set.{has, any, empty_set, full_set, kept_below, union_of, size_of}
 use Rattle.kinds.specs.declared.Side.{Side}
 use Rattle.kinds.specs.Side.{side_of}
 use Rattle.table.specs.Layout.{max_positions, positions_of}
@@ -11,7 +11,8 @@ use Rattle.steps.specs.Step.{stepped, lasts_of, lates_of, rules_where}
 use Rattle.stream.specs.declared.Stream.{Stream}
 use Rattle.stream.specs.declared.scan.Sets.{Sets}
 use Rattle.stream.specs.declared.scan.Turn.{Turn}
-use Rattle.stream.specs.declared.Advance.{Advance}
+use Rattle.stream.specs.declared.reports.Run.{Run}
+use Rattle.stream.specs.declared.Progress.{Progress}
 use Rattle.stream.specs.Byte.{Report, Machine, after, reports_by, cost_by, next_live, next_held, next_pending, run_reports, run_marks, two_reports, two_marks, byte_reports, byte_state, plain, state_after, reports_of, cost_of, close_reports}
 use Rattle.stream.specs.Calls.{Lists, space, written}
 
@@ -81,6 +82,11 @@ pub record Delivered (w : Automaton) (one two : ℕ → Bool) (marks : ℕ) (fir
   pub marks_are : marks' ≡ cond full marks (two_marks w one two marks)
   pub lists_are : l' ≡ written (cond full [] (two_reports w one two marks first second)) l
 
+-- the same, as what a function gives: none, if not all fit
+abbrev pub DeliveredBy : (w : Automaton) (one two : ℕ → Bool) (marks : ℕ) (first second : ℕ → Report) (l : Lists) → Option Run → (l' : Lists) → Type 0
+DeliveredBy w one two marks first second l None l' = Delivered w one two marks first second l true 0 marks l'
+DeliveredBy w one two marks first second l (Some r) l' = Delivered w one two marks first second l false r.next r.reported l'
+
 -- both runs of a closing
 pub record Ended (w : Automaton) (s : Stream) (l : Lists) (reports : ℕ) (l' : Lists) : Type 0 where
   pub reports_are : reports ≡ length (close_reports w s)
@@ -137,17 +143,13 @@ skip_to block z to = record {
   at = to;
   count = z.count;
   left = z.left - (to - z.at);
-  stopped = z.stopped;
 }
 
 pub record Passed (w : Automaton) (taken : ℕ) (block : List ℕ) (z r : Turn) : Type 0 where
   pub skipped : Skipped w z.live block taken z.at (min (length block) (z.at + z.left)) r.at
   pub is : r ≡ skip_to block z r.at
 
--- a turn that stops, and one that takes byte x; s is the state before it, as far as it counts
-abbrev pub stop_at : Turn → Turn
-stop_at z = record { live = z.live; before = z.before; reported = z.reported; side = z.side; waits = z.waits; at = z.at; count = z.count; left = z.left; stopped = true }
-
+-- a turn that takes byte x; s is the state before it, as far as it counts
 abbrev pub take_at : Automaton → Stream → (x : ℕ) → Turn → Turn
 take_at w s x z = record {
   live = next_live w s x;
@@ -158,7 +160,6 @@ take_at w s x z = record {
   at = z.at + 1;
   count = z.count + length (byte_reports w s x);
   left = z.left - suc (size_of z.live);
-  stopped = false;
 }
 
 -- the state before the next byte of a block, as far as it counts
@@ -166,9 +167,8 @@ abbrev pub here_at : (taken : ℕ) → Turn → Stream
 here_at taken z = state_of z.live z.reported z.side (taken + z.at)
 
 -- before the end of the block, or a byte whose reports do not fit or that cannot be paid for
-pub record Stops (w : Automaton) (s : Stream) (block : List ℕ) (z : Turn) (l : Lists) (r : Turn) (l' : Lists) : Type 0 where
+pub record Stops (w : Automaton) (s : Stream) (block : List ℕ) (z : Turn) (l l' : Lists) : Type 0 where
   pub over : z.at < length block → (space l < z.count + length (byte_reports w s (get_or block z.at 0))) ⊎ (z.left < suc (size_of z.live))
-  pub is : r ≡ stop_at z
   pub lists_are : l' ≡ l
 
 pub record Takes (w : Automaton) (s : Stream) (block : List ℕ) (z : Turn) (l : Lists) (r : Turn) (l' : Lists) : Type 0 where
@@ -178,10 +178,10 @@ pub record Takes (w : Automaton) (s : Stream) (block : List ℕ) (z : Turn) (l :
   pub is : r ≡ take_at w s (get_or block z.at 0) z
   pub lists_are : l' ≡ written_at z.count (byte_reports w s (get_or block z.at 0)) l
 
--- a byte that is offered is taken, or the turn stops
-pub record Offered (w : Automaton) (s : Stream) (block : List ℕ) (z : Turn) (l : Lists) (r : Turn) (l' : Lists) : Type 0 where
-  pub stops : r.stopped ≡ true → Stops w s block z l r l'
-  pub takes : r.stopped ≡ false → Takes w s block z l r l'
+-- a byte that is offered is taken, or there is no next turn
+abbrev pub Offered : (w : Automaton) (s : Stream) (block : List ℕ) (z : Turn) (l : Lists) → Option Turn → (l' : Lists) → Type 0
+Offered w s block z l None l' = Stops w s block z l l'
+Offered w s block z l (Some r) l' = Takes w s block z l r l'
 
 -- once some bytes of a block are taken: the state after them as far as it counts, the live set
 -- before the last of them, what they cost and the lists
@@ -200,15 +200,10 @@ pub record Running (w : Automaton) (s : Stream) (allowance : ℕ) (block : List 
 abbrev pub Over : {S R : Type 0} → Machine S R → S → (allowance : ℕ) → List ℕ → (room k : ℕ) → Type 0
 Over m s allowance block room k = (room < length (reports_by m s block k)) ⊎ (allowance < cost_by m s block k)
 
--- Why a loop over a block stands after k bytes: it stopped, and one more would be too many; or it
--- may pause, took some, and nothing is live.
-pub record Rests {S R : Type 0} (m : Machine S R) (s : S) (allowance : ℕ) (block : List ℕ) (room k : ℕ) (pause stopped : Bool) (live : List ℕ) : Type 0 where
-  pub stops : stopped ≡ true → k < length block → Over m s allowance block room (k + 1)
-  pub pauses : stopped ≡ false → (pause ≡ true) × (is_empty live ≡ true) × (0 < k)
-
-pub record Ran (w : Automaton) (s : Stream) (allowance : ℕ) (block : List ℕ) (l : Lists) (pause : Bool) (r : Turn) (l' : Lists) : Type 0 where
+-- all that can be taken: one byte more, if there is one, would be too many
+pub record Ran (w : Automaton) (s : Stream) (allowance : ℕ) (block : List ℕ) (l : Lists) (r : Turn) (l' : Lists) : Type 0 where
   pub running : Running w s allowance block l r l'
-  pub rests : Rests (plain w) s allowance block (space l) r.at pause r.stopped r.live
+  pub stops : r.at < length block → Over (plain w) s allowance block (space l) (r.at + 1)
 
 -- what waits once n bytes of a block are taken: what the state had, if there are none; if not, what
 -- the last of them leaves, before which this set was live
@@ -220,12 +215,13 @@ pub record Left (w : Automaton) (s : Stream) (block before : List ℕ) (n : ℕ)
 
 -- what an accepted scan gives: of a machine, so that a scan that is given more than a table
 -- promises the same
-pub record AdvancedBy {S : Type 0} (m : Machine S Report) (out : S → Stream) (s : S) (allowance : ℕ) (block : List ℕ) (l : Lists) (pause : Bool) (r : Advance) (l' : Lists) : Type 0 where
+pub record AdvancedBy {S : Type 0} (m : Machine S Report) (out : S → Stream) (s : S) (allowance : ℕ) (block : List ℕ) (l : Lists) (r : Progress) (l' : Lists) : Type 0 where
   pub inside : r.taken ≤ length block
-  pub left_is : r.left + cost_by m s block r.taken ≡ allowance
+  pub used_is : r.used ≡ cost_by m s block r.taken
+  pub paid : r.used ≤ allowance
   pub stream_is : r.stream ≡ out (after m s block r.taken)
   pub filled : Filled (reports_by m s block r.taken) l r.reports l'
-  pub rests : Rests m s allowance block (space l) r.taken pause r.stopped r.stream.live
+  pub stops : r.taken < length block → Over m s allowance block (space l) (r.taken + 1)
 
-abbrev pub Advanced : (w : Automaton) (s : Stream) (allowance : ℕ) (block : List ℕ) (l : Lists) (pause : Bool) (r : Advance) (l' : Lists) → Type 0
+abbrev pub Advanced : (w : Automaton) (s : Stream) (allowance : ℕ) (block : List ℕ) (l : Lists) (r : Progress) (l' : Lists) → Type 0
 Advanced w = AdvancedBy (plain w) (λ s. s)

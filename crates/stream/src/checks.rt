@@ -1,22 +1,17 @@
-// Whether a call is accepted: the tests of a state against a table, and the number of the first
-// reason that refuses it.
-ghost use Rattle.std.specs.Prelude.{◌≡◌, not, ◌&&◌, ◌≤◌, min, leb, ltb, length};
+// Whether a call is accepted: the tests of a state against a table, and the first reason that
+// refuses it.
+ghost use Rattle.std.specs.Prelude.{◌≡◌, not, ◌&&◌, ◌≤◌, leb, ltb, length};
 ghost use Rattle.sets.specs.Set.{on, has, any};
+ghost use Rattle.refusals.specs.Refusal.{code_of};
 ghost use Rattle.table.specs.Layout.{table_words, max_positions};
 ghost use Rattle.table.specs.Automaton.{automaton, single};
 ghost use Rattle.stream.specs.Valid.{sound, needs_starts, valid};
 ghost use Rattle.stream.specs.Calls.{scan_number};
 
 use super::{STREAM_LIMIT, Stream};
+use refusals::Refusal;
 use steps::{keepers, leftmosts, singles};
 use table::layout::{MAX_RULES, POSITIONS_AT, RULES_AT, TABLE_WORDS};
-
-// The smaller of two numbers.
-pub(super) fn least(a: usize, b: usize) -> usize
-    ensures { result ≡ min a b }
-{
-    if a < b { a } else { b }
-}
 
 // Whether every member of a set is a position, of this many.
 pub fn inside(s: [u64; 4], positions: usize) -> bool
@@ -51,14 +46,13 @@ fn fits_table(s: Stream, words: &[u64]) -> bool
 {
     let rules = words[RULES_AT];
     let positions = words[POSITIONS_AT];
-    let live = s.live;
-    let held = s.held;
     let same = (s.rules == rules) & (s.positions == positions);
-    let both = sets::union(live, held);
+    let both = sets::union(s.live, s.held);
     let positioned = inside(both, positions as usize);
     let marked = marks_single(s.reported, words);
     let ruled = pending_inside(s.pending, rules) & ((s.pending == 0) | (2 <= s.taken));
     let begun = sets::is_empty(both) | (0 < s.taken);
+    // Joined by `&`: a branch for each would be slower.
     same & (positioned & (marked & ((s.taken <= STREAM_LIMIT) & (ruled & begun))))
 }
 
@@ -96,26 +90,25 @@ fn is_valid(s: Stream, words: &[u64]) -> bool
     fits_table(s, words) & !needs_starts(words)
 }
 
-// The number of a scan of `len` bytes with this report space. A closing is numbered as a scan of no
-// bytes, which 21 never refuses.
-pub(super) fn refusal(s: Stream, words: &[u64], len: usize, space: usize) -> u32
-    ensures { result ≡ scan_number words.now s len space }
+// Why a scan of `len` bytes with this report space is refused, if it is. A closing is numbered as a
+// scan of no bytes, which 21 never refuses.
+pub(super) fn refusal(s: Stream, words: &[u64], len: usize, space: usize) -> Result<(), Refusal>
+    ensures { code_of result ≡ scan_number words.now s len space }
 {
     if !table::is_table(words) {
-        return 1;
+        return Err(Refusal::NoTable);
     }
     if !is_valid(s, words) {
-        return 18;
+        return Err(Refusal::BadState);
     }
     if s.closed {
-        return 19;
+        return Err(Refusal::Closed);
     }
-    let rules = words[RULES_AT];
     if STREAM_LIMIT - s.taken < len as u64 {
-        return 21;
+        return Err(Refusal::LongStream);
     }
-    if (space as u64) < 2 * rules {
-        return 20;
+    if (space as u64) < 2 * words[RULES_AT] {
+        return Err(Refusal::SmallSpace);
     }
-    0
+    Ok(())
 }

@@ -11,12 +11,13 @@ ghost use Rattle.std.specs.Prelude.{◌≡◌, true, ◌+◌, ◌^◌, ◌<◌, 
 ghost use Rattle.table.specs.Table.{is_table};
 ghost use Rattle.table.specs.Automaton.{automaton};
 ghost use Rattle.stream.specs.Invariants.{SetsOf, Advanced};
-ghost use Rattle.stream.specs.Calls.{fresh, opened, lists, call, scanned, scanned_lists, closed, closed_lists};
+ghost use Rattle.stream.specs.Calls.{fresh, opened, opened_of, lists, call, scanned, scanned_of, scanned_lists, closed, closed_of, closed_lists};
 ghost use Rattle.stream.specs.Byte.{busy_of};
 
+use checks::refusal;
 pub use checks::{inside, is_sound, needs_starts, pending_inside};
-use checks::{least, refusal};
 use kinds::Side;
+use refusals::Refusal;
 use reports::write_closing;
 use scan::{Sets, run, sets_of, waiting_after};
 use table::layout::{POSITIONS_AT, RULES_AT, TABLE_WORDS};
@@ -44,39 +45,26 @@ pub struct Stream {
     pub closed: bool,
 }
 
-// The answer of an opening.
+// What an opening gives: a state, which is closed if the opening is refused.
 #[derive(Clone, Copy)]
 pub struct Opened {
-    pub number: u32,
+    pub refusal: Option<Refusal>,
     pub stream: Stream,
 }
 
-// The answer of a scan: its number, how many bytes it took, how many reports it wrote, how many
-// units of work it used, the next state.
+// What an accepted scan gives: how many bytes it took, how many reports it wrote, how many units of
+// work it used, the next state.
 #[derive(Clone, Copy)]
-pub struct Scanned {
-    pub number: u32,
+pub struct Progress {
     pub taken: usize,
     pub reports: usize,
     pub used: u64,
     pub stream: Stream,
 }
 
-// How far an accepted scan came: whether it stopped, how many bytes it took, how many reports it
-// wrote, the units that it did not use, the next state.
+// What an accepted closing gives: how many reports it wrote, the closed state.
 #[derive(Clone, Copy)]
-struct Advance {
-    pub stopped: bool,
-    pub taken: usize,
-    pub reports: usize,
-    pub left: u64,
-    pub stream: Stream,
-}
-
-// The answer of a closing.
-#[derive(Clone, Copy)]
-pub struct Closed {
-    pub number: u32,
+pub struct Ending {
     pub reports: usize,
     pub stream: Stream,
 }
@@ -103,16 +91,16 @@ fn fresh_state(rules: u64, positions: u64, closed: bool) -> Stream
 impl Stream {
     // Opens a stream over a table.
     pub fn open(words: &[u64]) -> Opened
-        ensures { result ≡ opened words.now }
+        ensures { opened_of result ≡ opened words.now }
     {
         if !table::is_table(words) {
             return Opened {
-                number: 1,
+                refusal: Some(Refusal::NoTable),
                 stream: fresh_state(0, 0, true),
             };
         }
         Opened {
-            number: 0,
+            refusal: None,
             stream: fresh_state(words[RULES_AT], words[POSITIONS_AT], false),
         }
     }
@@ -128,100 +116,72 @@ impl Stream {
         block: &[u8],
         ids: &mut [u32],
         offsets: &mut [u64],
-    ) -> Scanned
-        ensures answer { result ≡ scanned words.now self (call allowance block.now (lists ids.old offsets.old)) }
+    ) -> Result<Progress, Refusal>
+        ensures answer { scanned_of self result ≡ scanned words.now self (call allowance block.now (lists ids.old offsets.old)) }
         ensures lists { lists ids.new offsets.new ≡ scanned_lists words.now self (call allowance block.now (lists ids.old offsets.old)) }
     {
-        let number = refusal(self, words, block.len(), least(ids.len(), offsets.len()));
-        if number != 0 {
-            return Scanned {
-                number,
-                taken: 0,
-                reports: 0,
-                used: 0,
-                stream: self,
-            };
-        }
+        refusal(self, words, block.len(), ids.len().min(offsets.len()))?;
         let table = &words[0..TABLE_WORDS];
-        let r = self.advance(table, sets_of(table), false, allowance, block, ids, offsets);
-        let stream = r.stream;
-        Scanned {
-            number: 0,
-            taken: r.taken,
-            reports: r.reports,
-            used: allowance - r.left,
-            stream,
-        }
+        Ok(self.advance(table, sets_of(table), allowance, block, ids, offsets))
     }
 
-    // An accepted scan, with the sets of its table: all of it, or, where it may pause, up to a byte
-    // after which nothing is live.
+    // An accepted scan, with the sets of its table.
     fn advance(
         self,
         words: &[u64],
         sets: Sets,
-        pause: bool,
         allowance: u64,
         block: &[u8],
         ids: &mut [u32],
         offsets: &mut [u64],
-    ) -> Advance
+    ) -> Progress
         requires { (is_table words.now ≡ true) × SetsOf words.now sets × (self.taken + length block.now < 2 ^ 64) }
-        ensures { Advanced (automaton words.now) self allowance block.now (lists ids.old offsets.old) pause result (lists ids.new offsets.new) }
+        ensures { Advanced (automaton words.now) self allowance block.now (lists ids.old offsets.old) result (lists ids.new offsets.new) }
     {
-        let r = run(self, words, sets, pause, allowance, block, ids, offsets);
-        let before = r.before;
-        let waits = waiting_after(self, r.at, before, words, block);
-        let after = r.live;
+        let r = run(self, words, sets, allowance, block, ids, offsets);
+        let waits = waiting_after(self, r.at, r.before, words, block);
+        let live = r.live;
         let held = waits.held;
-        let last = r.side;
         let taken = self.taken + r.at as u64;
-        Advance {
-            stopped: r.stopped,
+        Progress {
             taken: r.at,
             reports: r.count,
-            left: r.left,
+            used: allowance - r.left,
             stream: Stream {
-                live: after,
+                live,
                 held,
                 reported: r.reported,
                 pending: waits.pending,
-                last,
+                last: r.side,
                 taken,
-                rules: self.rules,
-                positions: self.positions,
-                closed: self.closed,
+                ..self
             },
         }
     }
 
     // Closes the stream, and writes the reports that needed its end at the front of the lists.
-    pub fn close(mut self, words: &[u64], ids: &mut [u32], offsets: &mut [u64]) -> Closed
-        ensures answer { result ≡ closed words.now self (lists ids.old offsets.old) }
+    pub fn close(
+        mut self,
+        words: &[u64],
+        ids: &mut [u32],
+        offsets: &mut [u64],
+    ) -> Result<Ending, Refusal>
+        ensures answer { closed_of self result ≡ closed words.now self (lists ids.old offsets.old) }
         ensures lists { lists ids.new offsets.new ≡ closed_lists words.now self (lists ids.old offsets.old) }
     {
-        let number = refusal(self, words, 0, least(ids.len(), offsets.len()));
-        if number != 0 {
-            return Closed {
-                number,
-                reports: 0,
-                stream: self,
-            };
-        }
+        refusal(self, words, 0, ids.len().min(offsets.len()))?;
         let reports = write_closing(self, words, ids, offsets);
         self.closed = true;
-        Closed {
-            number: 0,
+        Ok(Ending {
             reports,
             stream: self,
-        }
+        })
     }
 
     // How many positions are live.
     pub fn busy(self) -> u32
         ensures { result ≡ busy_of self }
     {
-        let live = self.live;
-        sets::size(live)
+        sets::size(self.live)
     }
 }

@@ -9,10 +9,10 @@ ghost use Rattle.steps.specs.Step.{rules_where};
 ghost use Rattle.stream.specs.Byte.{given, run_reports, two_reports, held_test, end_test};
 ghost use Rattle.stream.specs.Valid.{pending_inside};
 ghost use Rattle.stream.specs.Calls.{lists, space};
-ghost use Rattle.stream.specs.Invariants.{Wrote, WroteTwo, Delivered, Ended};
+ghost use Rattle.stream.specs.Invariants.{Wrote, WroteTwo, DeliveredBy, Ended};
 
 use super::Stream;
-use super::checks::least;
+use sets::Digits;
 use steps::{closing, in_window, rule_id, singles};
 
 // What a run leaves: the place after its last report, and the marks afterwards.
@@ -26,7 +26,7 @@ pub(super) struct Run {
 pub(super) fn due(ending: u64, reported: u64) -> usize
     ensures { result ≡ count 64 (λ a. on ending a && not (on reported a)) }
 {
-    u64::count_ones(ending & !reported) as usize
+    (ending & !reported).count_ones() as usize
 }
 
 // Writes one run into the lists from place `from` on, and marks its single-match rules. The word
@@ -48,13 +48,11 @@ pub(super) fn write_run(
         (automaton words.now).rules) ≤ space (lists ids.old offsets.old)) }
     ensures { Wrote (automaton words.now) (on ending) reported (given (automaton words.now) end) from (lists ids.old offsets.old) result.next result.reported (lists ids.new offsets.new) }
 {
-    let mut due = ending & !reported;
     let mut n = from;
-    while due != 0 {
-        ids[n] = rule_id(words, u64::trailing_zeros(due) as usize) as u32;
+    for a in Digits(ending & !reported) {
+        ids[n] = rule_id(words, a) as u32;
         offsets[n] = end;
         n += 1;
-        due = due & (due - 1);
     }
     Run {
         next: n,
@@ -97,17 +95,8 @@ fn write_two(
     )
 }
 
-// What one byte's runs come to: whether the free space is too small for their reports, how many
-// were written, and the marks afterwards.
-#[derive(Clone, Copy)]
-pub(super) struct Delivery {
-    pub full: bool,
-    pub reports: usize,
-    pub reported: u64,
-}
-
 // Writes both runs of one byte, the late one at the offset before it, into what is free of the
-// lists, if all their reports fit there. Both words have digits of rules alone.
+// lists, if all their reports fit there; if not, none. Both words have digits of rules alone.
 pub(super) fn deliver(
     late: u64,
     own: u64,
@@ -117,17 +106,13 @@ pub(super) fn deliver(
     before: u64,
     ids: &mut [u32],
     offsets: &mut [u64],
-) -> Delivery
+) -> Option<Run>
     requires { (is_table words.now ≡ true) × (singles ≡ rules_where (automaton words.now) (single (automaton words.now))) × (late ≡ rules_where (automaton words.now) (on late)) × (own ≡ rules_where (automaton words.now) (on own)) × (before + 1 < 2 ^ 64) }
-    ensures { Delivered (automaton words.now) (on late) (on own) reported (given (automaton words.now) before) (given (automaton words.now) (suc before)) (lists ids.old offsets.old) result.full result.reports result.reported (lists ids.new offsets.new) }
+    ensures { DeliveredBy (automaton words.now) (on late) (on own) reported (given (automaton words.now) before) (given (automaton words.now) (suc before)) (lists ids.old offsets.old) result (lists ids.new offsets.new) }
 {
     let marks = reported | late & singles;
-    if least(ids.len(), offsets.len()) < due(late, reported) + due(own, marks) {
-        return Delivery {
-            full: true,
-            reports: 0,
-            reported,
-        };
+    if ids.len().min(offsets.len()) < due(late, reported) + due(own, marks) {
+        return None;
     }
     let run = write_two(
         late,
@@ -140,18 +125,14 @@ pub(super) fn deliver(
         ids,
         offsets,
     );
-    Delivery {
-        full: false,
-        reports: run.next,
-        reported: run.reported,
-    }
+    Some(run)
 }
 
 // The offset before the last byte, where there is one.
 fn before_last(taken: u64) -> u64
     ensures { result ≡ taken - 1 }
 {
-    if taken == 0 { 0 } else { taken - 1 }
+    taken.saturating_sub(1)
 }
 
 // The rules with a held pair, and those of which a match needs the stream's end, that may report at
@@ -167,10 +148,7 @@ fn end_rules(s: Stream, words: &[u64]) -> u64
     requires { is_table words.now ≡ true }
     ensures { result ≡ rules_where (automaton words.now) (end_test (automaton words.now) s) }
 {
-    let live = s.live;
-    let held = s.held;
-    let last = s.last;
-    in_window(closing(last, live, held, words), s.taken, words)
+    in_window(closing(s.last, s.live, s.held, words), s.taken, words)
 }
 
 // Writes both runs of a closing at the front of the lists: the held pairs, then those that need the

@@ -1,15 +1,15 @@
 -- Emptying. The words of `emptied t` are known one by one, so what the loop writes is `emptied t`;
 -- the result passes the test and describes the automaton with no rules.
-use Rattle.std.proofs.Common.{◌≡◌, ℕ, zero, suc, pred, ◌+◌, ◌-◌, ◌<◌, ◌≤◌, true, false, cond, not, ◌&&◌, ◌||◌, eqb, ltb, leb, List, ◌++◌, length, get_or, drop, set, sym, refl, ap, ◌∙◌, le_of_suc-le-suc, arith, length-append, length-drop, length-set, get_or-drop, get_or-set_other, get_or-set_same, get_or-append-add, le-ltb, lt-ltb}
+use Rattle.std.proofs.Common.{◌≡◌, ℕ, zero, suc, pred, ◌+◌, ◌-◌, ◌<◌, ◌≤◌, true, false, cond, not, ◌&&◌, ◌||◌, eqb, ltb, leb, List, [], ◌∷◌, ◌++◌, length, get_or, drop, set, sym, refl, ap, ◌∙◌, le_of_suc-le-suc, arith, length-append, length-drop, get_or-drop, get_or-append-add, le-ltb, lt-ltb}
 use mathlib.Core.Bool.{and-false}
-use lib.ListN.{length-replicate, get_or-replicate, get_or-append}
+use borrow.Rule.Slice.PartMut.{put_mid}
+use lib.ListN.{replicate, length-replicate, get_or-replicate, get_or-append}
 use Rattle.sets.specs.Set.{on}
-use Rattle.sets.proofs.Digits.{on-zero}
+use Rattle.sets.proofs.Bits.{on-zero}
 use Rattle.table.specs.Layout.{table_words, max_rules, max_positions, bytes, format, rules_of, windowed_at, windowed_of, lowest_at, highest_at, lengths_at, shortest_at, first_at, last_at, lates_at, keepers_at, takers_at, follow_at, id_at, opener_at, owner_at, row_has}
 use Rattle.table.specs.Gaps.{first_gaps, follow_gaps, last_gaps}
 use Rattle.table.specs.Table.{is_table, empty_table, empty_number, emptied}
 use Rattle.table.specs.Automaton.{Automaton, automaton}
-use Rattle.table.proofs.Over.{over, over-is}
 use Rattle.table.proofs.Rows.{under, row-empty}
 use Rattle.table.proofs.Test.{accepted}
 
@@ -54,7 +54,7 @@ module _ (t : List ℕ) (h : table_words ≤ length t) where
   unfolding empty_number
   number-long = rw (le-ltb (length t) table_words h)
 
-  emptied-long : emptied t ≡ empty_table ++ drop table_words t
+  pub emptied-long : emptied t ≡ empty_table ++ drop table_words t
   unfolding emptied
   emptied-long = rw (le-ltb (length t) table_words h)
 
@@ -80,19 +80,6 @@ module _ (t : List ℕ) (h : table_words ≤ length t) where
       ∙ ap (λ (i : ℕ). get_or (empty_table ++ drop table_words t) i 0) (sym e)
       ∙ get_or-append-add empty_table (drop table_words t) (w - table_words) 0
       ∙ get_or-drop table_words t (w - table_words) 0 ∙ ap (λ (i : ℕ). get_or t i 0) f
-
-  -- the format first, then zeros
-  pub emptied-is : over 1 table_words (λ w. 0) (set t 0 format) ≡ emptied t
-  emptied-is =
-      sym (over-is 1 table_words (λ w. 0) (set t 0 format) (emptied t) (length-emptied ∙ sym (length-set t 0 format))
-      (λ w a b l. emptied-zero w a b)
-      (λ w a. low w (omega arith))
-      (λ w a. emptied-past w a ∙ sym (get_or-set_other t 0 w format 0 (omega arith))))
-    where
-      low : (w : ℕ) → w ≡ 0 → get_or (emptied t) w 0 ≡ get_or (set t 0 format) w 0
-      low w e =
-          ap (λ (i : ℕ). get_or (emptied t) i 0) e ∙ emptied-format ∙ sym (get_or-set_same t 0 format 0 (omega arith))
-          ∙ ap (λ (i : ℕ). get_or (set t 0 format) i 0) (sym e)
 
   -- ---- it is a table
 
@@ -155,3 +142,12 @@ module _ (t : List ℕ) (h : table_words ≤ length t) where
           → (j k q : ℕ) → (ltb j n && (ltb k m && row_has (emptied t) (place j k) q)) ≡ false
       tests n m place fits j k q =
           under n j (λ b. b && (ltb k m && row_has (emptied t) (place j k) q)) (λ b. false) (λ h. test m (place j) (λ k l. fits j k h l) k q) refl
+
+-- ---- the format first, then n zeros, is the emptied table
+
+pub filled-is : (t s : List ℕ) (n : ℕ) → table_words ≤ length t → n ≡ pred table_words → s ≡ replicate n 0
+    → put_mid 1 (pred table_words) (set t 0 format) s ≡ emptied t
+unfolding empty_table
+filled-is [] s n h e f = absurd (omega arith)
+filled-is (x ∷ t) s n h e f =
+    ap (λ (l : List ℕ). format ∷ (l ++ drop (pred table_words) t)) (f ∙ ap (λ (k : ℕ). replicate k 0) e) ∙ sym (emptied-long (x ∷ t) h)

@@ -7,7 +7,7 @@ use lib.Bits.{bit_and, bit_or, or_lt, and_le_l}
 use lib.Pow.{pow-lt}
 use borrow.Author.Tests.{lt-leb}
 use Rattle.sets.specs.Set.{on, word_of, count}
-use Rattle.sets.proofs.Digits.{on_or, on_and, on-not, on-zero, on-pow, on-word_of, word_of-ext, word_of-on, word_of-lt, count_add, count-never}
+use Rattle.sets.proofs.Bits.{on_or, on_and, on-not, on-zero, on-pow, on-word_of, word_of-ext, word_of-on, word_of-lt, count_add, count-never}
 
 -- ---- numbers below n
 

@@ -3,6 +3,10 @@
 -- is an `over` where each of its words is (`over-is`).
 use Rattle.std.proofs.Common.{◌≡◌, ℕ, zero, suc, ◌+◌, ◌-◌, ◌<◌, ◌≤◌, Bool, true, false, cond, ◌&&◌, ltb, leb, List, [], ◌∷◌, length, get_or, drop, set, sym, refl, ap, ◌∙◌, ap₂, le_of_suc-le-suc, not-suc-le-zero, add-zero, zero-add, arith, length-drop, length-set, get_or-drop, get_or-set_other, get_or-set_same, ext_get_or, le-ltb, lt-ltb, le-leb}
 use mathlib.Core.Bool.{and-false}
+use borrow.Rule.Slice.PartMut.{put_mid}
+use Rattle.std.proofs.Common.{◌++◌, take, length-append}
+use Rattle.std.proofs.lemmas.List.{get_or_append_left, get_or-append_right, get_or-take, length-take-le, length-replicate, get_or-replicate}
+use Rattle.std.proofs.Math.ListN.{replicate}
 use native.Mathlib.Decide.{dec_lt}
 use lib.ListN.{get_or-eq_default}
 use borrow.Author.Tests.{lt-leb}
@@ -191,3 +195,50 @@ written_all {lo} {hi} {hi'} {g} {t} r e = r.is ∙ ap (λ (n : ℕ). over lo n g
 
 pub written-all-down : {lo lo' hi : ℕ} {g : ℕ → ℕ} {t s : List ℕ} → Written lo hi g t s → lo ≡ lo' → s ≡ over lo' hi g t
 written-all-down {lo} {lo'} {hi} {g} {t} r e = r.is ∙ ap (λ (n : ℕ). over n hi g t) e
+
+-- ---- a part of a list, written whole
+
+-- the words from `at` on, once n of them were written as a part
+pub over-part : (at n : ℕ) (g : ℕ → ℕ) (t s : List ℕ) → at + n ≤ length t → length s ≡ n
+    → ((w : ℕ) → w < n → get_or s w 0 ≡ g (at + w)) → put_mid at n t s ≡ over at (at + n) g t
+over-part at n g t s h e each = over-is at (at + n) g t (put_mid at n t s) long inside below above
+  where
+    front : length (take at t) ≡ at
+    front = length-take-le at t (omega arith)
+
+    long : length (put_mid at n t s) ≡ length t
+    long = omega (arith, length-append (take at t) (s ++ drop n (drop at t)), length-append s (drop n (drop at t)), length-drop n (drop at t), length-drop at t, front)
+
+    inside : (w : ℕ) → at ≤ w → w < at + n → w < length t → get_or (put_mid at n t s) w 0 ≡ g w
+    inside w a b l =
+        let back : at + (w - at) ≡ w = omega arith in
+        get_or-append_right (take at t) (s ++ drop n (drop at t)) at w 0 front a
+        ∙ get_or_append_left s (drop n (drop at t)) 0 (w - at) (omega arith) ∙ each (w - at) (omega arith) ∙ ap g back
+
+    below : (w : ℕ) → w < at → get_or (put_mid at n t s) w 0 ≡ get_or t w 0
+    below w a = get_or_append_left (take at t) (s ++ drop n (drop at t)) 0 w (omega (arith, front)) ∙ get_or-take at t w 0 a
+
+    above : (w : ℕ) → at + n ≤ w → get_or (put_mid at n t s) w 0 ≡ get_or t w 0
+    above w a =
+        let back : at + (n + (w - at - n)) ≡ w = omega arith in
+        get_or-append_right (take at t) (s ++ drop n (drop at t)) at w 0 front (omega arith)
+        ∙ get_or-append_right s (drop n (drop at t)) n (w - at) 0 e (omega arith) ∙ get_or-drop n (drop at t) (w - at - n) 0
+        ∙ get_or-drop at t (n + (w - at - n)) 0 ∙ ap (λ (k : ℕ). get_or t k 0) back
+
+-- `t[at..at + n].copy_from_slice(&s)`, where r is what the part holds then
+pub copied-part : (at n : ℕ) (t s r : List ℕ) → at + n ≤ length t → length s ≡ n → r ≡ s
+    → put_mid at (at + n - at) t r ≡ over at (at + n) (λ w. get_or s (w - at) 0) t
+copied-part at n t s r h e same =
+    let size : at + n - at ≡ n = omega arith in
+    ap₂ (λ (k : ℕ) (x : List ℕ). put_mid at k t x) size same
+    ∙ over-part at n (λ w. get_or s (w - at) 0) t s h e (λ w l. let back : at + w - at ≡ w = omega arith in ap (λ (k : ℕ). get_or s k 0) (sym back))
+
+-- `t[lo..hi].fill(v)`, likewise
+pub filled-part : (lo hi v : ℕ) (t r : List ℕ) → lo ≤ hi → hi ≤ length t → r ≡ replicate (length (take (hi - lo) (drop lo t))) v
+    → put_mid lo (hi - lo) t r ≡ over lo hi (λ w. v) t
+filled-part lo hi v t r a b e =
+    let up : lo + (hi - lo) ≡ hi = omega arith in
+    let size : length (take (hi - lo) (drop lo t)) ≡ hi - lo = length-take-le (hi - lo) (drop lo t) (omega (arith, length-drop lo t)) in
+    let all : r ≡ replicate (hi - lo) v = e ∙ ap (λ (k : ℕ). replicate k v) size in
+    over-part lo (hi - lo) (λ w. v) t r (omega arith) (ap length all ∙ length-replicate (hi - lo) v)
+    (λ w l. ap (λ (x : List ℕ). get_or x w 0) all ∙ get_or-replicate (hi - lo) w v 0 l) ∙ ap (λ (k : ℕ). over lo k (λ w. v) t) up

@@ -1,5 +1,6 @@
 // The gaps of a stream by number, as specs/Gaps.antt has them: which of a table's sets are meant at
 // a gap.
+// Numbers and no enum: they are the places of the sets in a table, whose words C lends.
 ghost use Rattle.std.specs.Prelude.{◌≡◌};
 ghost use Rattle.table.specs.Gaps.{between, before_last, at_the_end, at_the_start, gap_of, first_gap};
 
@@ -21,29 +22,25 @@ pub const FIRST_GAPS: usize = 17;
 pub const INNER_GAPS: usize = 7;
 
 // The gap between two bytes.
+#[tactic(auto, unfolding(crate::specs::Gaps::between))]
 pub fn between(before: Side, after: Side) -> usize
     ensures { result ≡ between before after }
 {
-    match after {
-        Side::Newline => match before {
-            Side::Other => 2,
-            Side::Word => 3,
-            Side::Newline => 4,
-        },
-        Side::Other => match before {
-            Side::Other => 0,
-            Side::Word => 1,
-            Side::Newline => 5,
-        },
-        Side::Word => match before {
-            Side::Other => 1,
-            Side::Word => 0,
-            Side::Newline => 6,
-        },
+    match (before, after) {
+        (Side::Other, Side::Other) => 0,
+        (Side::Word, Side::Word) => 0,
+        (Side::Other, Side::Word) => 1,
+        (Side::Word, Side::Other) => 1,
+        (Side::Other, Side::Newline) => 2,
+        (Side::Word, Side::Newline) => 3,
+        (Side::Newline, Side::Newline) => 4,
+        (Side::Newline, Side::Other) => 5,
+        (Side::Newline, Side::Word) => 6,
     }
 }
 
 // The gap between a byte and a newline that is the last byte.
+#[tactic(auto, unfolding(crate::specs::Gaps::before_last))]
 pub fn before_last(before: Side) -> usize
     ensures { result ≡ before_last before }
 {
@@ -55,6 +52,7 @@ pub fn before_last(before: Side) -> usize
 }
 
 // The stream's end after a byte.
+#[tactic(auto, unfolding(crate::specs::Gaps::at_the_end))]
 pub fn at_end(before: Side) -> usize
     ensures { result ≡ at_the_end before }
 {
@@ -66,6 +64,7 @@ pub fn at_end(before: Side) -> usize
 }
 
 // The stream's start before a byte.
+#[tactic(auto, unfolding(crate::specs::Gaps::at_the_start))]
 fn at_start(after: Side) -> usize
     ensures { result ≡ at_the_start after }
 {
@@ -77,6 +76,7 @@ fn at_start(after: Side) -> usize
 }
 
 // The gap between two bytes; where `line` is true, the second is a newline and the last byte.
+#[tactic(auto, unfolding(crate::specs::Gaps::gap_of))]
 pub fn gap_of(line: bool, before: Side, after: Side) -> usize
     ensures { result ≡ gap_of line before after }
 {

@@ -80,8 +80,3 @@ pub const KNOWN_FLAGS: u64 = 271;
 pub const SINGLE: u32 = 8;
 
 pub const LEFTMOST: u32 = 256;
-
-// The numbers that answer: accepted, and refused for too few words or words that are no table.
-pub const ACCEPTED: u32 = 0;
-
-pub const NO_TABLE: u32 = 1;

@@ -9,15 +9,17 @@ pub mod gaps;
 pub mod layout;
 
 ghost use Rattle.std.specs.Prelude.{◌≡◌, ◌+◌, ◌<◌, ◌≤◌, length, slice_index};
+ghost use Rattle.refusals.specs.Refusal.{code_of};
 ghost use Rattle.sets.specs.Set.{set_of};
 ghost use Rattle.table.specs.Layout.{table_words, max_rules, row_has};
 ghost use Rattle.table.specs.Table.{id_ok, all, is_table, empty_number, emptied};
 ghost use Rattle.table.specs.Invariants.{Unordered};
 
 use layout::{
-    ACCEPTED, FORMAT, FORMAT_AT, ID_LIMIT, IDS_AT, MAX_POSITIONS, MAX_RULES, NO_TABLE,
-    POSITIONS_AT, RULES_AT, SET_WORDS, TABLE_WORDS,
+    FORMAT, FORMAT_AT, ID_LIMIT, IDS_AT, MAX_POSITIONS, MAX_RULES, POSITIONS_AT, RULES_AT,
+    SET_WORDS, TABLE_WORDS,
 };
+use refusals::Refusal;
 
 // The word at `at`; past the end there are zeros.
 pub fn word(words: &[u64], at: usize) -> u64
@@ -41,10 +43,7 @@ fn cut_row(words: &[u64], at: usize) -> [u64; 4]
 pub fn row(words: &[u64], at: usize) -> [u64; 4]
     ensures { result ≡ set_of (row_has words.now at) }
 {
-    if words.len() < SET_WORDS {
-        return cut_row(words, at);
-    }
-    if words.len() - SET_WORDS < at {
+    if words.len() < SET_WORDS || words.len() - SET_WORDS < at {
         return cut_row(words, at);
     }
     [words[at], words[at + 1], words[at + 2], words[at + 3]]
@@ -55,7 +54,7 @@ pub fn row(words: &[u64], at: usize) -> [u64; 4]
 fn unordered(id: u64, next: u64) -> u64
     ensures { Unordered id next result }
 {
-    id | std::num::wrapping_sub_u64(next, std::num::wrapping_add_u64(id, 1))
+    id | next.wrapping_sub(id.wrapping_add(1))
 }
 
 // Whether each of the ids is in order: of 32 bits, and above the one before. The numbers that tell
@@ -69,10 +68,8 @@ fn ids_ok(words: &[u64], rules: usize) -> bool
     }
     let last = rules - 1;
     let mut joined = words[IDS_AT + last];
-    let mut a: usize = 0;
-    while a < last {
-        joined = joined | unordered(words[IDS_AT + a], words[IDS_AT + a + 1]);
-        a += 1;
+    for a in 0..last {
+        joined |= unordered(words[IDS_AT + a], words[IDS_AT + a + 1]);
     }
     joined < ID_LIMIT
 }
@@ -81,18 +78,11 @@ fn ids_ok(words: &[u64], rules: usize) -> bool
 pub fn is_table(words: &[u64]) -> bool
     ensures { result ≡ is_table words.now }
 {
-    if TABLE_WORDS > words.len() {
-        return false;
-    }
-    if words[FORMAT_AT] != FORMAT {
+    if words.len() < TABLE_WORDS || words[FORMAT_AT] != FORMAT {
         return false;
     }
     let rules = words[RULES_AT];
-    if MAX_RULES < rules {
-        return false;
-    }
-    let positions = words[POSITIONS_AT];
-    if MAX_POSITIONS < positions {
+    if MAX_RULES < rules || MAX_POSITIONS < words[POSITIONS_AT] {
         return false;
     }
     ids_ok(words, rules as usize)
@@ -100,17 +90,13 @@ pub fn is_table(words: &[u64]) -> bool
 
 // Writes the empty table over the first 16,384 words; fewer words are left as they are, and
 // refused.
-pub fn empty(words: &mut [u64]) -> u32
-    ensures { (result ≡ empty_number words.old) × (words.new ≡ emptied words.old) }
+pub fn empty(words: &mut [u64]) -> Result<(), Refusal>
+    ensures { (code_of result ≡ empty_number words.old) × (words.new ≡ emptied words.old) }
 {
     if words.len() < TABLE_WORDS {
-        return NO_TABLE;
+        return Err(Refusal::NoTable);
     }
     words[FORMAT_AT] = FORMAT;
-    let mut w: usize = 1;
-    while w < TABLE_WORDS {
-        words[w] = 0;
-        w += 1;
-    }
-    ACCEPTED
+    words[1..TABLE_WORDS].fill(0);
+    Ok(())
 }

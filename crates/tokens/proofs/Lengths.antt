@@ -16,12 +16,12 @@ use Rattle.atoms.specs.Quote.{is_mark}
 use Rattle.tokens.specs.Option.{plain, faulty, with_caseless, with_dot_all, with_lines, letters_of, before_close, comment_of, opening_of}
 use Rattle.tokens.specs.Quantifier.{no_form, bounded, open_ended, braces_of, form_of, marked, quantifier_of}
 use Rattle.tokens.specs.Token.{escaped, unquoted_of, spelled_of, faulty_as, lexeme_of}
-use Rattle.atoms.specs.declared.Part.{Part}
+use Rattle.atoms.specs.Escape.{Part}
 use Rattle.tokens.specs.declared.Options.{Options}
-use Rattle.tokens.specs.declared.Token.{Token}
-use Rattle.tokens.specs.declared.Token.TheVariants.{Finish, Bar, Close, Class, One, Open, Set, Note, Unclosed, Repeat, Bad}
-use Rattle.tokens.specs.declared.Form.{Form}
-use Rattle.tokens.specs.declared.Lexeme.{Lexeme}
+use Rattle.tokens.specs.Lexeme.{Token}
+use Rattle.tokens.specs.Lexeme.{Finish, Bar, Close, Class, One, Open, Set, Note, Unclosed, Repeat, Bad}
+use Rattle.tokens.specs.Quantifier.{Form}
+use Rattle.tokens.specs.Lexeme.{Lexeme}
 use Rattle.atoms.proofs.Suffixes.{inside}
 use Rattle.atoms.proofs.Sizes.{either, pick, byte-within, mark-within, Stands, escape-stands}
 

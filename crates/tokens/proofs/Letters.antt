@@ -1,18 +1,23 @@
 -- Openings, option letters and comments, as the functions read them: what each byte does, at the
 -- bytes from a place on. The byte 0, which stands for the pattern's end, is refused as a letter as
 -- the end is.
-use mathlib.Core.Path.{◌≡◌, refl, ◌∙◌}
-use mathlib.Core.Bool.{Bool, true, false, cond}
+use mathlib.Core.Path.{◌≡◌, refl, sym, ◌∙◌}
+use mathlib.Core.Bool.{Bool, true, false, cond, not}
 use mathlib.Core.List.{List, [], ◌∷◌}
 use Prim.Native.Nat.{ℕ, suc, ◌+◌, ◌-◌, ◌≤◌, ◌<◌}
-use borrow.Author.Tests.{ne_eqb, lt-ltb, le-ltb}
-use lib.Dec.{eqb}
+use native.Mathlib.Omega.{arith}
+use borrow.Author.Tests.{ne_eqb, lt-ltb, le-ltb, ltb-true, ltb-false}
+use Rattle.std.specs.Prelude.{Some, None, ◌==◌, position}
+use Rattle.std.specs.List.{position_or_len}
+use Rattle.std.proofs.lemmas.Option.{cond_some, none-some}
+use Rattle.std.proofs.lemmas.List.Sums.{prefix_len-le-length}
+use lib.Dec.{eqb, ltb}
 use lib.ListN.{length, get_or, drop, length-drop, drop_of_length-le}
 use lib.Seq.{get_or-drop, drop-drop}
 use Rattle.tokens.specs.Option.{plain, faulty, with_caseless, with_dot_all, with_lines, letters_of, before_close, comment_of, opening_of}
 use Rattle.tokens.specs.declared.Options.{Options}
-use Rattle.tokens.specs.declared.Token.TheVariants.{Open, Set, Note, Unclosed}
-use Rattle.tokens.specs.declared.Lexeme.{Lexeme}
+use Rattle.tokens.specs.Lexeme.{Open, Set, Note, Unclosed}
+use Rattle.tokens.specs.Lexeme.{Lexeme}
 use Rattle.atoms.proofs.Suffixes.{front, first}
 
 module _ (on any : Bool) (o : Options) (size : ℕ) where
@@ -73,26 +78,44 @@ opening-is o s at c d ec ed = rw (first s at, ← ec, get_or-drop at s 1 0, ← 
 
 -- ---- comments
 
-module _ (s : List ℕ) where
-  module _ (i : ℕ) where
-    pub before-end : length s ≤ i → before_close (drop i s) ≡ 0
-    unfolding before_close
-    before-end h = rw (drop_of_length-le s h)
+-- the bytes before the first `)`
+before-is : (v : List ℕ) → before_close v ≡ position_or_len (λ c. c == 41) v
+unfolding before_close
+before-is [] = refl
+before-is (c ∷ v) = go (eqb c 41) (before-is v)
+  where
+    go : (t : Bool) → before_close v ≡ position_or_len (λ c. c == 41) v
+        → cond t 0 (suc (before_close v)) ≡ cond (not t) (1 + position_or_len (λ c. c == 41) v) 0
+    go true h = refl
+    go false h = omega arith
 
-    pub before-close : i < length s → get_or s i 0 ≡ 41 → before_close (drop i s) ≡ 0
-    unfolding before_close
-    before-close h e = rw (front s i h, e)
+module _ (v : List ℕ) where
+  pub close-inside : (k : ℕ) → position (λ c. c == 41) v ≡ Some k → (before_close v ≡ k) × (k < length v)
+  close-inside k e =
+      let p = position_or_len (λ c. c == 41) v in
+      let f = cond_some (ltb p (length v)) p k e in
+      let within : p < length v = ltb-true p (length v) f.0 in
+      (before-is v ∙ f.1, omega (arith, f.1))
 
-    pub before_more : i < length s → (get_or s i 0 ≡ 41 → ⊥) → before_close (drop i s) ≡ suc (before_close (drop (i + 1) s))
-    unfolding before_close
-    before_more h f = rw (front s i h, ne_eqb _ _ f)
+  none-closes : position (λ c. c == 41) v ≡ None → before_close v ≡ length v
+  none-closes e = go (ltb (position_or_len (λ c. c == 41) v) (length v)) refl e
+    where
+      go : (t : Bool) → ltb (position_or_len (λ c. c == 41) v) (length v) ≡ t
+          → cond t (Some (position_or_len (λ c. c == 41) v)) None ≡ None → before_close v ≡ length v
+      go true h e = absurd (none-some (position_or_len (λ c. c == 41) v) (sym e))
+      go false h e =
+          omega (
+            arith,
+            before-is v,
+            ltb-false (position_or_len (λ c. c == 41) v) (length v) h,
+            prefix_len-le-length (λ c. not (c == 41)) v,
+          )
 
-  -- the comment after `at`, with k bytes before its end
-  module _ (o : Options) (at k : ℕ) (e : k ≡ before_close (drop at s)) where
-    pub comment-closed : k < length s - at → comment_of o (drop at s) ≡ plain (4 + k) (Note o)
+  module _ (o : Options) where
+    pub comment-closed : (k : ℕ) → position (λ c. c == 41) v ≡ Some k → comment_of o v ≡ plain (4 + k) (Note o)
     unfolding comment_of
-    comment-closed h = rw (← e, length-drop at s, lt-ltb k (length s - at) h)
+    comment-closed k e = let f = close-inside k e in rw (f.0, lt-ltb k (length v) f.1)
 
-    pub comment_open : length s - at ≤ k → comment_of o (drop at s) ≡ plain (3 + k) Unclosed
+    pub comment-open : position (λ c. c == 41) v ≡ None → comment_of o v ≡ plain (3 + length v) Unclosed
     unfolding comment_of
-    comment_open h = rw (← e, length-drop at s, le-ltb k (length s - at) h)
+    comment-open e = rw (none-closes e, le-ltb (length v) (length v) (omega arith))

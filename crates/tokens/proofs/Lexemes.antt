@@ -1,5 +1,5 @@
 -- Tokens outside a class, as the functions read them, at the bytes from a place on.
-use mathlib.Core.Path.{◌≡◌, sym, ◌∙◌}
+use mathlib.Core.Path.{◌≡◌, refl, sym, ap, ◌∙◌}
 use mathlib.Core.Bool.{false, cond}
 use mathlib.Core.List.{List}
 use Prim.Native.Nat.{ℕ, ◌+◌, ◌≤◌, ◌<◌}
@@ -10,14 +10,21 @@ use lib.ListN.{length, get_or, drop, length-drop, drop_of_length-le}
 use lib.Seq.{get_or-drop}
 use Rattle.tokens.specs.Option.{plain}
 use Rattle.tokens.specs.Quantifier.{form_of, marked, quantifier_of}
+use Rattle.std.specs.Prelude.{Option, Some, None}
+use Rattle.refusals.specs.declared.Refusal.{Refusal}
+use Rattle.refusals.specs.Refusal.{number_of}
+use Rattle.refusals.proofs.Laws.{number-above}
+use Rattle.atoms.specs.Answer.{fault}
+use Rattle.tokens.specs.declared as declared
+use Rattle.tokens.specs.Answer.{token_of, fault_of, lexeme}
 use Rattle.atoms.specs.Raw.{with_raw}
 use Rattle.atoms.specs.Quote.{is_mark, opens_quote}
 use Rattle.tokens.specs.Token.{with_quoted, unquoted_of, spelled_of, faulty_as, lexeme_of}
 use Rattle.atoms.specs.declared.Atom.TheVariants.{Byte}
 use Rattle.tokens.specs.declared.Options.{Options}
-use Rattle.tokens.specs.declared.Token.TheVariants.{Finish, One, Note}
-use Rattle.tokens.specs.declared.Form.{Form}
-use Rattle.tokens.specs.declared.Lexeme.{Lexeme}
+use Rattle.tokens.specs.Lexeme.{Finish, One, Note}
+use Rattle.tokens.specs.Quantifier.{Form}
+use Rattle.tokens.specs.Lexeme.{Lexeme}
 use Rattle.atoms.proofs.Suffixes.{front, first}
 use Rattle.atoms.proofs.Raws.{raw-none}
 use Rattle.tokens.proofs.Lengths.{form-counts}
@@ -42,6 +49,20 @@ module _ (s : List ℕ) (at : ℕ) where
         → lexeme_of o (drop at s) ≡ cond (eqb f 0) l (faulty_as f l.token)
     unfolding lexeme_of
     lexeme-at l f e ef = rw (← e, ← ef)
+
+    -- the same of the code's token l, whose fault with that of a raw byte is r
+    module _ (l : declared.Lexeme.Lexeme) (r : Option Refusal) (el : lexeme l ≡ spelled_of o (drop at s))
+        (er : fault r ≡ with_raw (fault_of l.token) l.size (drop at s)) where
+      pub sound-at : r ≡ None → lexeme l ≡ lexeme_of o (drop at s)
+      sound-at e =
+          sym (lexeme-at (lexeme l) (fault r) el er
+          ∙ ap (λ (r : Option Refusal). cond (eqb (fault r) 0) (lexeme l) (faulty_as (fault r) (token_of l.token))) e)
+
+      pub faulty-at : (x : Refusal) → r ≡ Some x → faulty_as (number_of x) (token_of l.token) ≡ lexeme_of o (drop at s)
+      faulty-at x e =
+          sym (lexeme-at (lexeme l) (fault r) el er
+          ∙ ap (λ (r : Option Refusal). cond (eqb (fault r) 0) (lexeme l) (faulty_as (fault r) (token_of l.token))) e
+          ∙ rw (ne_eqb (number_of x) 0 (λ z. omega (arith, number-above x))) refl)
 
     pub lexeme-end : length s ≤ at → lexeme_of o (drop at s) ≡ plain 0 Finish
     lexeme-end h = lexeme-at (plain 0 Finish) 0 (sym (spelled-end h)) (sym (raw-none 0 (drop at s)))

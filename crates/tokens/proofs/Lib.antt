@@ -3,3 +3,4 @@ pub mod Letters
 pub mod Forms
 pub mod Lengths
 pub mod Lexemes
+pub mod Tokens

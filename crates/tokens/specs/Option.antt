@@ -2,9 +2,9 @@
 -- these are definitions.
 use Rattle.std.specs.Prelude.{Bool, true, false, cond, List, [], ◌∷◌, ℕ, suc, ◌+◌, eqb, ltb, length, get_or, drop}
 use Rattle.tokens.specs.declared.Options.{Options}
-use Rattle.tokens.specs.declared.Token.{Token}
-use Rattle.tokens.specs.declared.Token.TheVariants.{Open, Set, Note, Unclosed, Bad}
-use Rattle.tokens.specs.declared.Lexeme.{Lexeme}
+use Rattle.tokens.specs.Lexeme.{Token}
+use Rattle.tokens.specs.Lexeme.{Open, Set, Note, Unclosed, Bad}
+use Rattle.tokens.specs.Lexeme.{Lexeme}
 
 -- a token of so many bytes
 abbrev pub plain : ℕ → Token → Lexeme

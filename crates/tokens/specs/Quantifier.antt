@@ -1,11 +1,19 @@
 -- Quantifiers with their mark. Assumes nothing: these are definitions.
-use Rattle.std.specs.Prelude.{true, false, cond, ◌&&◌, List, ℕ, ◌+◌, ◌-◌, eqb, leb, ltb, get_or, drop}
-use Rattle.atoms.specs.declared.Numeral.{Numeral}
-use Rattle.tokens.specs.declared.Form.{Form}
-use Rattle.tokens.specs.declared.Token.TheVariants.{Repeat}
-use Rattle.tokens.specs.declared.Lexeme.{Lexeme}
+use Rattle.std.specs.Prelude.{Bool, true, false, cond, ◌&&◌, List, ℕ, ◌+◌, ◌-◌, eqb, leb, ltb, get_or, drop}
+use Rattle.atoms.specs.Number.{Numeral}
+use Rattle.tokens.specs.Lexeme.{Repeat}
+use Rattle.tokens.specs.Lexeme.{Lexeme}
 use Rattle.atoms.specs.Number.{numeral_of, cap}
 use Rattle.atoms.specs.Fault.{lower}
+
+-- A quantifier without its mark: whether one stands here at all, its bytes, its fault 11 or 0, the
+-- least number of copies, and how many more.
+pub record Form : Type 0 where
+  pub is : Bool
+  pub size : ℕ
+  pub fault : ℕ
+  pub least : ℕ
+  pub extra : ℕ
 
 -- no quantifier stands here
 abbrev pub no_form : Form

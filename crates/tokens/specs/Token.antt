@@ -6,11 +6,11 @@ use Rattle.kinds.specs.Kind.{is_kind, is_not_kind}
 use Rattle.kinds.specs.Case.{case_closed}
 use Rattle.atoms.specs.declared.Atom.{Atom}
 use Rattle.atoms.specs.declared.Atom.TheVariants.{Byte, OfKind, NotOfKind, Dot, NotNewline, Start, LastLine, End, Caret, Dollar, WordEdge, NoWordEdge}
-use Rattle.atoms.specs.declared.Part.{Part}
+use Rattle.atoms.specs.Escape.{Part}
 use Rattle.tokens.specs.declared.Options.{Options}
-use Rattle.tokens.specs.declared.Token.{Token}
-use Rattle.tokens.specs.declared.Token.TheVariants.{Finish, Bar, Close, Class, One, Open, Set, Note, Unclosed, Repeat, Bad}
-use Rattle.tokens.specs.declared.Lexeme.{Lexeme}
+use Rattle.tokens.specs.Lexeme.{Token}
+use Rattle.tokens.specs.Lexeme.{Finish, Bar, Close, Class, One, Open, Set, Note, Unclosed, Repeat, Bad}
+use Rattle.tokens.specs.Lexeme.{Lexeme}
 use Rattle.atoms.specs.Escape.{escape_of}
 use Rattle.atoms.specs.Quote.{is_mark, opens_quote}
 use Rattle.atoms.specs.Raw.{with_raw}

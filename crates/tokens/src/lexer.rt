@@ -1,46 +1,46 @@
 // The token at a place outside a class, and the set of bytes that an item takes.
 ghost use Rattle.std.specs.Prelude.{◌≡◌, cond, ◌+◌, ◌<◌, length, get_or, drop};
+ghost use Rattle.refusals.specs.Refusal.{number_of};
+ghost use Rattle.atoms.specs.Answer.{fault, part};
+ghost use Rattle.tokens.specs.Answer.{lexeme, token, own_fault};
 ghost use Rattle.tokens.specs.Option.{plain};
 ghost use Rattle.tokens.specs.Quantifier.{form_of, quantifier_of};
 ghost use Rattle.atoms.specs.declared.Atom.TheVariants.{Byte};
-ghost use Rattle.tokens.specs.declared.Token.TheVariants.{One};
+ghost use Rattle.tokens.specs.Lexeme.{One};
 ghost use Rattle.tokens.specs.Token.{escaped, unquoted_of, spelled_of, faulty_as, lexeme_of, all_but_newline, item_set};
 
 use crate::option::{opening_at, plain, refused};
 use crate::quantifier::{form_at, marked_form};
 use crate::{Lexeme, Options, Token};
 use atoms::{Atom, Part, cased, escape_at, is_mark, peek, with_raw};
+use refusals::Refusal;
 
 // An escape as a token.
 fn escaped(p: Part) -> Lexeme
-    ensures { result ≡ escaped p }
+    ensures { lexeme result ≡ escaped (part p) }
 {
-    if p.fault == 0 {
-        let atom = p.atom;
-        return plain(p.size, Token::One(atom));
+    match p.atom {
+        Ok(atom) => plain(p.size, Token::One(atom)),
+        Err(refusal) => refused(refusal),
     }
-    refused(p.fault)
 }
 
 // At a byte that starts nothing else: a quantifier with its mark, or the byte itself.
 fn quantifier_or_byte(s: &[u8], at: usize) -> Lexeme
     requires { at < length s.now }
-    ensures { result ≡ cond (form_of (drop at s.now)).is (quantifier_of (drop at s.now))
+    ensures { lexeme result ≡ cond (form_of (drop at s.now)).is (quantifier_of (drop at s.now))
         (plain 1 (One (Byte (get_or s.now at 0)))) }
 {
-    let q = form_at(s, at);
-    let is = q.is;
-    if is {
-        let mark = at + q.size;
-        return marked_form(q, peek(s, mark));
+    match form_at(s, at) {
+        Some(q) => marked_form(q, peek(s, at + q.size)),
+        None => plain(1, Token::One(Atom::Byte(s[at]))),
     }
-    plain(1, Token::One(Atom::Byte(s[at])))
 }
 
 // What the byte at a place starts outside a quote.
 fn unquoted(s: &[u8], at: usize, options: Options) -> Lexeme
     requires { at < length s.now }
-    ensures { result ≡ unquoted_of options (get_or s.now at 0) (drop (at + 1) s.now) }
+    ensures { lexeme result ≡ unquoted_of options (get_or s.now at 0) (drop (at + 1) s.now) }
 {
     let c = s[at];
     match c {
@@ -59,7 +59,7 @@ fn unquoted(s: &[u8], at: usize, options: Options) -> Lexeme
 // What stands at a place outside a class, where the options are these, with its faults but that of
 // a raw control byte.
 fn spelled(s: &[u8], at: usize, options: Options) -> Lexeme
-    ensures { result ≡ spelled_of options (drop at s.now) }
+    ensures { lexeme result ≡ spelled_of options (drop at s.now) }
 {
     if s.len() <= at {
         return plain(0, Token::Finish);
@@ -70,10 +70,8 @@ fn spelled(s: &[u8], at: usize, options: Options) -> Lexeme
         return plain(
             2,
             Token::Note(Options {
-                caseless: options.caseless,
-                dotall: options.dotall,
-                lines: options.lines,
                 quoted: d == b'Q',
+                ..options
             }),
         );
     }
@@ -83,31 +81,41 @@ fn spelled(s: &[u8], at: usize, options: Options) -> Lexeme
     unquoted(s, at, options)
 }
 
-// A token with a fault.
-fn faulty_as(fault: u32, token: Token) -> Lexeme
-    ensures { result ≡ faulty_as fault token }
+// The fault of a token that is a quantifier.
+fn own_fault(token: Token) -> Option<Refusal>
+    ensures { fault result ≡ own_fault token }
 {
     match token {
-        Token::Repeat { least: _, extra: _ } => Lexeme {
-            fault,
-            size: 0,
-            token: Token::Repeat { least: 0, extra: 0 },
-        },
-        _ => refused(fault),
+        Token::Repeat(copies) => copies.err(),
+        _ => None,
+    }
+}
+
+// A token with a fault.
+fn faulty_as(refusal: Refusal, t: Token) -> Lexeme
+    ensures { lexeme result ≡ faulty_as (number_of refusal) (token t) }
+{
+    match t {
+        Token::Repeat(_) => plain(0, Token::Repeat(Err(refusal))),
+        _ => refused(refusal),
     }
 }
 
 // What stands at a place outside a class, where the options are these.
 pub fn token_at(s: &[u8], at: usize, options: Options) -> Lexeme
-    ensures { result ≡ lexeme_of options (drop at s.now) }
+    ensures { lexeme result ≡ lexeme_of options (drop at s.now) }
 {
     let l = spelled(s, at, options);
-    let fault = with_raw(s, at, l.size, l.fault);
-    if fault == 0 {
-        return l;
+    match l.token {
+        Ok(token) => match with_raw(s, at, l.size, own_fault(token)) {
+            None => l,
+            Some(refusal) => faulty_as(refusal, token),
+        },
+        Err(besides) => match with_raw(s, at, l.size, Some(besides)) {
+            None => l,
+            Some(refusal) => refused(refusal),
+        },
     }
-    let token = l.token;
-    faulty_as(fault, token)
 }
 
 // Every byte but 10.

@@ -11,6 +11,7 @@ mod quantifier;
 
 use atoms::Atom;
 pub use lexer::{item_set, token_at};
+use refusals::Refusal;
 
 // How the bytes at a place are read: the options `i`, `s` and `m`, and whether a quote is open.
 #[derive(Clone, Copy)]
@@ -42,27 +43,29 @@ pub enum Token {
     Note(Options),
     // a comment that is not closed
     Unclosed,
-    // a quantifier: the least number of copies, and how many more; 65,536 more is any number
-    Repeat { least: u32, extra: u32 },
-    // none of these
-    Bad,
+    // a quantifier, which stays one where it is faulty: it also has the fault of what stands before
+    // it
+    Repeat(Result<Copies, Refusal>),
 }
 
-// A quantifier without its mark: whether one stands here at all, its bytes, its fault 11 or 0, the
-// least number of copies, and how many more; 65,536 more is any number.
+// How many copies a quantifier asks for: the least number, and how many more; 65,536 more is any
+// number.
 #[derive(Clone, Copy)]
-pub struct Form {
-    pub is: bool,
-    pub size: usize,
-    pub fault: u32,
+pub struct Copies {
     pub least: u32,
     pub extra: u32,
 }
 
-// A token with its own lowest fault or 0, and the bytes it takes; 0 bytes where it is faulty.
+// A quantifier without its mark: its bytes, and its copies or its fault.
+#[derive(Clone, Copy)]
+pub struct Form {
+    pub size: usize,
+    pub copies: Result<Copies, Refusal>,
+}
+
+// A token or its own lowest fault, and the bytes it takes; 0 bytes where it is faulty.
 #[derive(Clone, Copy)]
 pub struct Lexeme {
-    pub fault: u32,
     pub size: usize,
-    pub token: Token,
+    pub token: Result<Token, Refusal>,
 }

@@ -1,46 +1,47 @@
 // What begins with `(`: openings, option settings, comments, and what is refused.
-ghost use Rattle.std.specs.Prelude.{◌≡◌, cond, true, false, ◌≤◌, length, drop};
-ghost use Rattle.tokens.specs.Option.{plain, faulty, letters_of, comment_of, opening_of};
+ghost use Rattle.std.specs.Prelude.{◌≡◌, Ok, cond, true, false, ◌==◌, ◌≤◌, length, position, drop};
+ghost use Rattle.refusals.specs.Refusal.{number_of};
+ghost use Rattle.tokens.specs.Option.{faulty, letters_of, comment_of, opening_of};
+ghost use Rattle.tokens.specs.Answer.{lexeme, told};
 
 use crate::{Lexeme, Options, Token};
-use atoms::peek;
+use atoms::{peek, rest};
+use refusals::Refusal;
 
 // A token of so many bytes.
 pub(super) fn plain(size: usize, token: Token) -> Lexeme
-    ensures { result ≡ plain size token }
+    ensures { lexeme result ≡ told size (Ok token) }
 {
     Lexeme {
-        fault: 0,
         size,
-        token,
+        token: Ok(token),
     }
 }
 
 // A faulty token.
-pub(super) fn refused(fault: u32) -> Lexeme
-    ensures { result ≡ faulty fault }
+pub(super) fn refused(refusal: Refusal) -> Lexeme
+    ensures { lexeme result ≡ faulty (number_of refusal) }
 {
     Lexeme {
-        fault,
         size: 0,
-        token: Token::Bad,
+        token: Err(refusal),
     }
 }
 
 // The end of an option setting or of an option group's opening: it must have a letter.
 fn lettered(any: bool, size: usize, token: Token) -> Lexeme
-    ensures { result ≡ cond any (plain size token) (faulty 14) }
+    ensures { lexeme result ≡ cond any (told size (Ok token)) (faulty 14) }
 {
     if any {
         return plain(size, token);
     }
-    refused(14)
+    refused(Refusal::Unsupported)
 }
 
 // After `(?`: letters, on before a hyphen and off after it, applied left to right.
 fn letters(s: &[u8], at: usize, options: Options) -> Lexeme
     requires { at ≤ length s.now }
-    ensures { result ≡ letters_of true false options 2 (drop at s.now) }
+    ensures { lexeme result ≡ letters_of true false options 2 (drop at s.now) }
 {
     let mut caseless = options.caseless;
     let mut dotall = options.dotall;
@@ -50,6 +51,7 @@ fn letters(s: &[u8], at: usize, options: Options) -> Lexeme
     let mut any = false;
     let mut i = at;
     let mut size: usize = 2;
+    // Each letter changes the options that hold for the next: a `for` is no plainer.
     loop {
         let c = peek(s, i);
         i += 1;
@@ -69,7 +71,7 @@ fn letters(s: &[u8], at: usize, options: Options) -> Lexeme
             }
             b'-' => {
                 if !on {
-                    return refused(14);
+                    return refused(Refusal::Unsupported);
                 }
                 on = false;
             }
@@ -93,33 +95,36 @@ fn letters(s: &[u8], at: usize, options: Options) -> Lexeme
                     quoted,
                 }),
             ),
-            _ => return refused(14),
+            _ => return refused(Refusal::Unsupported),
         }
     }
+}
+
+// Where the first `)` stands.
+fn closing(s: &[u8]) -> Option<usize>
+    ensures { result ≡ position (λ c. c == 41) s.now }
+{
+    s.iter().position(|c| *c == b')')
 }
 
 // After `(?#`: a comment, up to the first `)`.
 fn comment(s: &[u8], at: usize, options: Options) -> Lexeme
-    requires { at ≤ length s.now }
-    ensures { result ≡ comment_of options (drop at s.now) }
+    ensures { lexeme result ≡ comment_of options (drop at s.now) }
 {
-    let mut i = at;
-    while i < s.len() {
-        if s[i] == b')' {
-            return plain(4 + (i - at), Token::Note(options));
-        }
-        i += 1;
+    let text = rest(s, at);
+    match closing(text) {
+        Some(end) => plain(4 + end, Token::Note(options)),
+        None => plain(3 + text.len(), Token::Unclosed),
     }
-    plain(3 + (i - at), Token::Unclosed)
 }
 
 // After `(`.
 pub(super) fn opening_at(s: &[u8], at: usize, options: Options) -> Lexeme
-    ensures { result ≡ opening_of options (drop at s.now) }
+    ensures { lexeme result ≡ opening_of options (drop at s.now) }
 {
     let c = peek(s, at);
     if c == b'*' {
-        return refused(14);
+        return refused(Refusal::Unsupported);
     }
     if c == b'?' {
         let d = peek(s, at + 1);

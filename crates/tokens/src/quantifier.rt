@@ -1,53 +1,36 @@
 // Quantifiers with their mark. A brace that starts no complete form is no quantifier, so whether
 // one stands at a place is part of the answer.
-ghost use Rattle.std.specs.Prelude.{◌≡◌, true, ◌≤◌, ◌<◌, ◌^◌, length, drop};
-ghost use Rattle.tokens.specs.Quantifier.{no_form, form, bounded, open_ended, braces_of, form_of, marked};
+ghost use Rattle.std.specs.Prelude.{◌≡◌, Some, true, ◌≤◌, ◌<◌, ◌^◌, length, drop};
+ghost use Rattle.tokens.specs.Answer.{quantifier, lexeme};
+ghost use Rattle.tokens.specs.Quantifier.{form, bounded, open_ended, braces_of, form_of, marked};
 
-use crate::{Form, Lexeme, Token};
+use crate::{Copies, Form, Lexeme, Token};
 use atoms::{CAP, decimal_at, lower, peek};
-
-// No quantifier.
-fn no_form() -> Form
-    ensures { result ≡ no_form }
-{
-    Form {
-        is: false,
-        size: 0,
-        fault: 0,
-        least: 0,
-        extra: 0,
-    }
-}
+use refusals::Refusal;
 
 // At least so many copies, and so many more.
 fn sound_form(size: usize, least: u32, extra: u32) -> Form
-    ensures { result ≡ form size least extra }
+    ensures { quantifier (Some result) ≡ form size least extra }
 {
     Form {
-        is: true,
         size,
-        fault: 0,
-        least,
-        extra,
+        copies: Ok(Copies { least, extra }),
     }
 }
 
-// A quantifier with fault 11.
+// A quantifier whose numbers are refused.
 fn refused_form(size: usize) -> Form
-    ensures { result ≡ record { is = true; size = size; fault = 11; least = 0; extra = 0 } }
+    ensures { quantifier (Some result) ≡ record { is = true; size = size; fault = 11; least = 0; extra = 0 } }
 {
     Form {
-        is: true,
         size,
-        fault: 11,
-        least: 0,
-        extra: 0,
+        copies: Err(Refusal::BadCount),
     }
 }
 
 // From lo to hi copies.
 fn bounded_form(size: usize, lo: u32, hi: u32) -> Form
-    ensures { result ≡ bounded size lo hi }
+    ensures { quantifier (Some result) ≡ bounded size lo hi }
 {
     if (lo < CAP) & ((hi < CAP) & (lo <= hi)) {
         return sound_form(size, lo, hi - lo);
@@ -57,7 +40,7 @@ fn bounded_form(size: usize, lo: u32, hi: u32) -> Form
 
 // lo copies or more.
 fn open_form(size: usize, lo: u32) -> Form
-    ensures { result ≡ open_ended size lo }
+    ensures { quantifier (Some result) ≡ open_ended size lo }
 {
     if lo < CAP {
         return sound_form(size, lo, CAP);
@@ -66,74 +49,66 @@ fn open_form(size: usize, lo: u32) -> Form
 }
 
 // After an opening brace.
-fn brace_form(s: &[u8], at: usize) -> Form
+fn brace_form(s: &[u8], at: usize) -> Option<Form>
     requires { at ≤ length s.now }
-    ensures { result ≡ braces_of (drop at s.now) }
+    ensures { quantifier result ≡ braces_of (drop at s.now) }
 {
     let a = decimal_at(s, at);
-    let from = a.some;
-    let lo = a.value;
-    let digits = a.size;
-    let comma = at + digits;
-    let c = peek(s, comma);
-    if c == b'}' {
-        if from {
-            return bounded_form(2 + digits, lo, lo);
+    let comma = at + a.size;
+    match peek(s, comma) {
+        b'}' => match a.value {
+            Some(n) => Some(bounded_form(2 + a.size, n, n)),
+            None => None,
+        },
+        b',' => {
+            let b = decimal_at(s, comma + 1);
+            let size = 3 + (a.size + b.size);
+            if peek(s, comma + (1 + b.size)) != b'}' {
+                return None;
+            }
+            match (a.value, b.value) {
+                (lo, Some(hi)) => Some(bounded_form(size, lo.unwrap_or(0), hi)),
+                (Some(lo), None) => Some(open_form(size, lo)),
+                (None, None) => None,
+            }
         }
-        return no_form();
+        _ => None,
     }
-    let b = decimal_at(s, comma + 1);
-    let to = b.some;
-    let hi = b.value;
-    let more = b.size;
-    let size = 3 + (digits + more);
-    if (c == b',') & (peek(s, comma + (1 + more)) == b'}') {
-        if to {
-            return bounded_form(size, lo, hi);
-        }
-        if from {
-            return open_form(size, lo);
-        }
-        return no_form();
-    }
-    no_form()
 }
 
 // The quantifier at a place, without its mark.
-pub(super) fn form_at(s: &[u8], at: usize) -> Form
-    ensures { result ≡ form_of (drop at s.now) }
+pub(super) fn form_at(s: &[u8], at: usize) -> Option<Form>
+    ensures { quantifier result ≡ form_of (drop at s.now) }
 {
     let c = peek(s, at);
     match c {
-        b'?' => sound_form(1, 0, 1),
-        b'*' => sound_form(1, 0, CAP),
-        b'+' => sound_form(1, 1, CAP),
+        b'?' => Some(sound_form(1, 0, 1)),
+        b'*' => Some(sound_form(1, 0, CAP)),
+        b'+' => Some(sound_form(1, 1, CAP)),
         b'{' => brace_form(s, at + 1),
-        _ => no_form(),
+        _ => None,
     }
 }
 
 // A quantifier with the byte after it, which may be its mark: a `?` is taken, a `+` is refused.
 pub(super) fn marked_form(q: Form, mark: u8) -> Lexeme
     requires { q.size < 2 ^ 63 }
-    ensures { result ≡ marked q mark }
+    ensures { lexeme result ≡ marked (quantifier (Some q)) mark }
 {
-    let possessive = if mark == b'+' { 14 } else { 0 };
+    let possessive = if mark == b'+' {
+        Some(Refusal::Unsupported)
+    } else {
+        None
+    };
     let lazy = if mark == b'?' { 1 } else { 0 };
-    let fault = lower(q.fault, possessive);
-    if fault == 0 {
-        return Lexeme {
-            fault: 0,
+    match lower(q.copies.err(), possessive) {
+        None => Lexeme {
             size: q.size + lazy,
-            token: Token::Repeat {
-                least: q.least,
-                extra: q.extra,
-            },
-        };
-    }
-    Lexeme {
-        fault,
-        size: 0,
-        token: Token::Repeat { least: 0, extra: 0 },
+            token: Ok(Token::Repeat(q.copies)),
+        },
+        Some(refusal) => Lexeme {
+            size: 0,
+            token: Ok(Token::Repeat(Err(refusal))),
+        },
     }
 }

@@ -9,7 +9,7 @@ use lib.Dec.{eqb, ltb}
 use lib.ListN.{length, replicate}
 use borrow.Author.Tests.{eqb-true, not-true}
 use Rattle.sets.specs.Set.{on, has, any, is_empty}
-use Rattle.sets.proofs.Digits.{on_and, on-zero, on-word_of}
+use Rattle.sets.proofs.Bits.{on_and, on-zero, on-word_of}
 use Rattle.sets.proofs.Laws.{any_none, has-intersection}
 use Rattle.kinds.specs.declared.Side.{Side}
 use Rattle.kinds.specs.Side.{side_of}

@@ -8,6 +8,10 @@ use native.Mathlib.Omega.{arith}
 use lib.Bits.{bit_and}
 use lib.ListN.{length, get_or}
 use borrow.Author.Tests.{eq-eqb, ne_eqb, ltb-true, eqb-true, not-true}
+use Rattle.std.specs.Prelude.{Ok, Err}
+use Rattle.refusals.specs.declared.Refusal.{Refusal}
+use Rattle.refusals.specs.Refusal.{number_of}
+use Rattle.refusals.proofs.Laws.{number-above}
 use Rattle.sets.specs.Set.{on, has, any}
 use Rattle.sets.proofs.Laws.{any_none}
 use Rattle.table.specs.Layout.{max_rules, max_positions}
@@ -26,7 +30,7 @@ use Rattle.traced.specs.declared.Traced.{Traced}
 use Rattle.traced.specs.declared.scan.Turn.{Turn}
 use Rattle.traced.specs.Byte.{Report, given, end_long, end_start, close_reports, traced}
 use Rattle.starts.specs.Order.{start_ok, starts_ok}
-use Rattle.traced.specs.Calls.{Lists, Call, space, written, taken_by, call_number, scanned, scanned_lists, close_number, closed, closed_lists}
+use Rattle.traced.specs.Calls.{Lists, Call, space, written, taken_by, call_number, scanned, scanned_of, scanned_lists, close_number, closed, closed_of, closed_lists}
 use Rattle.traced.specs.Invariants.{at, Small, RuleStarts, WroteTwo, Ended, Ran}
 use Rattle.traced.proofs.Accepting.{in_order}
 use Rattle.traced.proofs.Carrying.{empty-if}
@@ -123,15 +127,14 @@ pairs_small z e small a lt =
 -- ---- the answers
 
 module _ (t : List ℕ) (z : Traced) (c : Call) where
-  pub refused-scan : (number : ℕ) → number ≡ call_number t z c → ¬ (number ≡ 0)
-      → (record { number = number; taken = 0; reports = 0; used = 0; traced = z } ≡ scanned t z c) × (c.slots ≡ scanned_lists t z c)
+  pub refused-scan : (r : Refusal) → number_of r ≡ call_number t z c → (scanned_of z (Err r) ≡ scanned t z c) × (c.slots ≡ scanned_lists t z c)
   unfolding scanned scanned_lists
-  refused-scan number is bad =
-      let no = ne_eqb (call_number t z c) 0 (λ e. bad (is ∙ e)) in
+  refused-scan r is =
+      let no = ne_eqb (call_number t z c) 0 (λ e. omega (arith, number-above r, is, e)) in
       (ap (λ (n : ℕ). record { number = n; taken = 0; reports = 0; used = 0; traced = z }) is ∙ sym (rw no), sym (rw no))
 
-  pub accepted-scan : call_number t z c ≡ 0 → (r : Turn) (k : Starts) (l' : Lists) → Ran (automaton t) z c.allowance c.block c.slots r k l'
-      → (record { number = 0; taken = r.at; reports = r.count; used = c.allowance - r.left; traced = record { stream = r.stream; starts = k } } ≡ scanned t z c)
+  pub accepted-scan : 0 ≡ call_number t z c → (r : Turn) (k : Starts) (l' : Lists) → Ran (automaton t) z c.allowance c.block c.slots r k l'
+      → (scanned_of z (Ok (record { taken = r.at; reports = r.count; used = c.allowance - r.left; traced = record { stream = r.stream; starts = k } })) ≡ scanned t z c)
       × (l' ≡ scanned_lists t z c)
   unfolding scanned scanned_lists taken_by
   accepted-scan ok r k l' h =
@@ -142,7 +145,7 @@ module _ (t : List ℕ) (z : Traced) (c : Call) where
       fits-is (traced w) z c.block c.allowance (space c.slots) r.at (length c.block) run.inside
       (subst (λ (n : ℕ). n ≤ space c.slots) run.filled.count_is run.filled.room)
       (paid r.left (cost_by (traced w) z c.block r.at) c.allowance run.paid) h.rests in
-      let yes = eq-eqb (call_number t z c) 0 ok in (
+      let yes = eq-eqb (call_number t z c) 0 (sym ok) in (
         (λ i. record {
           number = 0;
           taken = sym taken i;
@@ -160,18 +163,17 @@ module _ (t : List ℕ) (z : Traced) (c : Call) where
       used a b n e = omega arith
 
 module _ (t : List ℕ) (z : Traced) (l : Lists) where
-  pub refused-close : (number : ℕ) → number ≡ close_number t z (space l) → ¬ (number ≡ 0)
-      → (record { number = number; reports = 0; traced = z } ≡ closed t z l) × (l ≡ closed_lists t z l)
+  pub refused-close : (r : Refusal) → number_of r ≡ close_number t z (space l) → (closed_of z (Err r) ≡ closed t z l) × (l ≡ closed_lists t z l)
   unfolding closed closed_lists
-  refused-close number is bad =
-      let no = ne_eqb (close_number t z (space l)) 0 (λ e. bad (is ∙ e)) in
+  refused-close r is =
+      let no = ne_eqb (close_number t z (space l)) 0 (λ e. omega (arith, number-above r, is, e)) in
       (ap (λ (n : ℕ). record { number = n; reports = 0; traced = z }) is ∙ sym (rw no), sym (rw no))
 
-  pub accepted-close : close_number t z (space l) ≡ 0 → (reports : ℕ) (l' : Lists) → Ended (automaton t) z l reports l'
-      → (record { number = 0; reports = reports; traced = record { stream = shut z.stream; starts = z.starts } } ≡ closed t z l) × (l' ≡ closed_lists t z l)
+  pub accepted-close : 0 ≡ close_number t z (space l) → (reports : ℕ) (l' : Lists) → Ended (automaton t) z l reports l'
+      → (closed_of z (Ok (record { reports = reports; traced = record { stream = shut z.stream; starts = z.starts } })) ≡ closed t z l) × (l' ≡ closed_lists t z l)
   unfolding closed closed_lists
   accepted-close ok reports l' h =
-      let yes = eq-eqb (close_number t z (space l)) 0 ok in (
+      let yes = eq-eqb (close_number t z (space l)) 0 (sym ok) in (
         ap (λ (n : ℕ). record { number = 0; reports = n; traced = record { stream = shut z.stream; starts = z.starts } }) h.reports_are ∙ sym (rw yes),
         h.lists_are ∙ sym (rw yes),
       )

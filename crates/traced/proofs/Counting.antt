@@ -7,7 +7,7 @@ use lib.Bits.{bit_or, or_add_and, and_le_l, and_le_r}
 use lib.Dec.{ltb}
 use borrow.Author.Tests.{le-ltb}
 use Rattle.sets.specs.Set.{on, count}
-use Rattle.sets.proofs.Digits.{on-zero}
+use Rattle.sets.proofs.Bits.{on-zero}
 use Rattle.sets.proofs.Laws.{count-never}
 
 none-counted : (word : ℕ) (marks : ℕ) → word ≡ 0 → count 64 (λ a. on word a && not (on marks a)) ≡ 0

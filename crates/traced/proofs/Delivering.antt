@@ -1,16 +1,15 @@
 -- The reports of one byte. The words of the rules that end say what the tests say, and the start
 -- for each place is that of the definition wherever a rule reports.
 use mathlib.Core.Path.{◌≡◌, refl, sym, ap, ap₂, subst, ◌∙◌}
-use mathlib.Core.Bool.{Bool, true, false, true≢false, cond, not, ◌&&◌, and-eq-true_iff}
+use mathlib.Core.Bool.{Bool, true, false, cond, not, ◌&&◌, and-eq-true_iff}
 use mathlib.Core.List.{List, [], ◌∷◌, ◌++◌}
 use Prim.Native.Nat.{ℕ, zero, suc, ◌+◌, ◌^◌, ◌<◌, ◌≤◌}
 use native.Mathlib.Nat.{add-zero, lt_of_le_of_lt}
 use native.Mathlib.Omega.{arith}
 use lib.Bits.{bit_and, bit_or}
 use lib.ListN.{length}
-use borrow.Author.Tests.{lt-ltb, le-ltb}
 use Rattle.sets.specs.Set.{on, has, count}
-use Rattle.sets.proofs.Digits.{on_and, on-zero}
+use Rattle.sets.proofs.Bits.{on_and, on-zero}
 use Rattle.sets.proofs.Smallest.{smallest-under}
 use Rattle.table.specs.Layout.{max_rules, max_positions}
 use Rattle.table.specs.Automaton.{Automaton, single, last}
@@ -25,7 +24,7 @@ use Rattle.traced.specs.declared.Starts.{Starts}
 use Rattle.traced.specs.declared.Traced.{Traced}
 use Rattle.traced.specs.Byte.{Start, Report, from, none, given, late_long, own_long, stream_next, late_start, own_start, next_starts, byte_reports}
 use Rattle.traced.specs.Calls.{Lists, space, written}
-use Rattle.traced.specs.Invariants.{at, zeros, written_at, Small, RuleStarts, Wrote, Carried, Gone, Delivered}
+use Rattle.traced.specs.Invariants.{at, zeros, written_at, Small, RuleStarts, Wrote, Carried, Gone}
 use Rattle.traced.proofs.Lists.{written-at-none}
 use Rattle.traced.proofs.Runs.{first-room, second-room, wrote-two}
 
@@ -181,24 +180,6 @@ module _ (w : Automaton) (few : w.rules ≤ 64) (leftmost : ℕ) (flags : leftmo
     marks_are = wrote.marks_are;
     lists_are = wrote.lists_are ∙ ap (λ (r : List Report). written_at first n r l) run_by;
   }
-
--- the reports do not fit, or all are written
-pub delivered-full : {w : Automaton} {z : Traced} {x first : ℕ} {l : Lists} (n room : ℕ) → n ≡ length (byte_reports w z x) → room ≡ space l → room < n
-    → (reports marks : ℕ) (some waits : Bool) → Delivered w z x first l true reports marks some waits z.starts l
-delivered-full {w} {z} {x} {l = l} n room e f h reports marks some waits = record {
-  full_if = sym (lt-ltb (space l) (length (byte_reports w z x)) (omega arith));
-  stays = λ q. (refl, refl);
-  goes = λ q. absurd (true≢false q);
-}
-
-pub delivered-gone : {w : Automaton} {z : Traced} {x first : ℕ} {l : Lists} {reports marks : ℕ} {some waits : Bool} {k : Starts} {l' : Lists} (full : Bool)
-    → full ≡ false → length (byte_reports w z x) ≤ space l → Gone w z x first l reports marks some waits k l'
-    → Delivered w z x first l full reports marks some waits k l'
-delivered-gone {w} {z} {x} {l = l} full e room h = record {
-  full_if = e ∙ sym (le-ltb (space l) (length (byte_reports w z x)) room);
-  stays = λ q. absurd (true≢false (sym q ∙ e));
-  goes = λ q. h;
-}
 
 -- all starts at once
 pub carried : {w : Automaton} {z : Traced} {x : ℕ} {some waits : Bool} {k : Starts} → k ≡ next_starts w z x

@@ -15,7 +15,7 @@ use lib.ListN.{length, get_or}
 use borrow.Author.Tests.{ne_eqb, lt-ltb, le-ltb}
 use Rattle.sets.specs.Set.{on, has, empty_set, is_empty}
 use Rattle.sets.proofs.Laws.{has-empty, has-intersection, any-never}
-use Rattle.sets.proofs.Digits.{on-zero}
+use Rattle.sets.proofs.Bits.{on-zero}
 use Rattle.kinds.specs.Side.{side_of}
 use Rattle.table.specs.Layout.{max_rules, max_positions}
 use Rattle.table.specs.Gaps.{between, before_last, unsettled}
@@ -296,7 +296,6 @@ passed {w} {block} {y} {to} quiet says end small r is = subst (λ (u : Turn). Pa
           left = (ap (λ (n : ℕ). y.left - n) zero ∙ sub-zero y.left) i;
           some = y.some;
           waits = y.waits;
-          stopped = y.stopped;
         })
       where
         sub-zero : (n : ℕ) → n - 0 ≡ n

@@ -8,8 +8,12 @@ use native.Mathlib.Omega.{arith}
 use native.Mathlib.Decide.{ℕ_discrete}
 use lib.ListN.{length, get_or}
 use borrow.Author.Tests.{eq-eqb, ne_eqb}
+use Rattle.std.specs.Prelude.{Result, Ok, Err}
+use Rattle.std.specs.Result.{IsOk}
+use Rattle.refusals.specs.declared.Refusal.{Refusal}
+use Rattle.refusals.proofs.Laws.{number-above}
 use Rattle.sets.specs.Set.{has, size_of}
-use Rattle.sets.proofs.Digits.{count-le}
+use Rattle.sets.proofs.Bits.{count-le}
 use Rattle.table.specs.Layout.{max_positions, rules_of, positions_of}
 use Rattle.table.specs.Table.{is_table}
 use Rattle.table.specs.Automaton.{Automaton, automaton}
@@ -23,11 +27,11 @@ use Rattle.stream.proofs.TwoRuns.{two-few}
 use Rattle.stream.proofs.Blocks.{first_fits, taken-after}
 use Rattle.stream.proofs.Results.{opened-stream, opened-sound, fitting-next}
 use Rattle.traced.specs.declared.Traced.{Traced}
-use Rattle.traced.specs.declared.Scanned.{Scanned}
-use Rattle.traced.specs.declared.Closed.{Closed}
 use Rattle.traced.specs.Byte.{Report, given, counted, late_long, own_long, late_start, own_start, stream_next, next_state, byte_reports, traced, close_reports}
 use Rattle.traced.specs.Valid.{valid}
-use Rattle.traced.specs.Calls.{Lists, Call, opened, space, written, close_number, call_number, taken_by, scanned, scanned_lists, closed}
+use Rattle.traced.specs.declared.Progress.{Progress}
+use Rattle.traced.specs.declared.Ending.{Ending}
+use Rattle.traced.specs.Calls.{Scanned, Closed, Lists, Call, opened, space, written, close_number, call_number, taken_by, scanned, scanned_of, scanned_lists, closed, closed_of}
 use Rattle.traced.proofs.Accepting.{in_order, both, Accepted, accepted, close-number}
 use Rattle.traced.proofs.Same.{stream_after}
 use Rattle.traced.proofs.Ordered.{order-after, order-none}
@@ -190,3 +194,14 @@ module _ (t : List ℕ) where
         let e = opened-is in
         both w (opened t).traced (opened-sound t table)
         (order-none (opened t).traced.stream (ap (λ (s : Stream). s.live) e) (ap (λ (s : Stream). s.held) e) (ap (λ (s : Stream). s.pending) e))
+
+-- ---- what a function gives
+
+-- a call of number 0 is accepted
+pub scan-ok : (z : Traced) (r : Result Progress Refusal) → (scanned_of z r).number ≡ 0 → IsOk r
+scan-ok z (Ok p) e = refl
+scan-ok z (Err r) e = absurd (omega (arith, number-above r, e))
+
+pub close-ok : (z : Traced) (r : Result Ending Refusal) → (closed_of z r).number ≡ 0 → IsOk r
+close-ok z (Ok p) e = refl
+close-ok z (Err r) e = absurd (omega (arith, number-above r, e))

@@ -1,6 +1,6 @@
 -- Runs of reports with starts. They are written as those of a stream are, from the lowest digit on:
 -- what is left to report loses its first report, and the word that digit.
-use mathlib.Core.Path.{◌≡◌, sym, ap, ap₂, ◌∙◌}
+use mathlib.Core.Path.{◌≡◌, sym, ap, ap₂, subst, ◌∙◌}
 use mathlib.Core.Bool.{Bool, true, false, true≢false, not, ◌&&◌, and-true}
 use mathlib.Core.List.{List, [], ◌∷◌, ◌++◌, append-nil, append_assoc}
 use Prim.Native.Nat.{ℕ, suc, ◌+◌, ◌-◌, ◌^◌, ◌<◌, ◌≤◌}
@@ -9,8 +9,10 @@ use native.Mathlib.Decide.{dec_lt}
 use native.Mathlib.Omega.{arith}
 use lib.Bits.{bit_and, and_le_l}
 use lib.ListN.{length, set, length-append}
+use Rattle.std.specs.Prelude.{Some}
 use Rattle.sets.specs.Set.{on}
-use Rattle.sets.proofs.Digits.{on-zero}
+use Rattle.sets.specs.Walk.{GivesLowest}
+use Rattle.sets.proofs.Bits.{on-zero}
 use Rattle.table.specs.Automaton.{Automaton}
 use Rattle.table.proofs.Members.{on-places-past, on-without}
 use Rattle.steps.specs.Step.{rules_where}
@@ -32,18 +34,17 @@ pub record Writing (w : Automaton) (ending marks : ℕ) (give : ℕ → Report) 
   pub next_is : n ≡ from + length done
   pub lists_are : l ≡ written_at first from done l₀
 
--- what a turn needs: the lowest rule is one of the table's, and there is a place for its report
-pub record Turn (w : Automaton) (l₀ : Lists) (left n : ℕ) : Type 0 where
-  pub ruled : lowest left < w.rules
-  pub digit : lowest left < 64
-  pub some : 1 ≤ left
+-- what a turn needs: the rule is one of the table's, and there is a place for its report
+pub record Turn (w : Automaton) (l₀ : Lists) (a n : ℕ) : Type 0 where
+  pub ruled : a < w.rules
   pub room : n < space l₀
 
 pub writing_start : (w : Automaton) (ending marks : ℕ) (give : ℕ → Report) (first from : ℕ) (l₀ : Lists)
     → ending < 2 ^ 64 → marks < 2 ^ 64 → ending ≡ rules_where w (on ending) → w.rules ≤ 64
-    → Writing w ending marks give first from l₀ l₀ (bit_and ending (2 ^ 64 - 1 - marks)) from
-writing_start w ending marks give first from l₀ h l is few =
-    record {
+    → {left : ℕ} → left ≡ bit_and ending (2 ^ 64 - 1 - marks) → Writing w ending marks give first from l₀ l₀ left from
+writing_start w ending marks give first from l₀ h l is few e =
+    subst (λ (x : ℕ). Writing w ending marks give first from l₀ l₀ x from) (sym e)
+    (record {
       small = lt_of_le_of_lt (and_le_l ending (2 ^ 64 - 1 - marks)) h;
       ruled = λ a m k.
           on-without ending marks a l k
@@ -57,7 +58,7 @@ writing_start w ending marks give first from l₀ h l is few =
           ∙ and-true (due (on ending) marks a));
       next_is = sym (add-zero from);
       lists_are = sym (written-at-none first l₀ from);
-    }
+    })
 
 module _ {w : Automaton} {ending marks : ℕ} {give : ℕ → Report} {first from : ℕ} {l₀ l : Lists}
     {left n : ℕ} (h : Writing w ending marks give first from l₀ l left n)
@@ -75,28 +76,29 @@ module _ {w : Automaton} {ending marks : ℕ} {give : ℕ → Report} {first fro
   pub writing-long : AsLong l l₀
   writing-long = long-written first from h.done h.lists_are enough
 
-  module _ (some : ¬ (left ≡ 0)) where
-    low : (lowest left < 64) × (on left (lowest left) ≡ true)
-    low = lowest-on left h.small some
+  -- the next digit of the walk
+  module _ {a v : ℕ} (g : GivesLowest left (Some a) v) where
+    some : ¬ (left ≡ 0)
+    some e = omega (arith, g.0, e)
+
+    low : on left (lowest left) ≡ true
+    low = (lowest-on left h.small some).1
 
     ruled : lowest left < w.rules
     ruled = go (dec_lt (lowest left) w.rules)
       where
         go : Dec (lowest left < w.rules) → lowest left < w.rules
         go (yes m) = m
-        go (no m) =
-            absurd (true≢false (sym low.1 ∙ h.ruled (lowest left) (omega arith) low.0))
+        go (no m) = absurd (true≢false (sym low ∙ h.ruled (lowest left) (omega arith) (omega (arith, g.2, g.3))))
 
     head : reports_in left give w.rules
         ≡ give (lowest left) ∷ reports_in (without left) give w.rules
     head = lowest-first left h.small some give w.rules ruled
 
-    pub writing-turn : Turn w l₀ left n
+    pub writing-turn : Turn w l₀ a n
     writing-turn =
         record {
-          ruled = ruled;
-          digit = low.0;
-          some = omega arith;
+          ruled = omega (arith, ruled, g.3);
           room =
               inside n from (length h.done) (length (reports_in left give w.rules)) (length (reports_in (without left) give w.rules))
               (length (run_reports (on ending) marks give w.rules)) (space l₀) parts (ap length head) h.next_is room;
@@ -107,12 +109,13 @@ module _ {w : Automaton} {ending marks : ℕ} {give : ℕ → Report} {first fro
 
     -- its report is stored, and its digit cleared
     pub writing-again : {l' : Lists}
-        → l' ≡ lists (set l.ids n (give (lowest left)).pair.id) (set l.offsets n (give (lowest left)).pair.end)
-        (set l.starts n (in_stream (give (lowest left)).start)) (set l.relatives n (from_offset first (give (lowest left)).start))
-        → Writing w ending marks give first from l₀ l' (without left) (n + 1)
-    writing-again e =
+        → l' ≡ lists (set l.ids n (give a).pair.id) (set l.offsets n (give a).pair.end)
+        (set l.starts n (in_stream (give a).start)) (set l.relatives n (from_offset first (give a).start))
+        → Writing w ending marks give first from l₀ l' v (n + 1)
+    writing-again {l'} e =
         let r : Report = give (lowest left) in
-        record {
+        subst (λ (x : ℕ). Writing w ending marks give first from l₀ l' x (n + 1)) (sym g.4)
+        (record {
           small = omega (arith, without-less left h.small some, h.small);
           ruled = λ a m k.
               sym (without-same left h.small some a (omega (arith, ruled))) ∙ h.ruled a m k;
@@ -123,10 +126,11 @@ module _ {w : Automaton} {ending marks : ℕ} {give : ℕ → Report} {first fro
           next_is = omega (arith, h.next_is, length-append h.done (r ∷ []));
           lists_are =
               e
+              ∙ ap (λ (k : ℕ). lists (set l.ids n (give k).pair.id) (set l.offsets n (give k).pair.end) (set l.starts n (in_stream (give k).start)) (set l.relatives n (from_offset first (give k).start))) g.3
               ∙ ap (λ (x : Lists). lists (set x.ids n r.pair.id) (set x.offsets n r.pair.end) (set x.starts n (in_stream r.start)) (set x.relatives n (from_offset first r.start)))
               h.lists_are
               ∙ written-store first l₀ from n h.done r h.next_is writing-turn.room;
-        }
+        })
 
   -- once nothing is left
   pub writing-done : left ≡ 0 → {marks' : ℕ} → marks' ≡ run_marks w (on ending) marks

@@ -2,7 +2,7 @@
 -- promise. Some bytes: `Running` says what holds once they are taken, and where the loop stops one
 -- more byte would not fit.
 use mathlib.Core.Path.{◌≡◌, refl, sym, ap, subst, ◌∙◌}
-use mathlib.Core.Bool.{Bool, true, false, true≢false, cond, not}
+use mathlib.Core.Bool.{Bool, true, false}
 use mathlib.Core.Logic.{◌⊎◌, inl, inr}
 use mathlib.Core.List.{List, [], ◌++◌}
 use Prim.Native.Nat.{ℕ, zero, suc, ◌+◌, ◌-◌, ◌<◌, ◌≤◌, zero-le}
@@ -10,7 +10,7 @@ use native.Mathlib.Nat.{add-zero, add-suc}
 use native.Mathlib.Numerals.{add-one}
 use native.Mathlib.Omega.{arith}
 use lib.ListN.{length, get_or, length-append}
-use borrow.Author.Tests.{ltb-true, ltb-false}
+use Rattle.std.specs.Prelude.{None, Some}
 use Rattle.sets.specs.Set.{is_empty}
 use Rattle.kinds.specs.Side.{side_of}
 use Rattle.table.specs.Automaton.{Automaton}
@@ -22,9 +22,10 @@ use Rattle.stream.proofs.Machines.{after_more, reports-more, cost-more}
 use Rattle.traced.specs.declared.Starts.{Starts}
 use Rattle.traced.specs.declared.Traced.{Traced}
 use Rattle.traced.specs.declared.scan.Turn.{Turn}
+use Rattle.traced.specs.declared.scan.Delivery.{Delivery}
 use Rattle.traced.specs.Byte.{pending_long, stream_next, next_starts, next_state, byte_reports, traced}
 use Rattle.traced.specs.Calls.{Lists, space}
-use Rattle.traced.specs.Invariants.{InOrder, free, back, stop_at, Filled, Gone, Delivered, Stops, Takes, Offered, Running, Ran}
+use Rattle.traced.specs.Invariants.{InOrder, free, back, Filled, Gone, Delivered, Stops, Takes, Running, Ran}
 use Rattle.traced.proofs.Carrying.{only_next, none_only, none-pairs}
 use Rattle.traced.proofs.Lists.{written_none, written-part, written-at-none, free-space, filled-start, filled-space, filled_more, filled-same}
 
@@ -32,56 +33,49 @@ module _ (w : Automaton) (z : Traced) (first : ℕ) (block : List ℕ) (y : Turn
   abbrev x : ℕ
   x = get_or block y.at 0
 
-  -- a turn that stops, all as it was
-  pub offered-stop : (r : Turn) (k : Starts) (l' : Lists) → r ≡ stop_at y → k ≡ z.starts → l' ≡ l
-      → (y.at < length block → (space l < y.count + length (byte_reports w z x)) ⊎ (y.left < suc (busy_of z.stream))) → Offered w z first block y l r k l'
-  offered-stop r k l' is same lists over = record {
-    stops = λ e. record { over = over; is = is; starts_are = same; lists_are = lists };
-    takes = λ e. absurd (true≢false (sym (ap (λ (t : Turn). t.stopped) is) ∙ e));
-  }
+  -- the loop stops, all as it was
+  offered-stop : (k : Starts) (l' : Lists) → k ≡ z.starts → l' ≡ l
+      → (y.at < length block → (space l < y.count + length (byte_reports w z x)) ⊎ (y.left < suc (busy_of z.stream))) → Stops w z block y l k l'
+  offered-stop k l' same lists over = record { over = over; starts_are = same; lists_are = lists }
 
-  pub offered-end : (r : Turn) → r ≡ stop_at y → length block ≤ y.at → Offered w z first block y l r z.starts l
-  offered-end r is h = offered-stop r z.starts l is refl refl (λ b. absurd (omega arith))
+  pub offered-end : length block ≤ y.at → Stops w z block y l z.starts l
+  offered-end h = offered-stop z.starts l refl refl (λ b. absurd (omega arith))
 
-  pub offered-unpaid : (r : Turn) → r ≡ stop_at y → (turns : ℕ) → turns ≡ busy_of z.stream → y.left < 1 + turns → Offered w z first block y l r z.starts l
-  offered-unpaid r is turns e h = offered-stop r z.starts l is refl refl (λ b. inr (less y.left turns (busy_of z.stream) e h))
+  pub offered-unpaid : (turns : ℕ) → turns ≡ busy_of z.stream → y.left < 1 + turns → Stops w z block y l z.starts l
+  offered-unpaid turns e h = offered-stop z.starts l refl refl (λ b. inr (less y.left turns (busy_of z.stream) e h))
     where
       less : (left n m : ℕ) → n ≡ m → left < 1 + n → left < suc m
       less left n m e h = omega arith
 
   -- what the runs came to, in what is free of the lists
-  module _ (room : y.count ≤ space l) (full : Bool) (reports marks : ℕ) (some waits : Bool) (k : Starts) (last : Lists)
-      (h : Delivered w z x first (free y.count l) full reports marks some waits k last) where
-    pub offered-full : (r : Turn) → r ≡ stop_at y → full ≡ true → Offered w z first block y l r k (back y.count l last)
-    offered-full r is e =
-        offered-stop r k (back y.count l last) is (h.stays e).0
-        (written-part first l y.count [] last room ((h.stays e).1 ∙ sym (written_none first (free y.count l))) ∙ written-at-none first l y.count)
-        (λ b. inl (over y.count (space (free y.count l)) (space l) (length (byte_reports w z x)) (free-space first l y.count room)
-        (ltb-true (space (free y.count l)) (length (byte_reports w z x)) (sym h.full_if ∙ e))))
+  module _ (room : y.count ≤ space l) (k : Starts) (last : Lists) where
+    pub offered-full : Delivered w z x first (free y.count l) None k last → Stops w z block y l k (back y.count l last)
+    offered-full h =
+        offered-stop k (back y.count l last) h.1
+        (written-part first l y.count [] last room (h.2 ∙ sym (written_none first (free y.count l))) ∙ written-at-none first l y.count)
+        (λ b. inl (over y.count (space (free y.count l)) (space l) (length (byte_reports w z x)) (free-space first l y.count room) h.0))
       where
         over : (n f s m : ℕ) → n + f ≡ s → f < m → s < n + m
         over n f s m e h = omega arith
 
-    module _ (e : full ≡ false) where
-      done : Gone w z x first (free y.count l) reports marks some waits k last
-      done = h.goes e
+    module _ (d : Delivery) (h : Delivered w z x first (free y.count l) (Some d) k last) where
+      done : Gone w z x first (free y.count l) d.reports d.reported d.some d.waits k last
+      done = h.1
 
-      pub enough : y.count + length (byte_reports w z x) ≤ space l
-      enough =
-          in-space y.count (space (free y.count l)) (space l) (length (byte_reports w z x)) (free-space first l y.count room)
-          (ltb-false (space (free y.count l)) (length (byte_reports w z x)) (sym h.full_if ∙ e))
+      enough : y.count + length (byte_reports w z x) ≤ space l
+      enough = in-space y.count (space (free y.count l)) (space l) (length (byte_reports w z x)) (free-space first l y.count room) h.0
         where
           in-space : (n f s m : ℕ) → n + f ≡ s → m ≤ f → n + m ≤ s
           in-space n f s m e h = omega arith
 
-      pub enough-reports : y.count + reports ≤ space l
+      pub enough-reports : y.count + d.reports ≤ space l
       enough-reports = subst (λ (n : ℕ). y.count + n ≤ space l) (sym done.reports_are) enough
 
       pub offered-taken : y.at < length block → (turns : ℕ) → turns ≡ busy_of z.stream → 1 + turns ≤ y.left
           → (stream : Stream) → stream ≡ record {
             live = next_live w z.stream x;
             held = next_held w z.stream x;
-            reported = marks;
+            reported = d.reported;
             pending = pending_long w z.stream z.starts.live x;
             last = side_of x;
             taken = z.stream.taken + 1;
@@ -89,39 +83,36 @@ module _ (w : Automaton) (z : Traced) (first : ℕ) (block : List ℕ) (y : Turn
             positions = z.stream.positions;
             closed = z.stream.closed;
           }
-          → Offered w z first block y l
-          (record { stream = stream; at = y.at + 1; count = y.count + reports; left = y.left - (1 + turns); some = some; waits = waits; stopped = false })
+          → Takes w z first block y l
+          (record { stream = stream; at = y.at + 1; count = y.count + d.reports; left = y.left - (1 + turns); some = d.some; waits = d.waits })
           k (back y.count l last)
       unfolding stream_next
       offered-taken inside turns size paid stream is =
           let cost : 1 + turns ≡ suc (busy_of z.stream) = units turns (busy_of z.stream) size in
           record {
-            stops = λ q. absurd (true≢false (sym q));
-            takes = λ q. record {
-              inside = inside;
-              room = enough;
-              paid = subst (λ (n : ℕ). n ≤ y.left) cost paid;
-              stream_is =
-                  is
-                  ∙ (λ i. record {
-                    live = next_live w z.stream x;
-                    held = next_held w z.stream x;
-                    reported = done.marks_are i;
-                    pending = pending_long w z.stream z.starts.live x;
-                    last = side_of x;
-                    taken = add-one z.stream.taken i;
-                    rules = z.stream.rules;
-                    positions = z.stream.positions;
-                    closed = z.stream.closed;
-                  });
-              at_is = refl;
-              count_is = ap (λ (n : ℕ). y.count + n) done.reports_are;
-              left_is = ap (λ (n : ℕ). y.left - n) cost;
-              starts_are = done.starts_are;
-              lists_are = written-part first l y.count (byte_reports w z x) last room done.lists_are;
-              live_none = done.live_none;
-              wait_none = done.wait_none;
-            };
+            inside = inside;
+            room = enough;
+            paid = subst (λ (n : ℕ). n ≤ y.left) cost paid;
+            stream_is =
+                is
+                ∙ (λ i. record {
+                  live = next_live w z.stream x;
+                  held = next_held w z.stream x;
+                  reported = done.marks_are i;
+                  pending = pending_long w z.stream z.starts.live x;
+                  last = side_of x;
+                  taken = add-one z.stream.taken i;
+                  rules = z.stream.rules;
+                  positions = z.stream.positions;
+                  closed = z.stream.closed;
+                });
+            at_is = refl;
+            count_is = ap (λ (n : ℕ). y.count + n) done.reports_are;
+            left_is = ap (λ (n : ℕ). y.left - n) cost;
+            starts_are = done.starts_are;
+            lists_are = written-part first l y.count (byte_reports w z x) last room done.lists_are;
+            live_none = done.live_none;
+            wait_none = done.wait_none;
           }
         where
           units : (n m : ℕ) → n ≡ m → 1 + n ≡ suc m
@@ -131,7 +122,7 @@ module _ (w : Automaton) (z : Traced) (first : ℕ) (block : List ℕ) (y : Turn
 
 -- where the loop begins
 abbrev pub start_turn : Stream → (some waits : Bool) → (allowance : ℕ) → Turn
-start_turn s some waits allowance = record { stream = s; at = 0; count = 0; left = allowance; some = some; waits = waits; stopped = false }
+start_turn s some waits allowance = record { stream = s; at = 0; count = 0; left = allowance; some = some; waits = waits }
 
 abbrev state_of : Stream → Starts → Traced
 state_of s k = record { stream = s; starts = k }
@@ -197,19 +188,15 @@ module _ (w : Automaton) (z : Traced) (allowance : ℕ) (block : List ℕ) (l₀
         paid-on : (left' left u c' c a : ℕ) → left' ≡ left - u → u ≤ left → c' ≡ c + u → left + c ≡ a → left' + c' ≡ a
         paid-on left' left u c' c a e p f g = omega arith
 
-    -- a turn that stops
-    module _ (r : Turn) (k' : Starts) (l' : Lists) (t : Stops w here block y l r k' l') where
-      pub running-stop : Running w z allowance block l₀ r k' l'
+    -- the loop stops
+    module _ (k' : Starts) (l' : Lists) (t : Stops w here block y l k' l') where
+      pub running-stop : Running w z allowance block l₀ y k' l'
       running-stop =
-          subst (λ (u : Turn). Running w z allowance block l₀ u k' l') (sym t.is)
-          (subst (λ (u : Starts). Running w z allowance block l₀ (stop_at y) u l') (sym t.starts_are)
-          (subst (λ (u : Lists). Running w z allowance block l₀ (stop_at y) k u) (sym t.lists_are)
-          (record { inside = h.inside; state_is = h.state_is; paid = h.paid; filled = h.filled; only = h.only; live_none = h.live_none; wait_none = h.wait_none })))
+          subst (λ (u : Starts). Running w z allowance block l₀ y u l') (sym t.starts_are)
+          (subst (λ (u : Lists). Running w z allowance block l₀ y k u) (sym t.lists_are) h)
 
-      pub stop-over : r.at < length block → Over (traced w) z allowance block (space l₀) (r.at + 1)
-      stop-over b =
-          let same : y.at ≡ r.at = ap (λ (u : Turn). u.at) (sym t.is) in
-          subst (λ (n : ℕ). Over (traced w) z allowance block (space l₀) (n + 1)) same (go (t.over (subst (λ (n : ℕ). n < length block) (sym same) b)))
+      pub stop-over : y.at < length block → Over (traced w) z allowance block (space l₀) (y.at + 1)
+      stop-over b = go (t.over b)
         where
           many : (s s₀ c m n t : ℕ) → s ≡ s₀ → c ≡ n → t ≡ n + m → s < c + m → s₀ < t
           many s s₀ c m n t e f g h = omega arith
@@ -227,51 +214,17 @@ module _ (w : Automaton) (z : Traced) (allowance : ℕ) (block : List ℕ) (l₀
 
 -- ---- the loop
 
-pub record Turned (w : Automaton) (z : Traced) (allowance : ℕ) (block : List ℕ) (l₀ : Lists) (going : Bool) (y : Turn) (k : Starts) (l : Lists) : Type 0 where
-  pub running : Running w z allowance block l₀ y k l
-  pub rests : going ≡ false → y.at < length block → Over (traced w) z allowance block (space l₀) (y.at + 1)
+module _ {w : Automaton} {z : Traced} {allowance : ℕ} {block : List ℕ} {l₀ : Lists} {y : Turn} {k k' : Starts} {l l' : Lists} (h : Running w z allowance block l₀ y k l) where
+  pub turned : {r : Turn} → Takes w (state_of y.stream k) z.stream.taken block y l r k' l' → Running w z allowance block l₀ r k' l'
+  turned {r} t = running-take w z allowance block l₀ y k l h r k' l' t
 
-pub turned-start : (w : Automaton) (z : Traced) (allowance : ℕ) (block : List ℕ) (l₀ : Lists) (some waits : Bool) → (some ≡ false → is_empty z.stream.live ≡ true)
-    → (waits ≡ false → (is_empty z.stream.held ≡ true) × (z.stream.pending ≡ 0)) → InOrder z.stream z.starts
-    → Turned w z allowance block l₀ true (start_turn z.stream some waits allowance) z.starts l₀
-turned-start w z allowance block l₀ some waits lives holds order = record {
-  running = running-start w z allowance block l₀ some waits lives holds order;
-  rests = λ e. absurd (true≢false e);
-}
+  pub ran : Stops w (state_of y.stream k) block y l k' l' → Ran w z allowance block l₀ y k' l'
+  ran t = record { running = running-stop w z allowance block l₀ y k l h k' l' t; rests = stop-over w z allowance block l₀ y k l h k' l' t }
 
-module _ {w : Automaton} {z : Traced} {allowance : ℕ} {block : List ℕ} {l₀ : Lists} {y r : Turn} {k k' : Starts} {l l' : Lists}
-    (h : Running w z allowance block l₀ y k l) (t : Offered w (state_of y.stream k) z.stream.taken block y l r k' l') where
-  pub turned : Turned w z allowance block l₀ (not r.stopped) r k' l'
-  turned = go r.stopped refl
-    where
-      go : (b : Bool) → r.stopped ≡ b → Turned w z allowance block l₀ (not b) r k' l'
-      go true e = record {
-        running = running-stop w z allowance block l₀ y k l h r k' l' (t.stops e);
-        rests = λ q. stop-over w z allowance block l₀ y k l h r k' l' (t.stops e);
-      }
-      go false e = record { running = running-take w z allowance block l₀ y k l h r k' l' (t.takes e); rests = λ q. absurd (true≢false q) }
-
-  -- the loop's measure, from a place before the turn
-  pub turn-less : (going : Bool) → going ≡ true → (at : ℕ) → at ≤ y.at → cond (not r.stopped) 1 0 + (length block - r.at) < cond going 1 0 + (length block - at)
-  turn-less going e at before = go r.stopped refl
-    where
-      further : (n a b : ℕ) → a ≡ b + 1 → b < n → at ≤ b → 1 + (n - a) < 1 + (n - at)
-      further n a b e h l = omega arith
-
-      same : (n a b : ℕ) → a ≡ b → at ≤ b → 0 + (n - a) < 1 + (n - at)
-      same n a b e l = omega arith
-
-      go : (b : Bool) → r.stopped ≡ b → cond (not b) 1 0 + (length block - r.at) < cond going 1 0 + (length block - at)
-      go true q =
-          subst (λ (g : Bool). 0 + (length block - r.at) < cond g 1 0 + (length block - at)) (sym e)
-          (same (length block) r.at y.at (ap (λ (u : Turn). u.at) (t.stops q).is) before)
-      go false q =
-          subst (λ (g : Bool). 1 + (length block - r.at) < cond g 1 0 + (length block - at)) (sym e)
-          (further (length block) r.at y.at (t.takes q).at_is (t.takes q).inside before)
-
-pub ran : {w : Automaton} {z : Traced} {allowance : ℕ} {block : List ℕ} {l₀ : Lists} {going : Bool} {y : Turn} {k : Starts} {l : Lists}
-    → going ≡ false → Turned w z allowance block l₀ going y k l → Ran w z allowance block l₀ y k l
-ran e h = record { running = h.running; rests = h.rests e }
+-- the loop's measure, from a place before the byte
+pub turn-less : {w : Automaton} {z : Traced} {first : ℕ} {block : List ℕ} {y r : Turn} {l l' : Lists} {k : Starts} → Takes w z first block y l r k l'
+    → (at : ℕ) → at ≤ y.at → length block - r.at < length block - at
+turn-less t at before = omega (arith, t.at_is, t.inside)
 
 -- the bytes taken so far
 pub taken-after : (w : Automaton) (z : Traced) (block : List ℕ) (n : ℕ) → (after (traced w) z block n).stream.taken ≡ z.stream.taken + n

@@ -11,7 +11,7 @@ use native.Mathlib.Decide.{dec_lt}
 use borrow.Author.Tests.{lt-ltb, le-leb, not-true}
 use Rattle.sets.specs.Set.{on, has, any, empty_set, union_of, is_empty}
 use Rattle.sets.proofs.Laws.{has-set_of, has-empty, has-union, has-intersection, any-ext, any_none, any-never}
-use Rattle.sets.proofs.Digits.{word_of-ext}
+use Rattle.sets.proofs.Bits.{word_of-ext}
 use Rattle.kinds.specs.declared.Side.TheVariants.{Newline}
 use Rattle.kinds.specs.declared.Side.{Side}
 use Rattle.kinds.specs.Side.{side_of}

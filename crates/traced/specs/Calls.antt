@@ -1,6 +1,8 @@
 -- The calls on a stream with starts: the answer and the four lent lists afterwards, for any words,
 -- any state and any inputs. Assumes nothing: these are definitions.
-use Rattle.std.specs.Prelude.{cond, List, ℕ, min, eqb, ℤ, pos, ◌-ℤ◌, length}
+use Rattle.std.specs.Prelude.{cond, Result, Ok, Err, List, ℕ, min, eqb, ℤ, pos, ◌-ℤ◌, length}
+use Rattle.refusals.specs.declared.Refusal.{Refusal}
+use Rattle.refusals.specs.Refusal.{number_of, number_if}
 use Rattle.table.specs.Layout.{max_rules, max_positions}
 use Rattle.table.specs.Table.{is_table}
 use Rattle.table.specs.Automaton.{automaton}
@@ -10,15 +12,23 @@ use Rattle.stream.specs.Calls as stream
 use Rattle.stream.specs.Calls.{column, over_limit, space_number, shut}
 use Rattle.traced.specs.declared.Starts.{Starts}
 use Rattle.traced.specs.declared.Traced.{Traced}
-use Rattle.traced.specs.declared.Opened.{Opened}
-use Rattle.traced.specs.declared.Scanned.{Scanned}
-use Rattle.traced.specs.declared.Closed.{Closed}
+use Rattle.traced.specs.declared.Opened as given
+use Rattle.traced.specs.declared.Progress.{Progress}
+use Rattle.traced.specs.declared.Ending.{Ending}
 use Rattle.traced.specs.Byte.{Start, none, from, Report, traced, close_reports}
 use Rattle.traced.specs.Valid.{valid}
 
 -- a state with no starts
 abbrev pub no_starts : Starts
 no_starts = record { live = list_from 0 max_positions (λ q. 0); held = list_from 0 max_positions (λ q. 0); pairs = list_from 0 max_rules (λ a. 0) }
+
+-- the answer of an opening, by its number, and what a function gives as that answer
+pub record Opened : Type 0 where
+  pub number : ℕ
+  pub traced : Traced
+
+abbrev pub opened_of : given.Opened → Opened
+opened_of o = record { number = number_if o.refusal; traced = o.traced }
 
 -- an opening is a stream's
 unfoldable pub opened : List ℕ → Opened
@@ -80,6 +90,20 @@ pub record Call : Type 0 where
 abbrev pub call : (allowance : ℕ) (block : List ℕ) (slots : Lists) → Call
 call allowance block slots = record { allowance = allowance; block = block; slots = slots }
 
+-- The answer of a scan: its number, the bytes that it took, the reports that it wrote, the work that
+-- it used, and the state afterwards.
+pub record Scanned : Type 0 where
+  pub number : ℕ
+  pub taken : ℕ
+  pub reports : ℕ
+  pub used : ℕ
+  pub traced : Traced
+
+-- what a function that is handed state z gives as that answer
+abbrev pub scanned_of : Traced → Result Progress Refusal → Scanned
+scanned_of z (Ok p) = record { number = 0; taken = p.taken; reports = p.reports; used = p.used; traced = p.traced }
+scanned_of z (Err r) = record { number = number_of r; taken = 0; reports = 0; used = 0; traced = z }
+
 -- A scan on any words, state and inputs: the answer, and the lists afterwards. The relative starts
 -- are measured from the bytes taken before the call.
 module _ (t : List ℕ) (z : Traced) (c : Call) where
@@ -105,6 +129,16 @@ module _ (t : List ℕ) (z : Traced) (c : Call) where
   unfoldable pub scanned_lists : Lists
   scanned_lists =
       cond (eqb call_number 0) (written z.stream.taken (reports_by (traced (automaton t)) z c.block taken_by) c.slots) c.slots
+
+-- the answer of a closing likewise, and what a function gives as that answer
+pub record Closed : Type 0 where
+  pub number : ℕ
+  pub reports : ℕ
+  pub traced : Traced
+
+abbrev pub closed_of : Traced → Result Ending Refusal → Closed
+closed_of z (Ok e) = record { number = 0; reports = e.reports; traced = e.traced }
+closed_of z (Err r) = record { number = number_of r; reports = 0; traced = z }
 
 -- A closing likewise; "at closing it is measured from the stream's end".
 module _ (t : List ℕ) (z : Traced) (l : Lists) where

@@ -1,6 +1,6 @@
 -- What the private functions promise, where that is not an equation with a definition that a reader
 -- must believe. Assumes nothing: these are definitions.
-use Rattle.std.specs.Prelude.{◌≡◌, Bool, true, false, cond, ◌⊎◌, List, ℕ, suc, ◌+◌, ◌-◌, ◌^◌, ◌<◌, ◌≤◌, min, ltb, length, get_or}
+use Rattle.std.specs.Prelude.{◌≡◌, Bool, true, false, Option, None, Some, cond, ◌⊎◌, List, ℕ, suc, ◌+◌, ◌-◌, ◌^◌, ◌<◌, ◌≤◌, min, ltb, length, get_or}
 use borrow.Rule.Slice.PartMut.{put_mid}
 use Rattle.sets.specs.Set.{on, empty_set, full_set, kept_below}
 use Rattle.table.specs.Layout.{positions_of, max_rules, max_positions}
@@ -17,6 +17,7 @@ use Rattle.traced.specs.declared.reports.Marks.{Marks}
 use Rattle.traced.specs.declared.scan.Gates.{Gates}
 use Rattle.traced.specs.declared.scan.Turn.{Turn}
 use Rattle.traced.specs.declared.scan.Waiting.{Waiting}
+use Rattle.traced.specs.declared.scan.Delivery.{Delivery}
 use Rattle.traced.specs.Byte.{Report, pending_long, stream_next, traced, next_starts, byte_reports, close_reports}
 use Rattle.traced.specs.Calls.{Lists, lists, space, in_stream, from_offset, written}
 
@@ -32,6 +33,9 @@ pub record GatesOf (t : List ℕ) (g : Gates) : Type 0 where
 -- a state by its parts
 abbrev pub state_of : Stream → (live held pairs : List ℕ) → Traced
 state_of s live held pairs = record { stream = s; starts = record { live = live; held = held; pairs = pairs } }
+
+abbrev pub state_by : Stream → Starts → Traced
+state_by s k = record { stream = s; starts = k }
 
 -- ---- the lent lists
 
@@ -132,10 +136,9 @@ pub record Gone (w : Automaton) (z : Traced) (x first : ℕ) (l : Lists) (report
   pub live_none : some ≡ false → k.live ≡ zeros max_positions
   pub wait_none : waits ≡ false → (k.held ≡ zeros max_positions) × (k.pairs ≡ zeros max_rules)
 
-pub record Delivered (w : Automaton) (z : Traced) (x first : ℕ) (l : Lists) (full : Bool) (reports marks : ℕ) (some waits : Bool) (k : Starts) (l' : Lists) : Type 0 where
-  pub full_if : full ≡ ltb (space l) (length (byte_reports w z x))
-  pub stays : full ≡ true → (k ≡ z.starts) × (l' ≡ l)
-  pub goes : full ≡ false → Gone w z x first l reports marks some waits k l'
+abbrev pub Delivered : (w : Automaton) (z : Traced) (x first : ℕ) (l : Lists) → Option Delivery → (k : Starts) (l' : Lists) → Type 0
+Delivered w z x first l None k l' = (space l < length (byte_reports w z x)) × (k ≡ z.starts) × (l' ≡ l)
+Delivered w z x first l (Some d) k l' = (length (byte_reports w z x) ≤ space l) × Gone w z x first l d.reports d.reported d.some d.waits k l'
 
 -- ---- bytes that are passed over
 
@@ -159,7 +162,6 @@ pass_to block y to = record {
   left = y.left - (to - y.at);
   some = y.some;
   waits = y.waits;
-  stopped = y.stopped;
 }
 
 pub record Passes (w : Automaton) (block : List ℕ) (y r : Turn) : Type 0 where
@@ -177,14 +179,9 @@ Passed w block y r = Passes w block y r ⊎ (r ≡ y)
 
 -- ---- a byte that is offered
 
--- a turn that stops
-abbrev pub stop_at : Turn → Turn
-stop_at y = record { stream = y.stream; at = y.at; count = y.count; left = y.left; some = y.some; waits = y.waits; stopped = true }
-
 -- before the end of the block, or a byte whose reports do not fit or that cannot be paid for
-pub record Stops (w : Automaton) (z : Traced) (block : List ℕ) (y : Turn) (l : Lists) (r : Turn) (k : Starts) (l' : Lists) : Type 0 where
+pub record Stops (w : Automaton) (z : Traced) (block : List ℕ) (y : Turn) (l : Lists) (k : Starts) (l' : Lists) : Type 0 where
   pub over : y.at < length block → (space l < y.count + length (byte_reports w z (get_or block y.at 0))) ⊎ (y.left < suc (busy_of z.stream))
-  pub is : r ≡ stop_at y
   pub starts_are : k ≡ z.starts
   pub lists_are : l' ≡ l
 
@@ -201,10 +198,10 @@ pub record Takes (w : Automaton) (z : Traced) (first : ℕ) (block : List ℕ) (
   pub live_none : r.some ≡ false → k.live ≡ zeros max_positions
   pub wait_none : r.waits ≡ false → (k.held ≡ zeros max_positions) × (k.pairs ≡ zeros max_rules)
 
--- a byte that is offered is taken, or the turn stops
-pub record Offered (w : Automaton) (z : Traced) (first : ℕ) (block : List ℕ) (y : Turn) (l : Lists) (r : Turn) (k : Starts) (l' : Lists) : Type 0 where
-  pub stops : r.stopped ≡ true → Stops w z block y l r k l'
-  pub takes : r.stopped ≡ false → Takes w z first block y l r k l'
+-- a byte that is offered is taken, or the loop stops
+abbrev pub Offered : (w : Automaton) (z : Traced) (first : ℕ) (block : List ℕ) (y : Turn) (l : Lists) → Option Turn → (k : Starts) (l' : Lists) → Type 0
+Offered w z first block y l None k l' = Stops w z block y l k l'
+Offered w z first block y l (Some r) k l' = Takes w z first block y l r k l'
 
 -- once some bytes of a block are taken: the state after them, what they cost and the lists
 pub record Running (w : Automaton) (z : Traced) (allowance : ℕ) (block : List ℕ) (l₀ : Lists) (y : Turn) (k : Starts) (l : Lists) : Type 0 where

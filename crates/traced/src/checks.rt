@@ -1,57 +1,43 @@
-// Whether a call is accepted: the report space, and the number of the first reason that refuses it.
+// Whether a call is accepted: the report space, and the first reason that refuses it.
 ghost use Rattle.std.specs.Prelude.{◌≡◌, min};
+ghost use Rattle.refusals.specs.Refusal.{code_of};
 ghost use Rattle.traced.specs.Calls.{scan_number};
-ghost use Rattle.traced.specs.Invariants.{state_of};
 
+use super::Traced;
+use refusals::Refusal;
 use starts::starts_ok;
-use stream::{STREAM_LIMIT, Stream, is_sound};
+use stream::{STREAM_LIMIT, is_sound};
 use table::layout::RULES_AT;
 
-// The smaller of two numbers.
-fn least(a: usize, b: usize) -> usize
-    ensures { result ≡ min a b }
-{
-    if a < b { a } else { b }
-}
-
-// The smallest of four.
+// The smallest of four numbers.
 pub(super) fn shortest(a: usize, b: usize, c: usize, d: usize) -> usize
     ensures { result ≡ min (min a b) (min c d) }
 {
-    least(least(a, b), least(c, d))
+    a.min(b).min(c.min(d))
 }
 
-// The number of a scan of `len` bytes with this report space. A closing is numbered as a scan of no
-// bytes, which 21 never refuses.
-pub(super) fn refusal(
-    s: Stream,
-    live: &[u64; 256],
-    held: &[u64; 256],
-    pairs: &[u64; 64],
-    words: &[u64],
-    len: usize,
-    space: usize,
-) -> u32
-    ensures { result ≡ scan_number words.now (state_of s live.now held.now pairs.now) len space }
+// Why a scan of `len` bytes with this report space is refused, if it is. A closing is numbered as a
+// scan of no bytes, which 21 never refuses.
+pub(super) fn refusal(z: &Traced, words: &[u64], len: usize, space: usize) -> Result<(), Refusal>
+    ensures { code_of result ≡ scan_number words.now z.now len space }
 {
     if !table::is_table(words) {
-        return 1;
+        return Err(Refusal::NoTable);
     }
-    if !is_sound(s, words) {
-        return 18;
+    if !is_sound(z.stream, words) {
+        return Err(Refusal::BadState);
     }
-    if !starts_ok(s, live, held, pairs) {
-        return 18;
+    if !starts_ok(z.stream, &z.starts.live, &z.starts.held, &z.starts.pairs) {
+        return Err(Refusal::BadState);
     }
-    if s.closed {
-        return 19;
+    if z.stream.closed {
+        return Err(Refusal::Closed);
     }
-    let rules = words[RULES_AT];
-    if STREAM_LIMIT - s.taken < len as u64 {
-        return 21;
+    if STREAM_LIMIT - z.stream.taken < len as u64 {
+        return Err(Refusal::LongStream);
     }
-    if (space as u64) < 2 * rules {
-        return 20;
+    if (space as u64) < 2 * words[RULES_AT] {
+        return Err(Refusal::SmallSpace);
     }
-    0
+    Ok(())
 }

@@ -11,10 +11,11 @@ mod reports;
 mod scan;
 
 ghost use Rattle.std.specs.Prelude.{◌≡◌};
-ghost use Rattle.traced.specs.Calls.{opened, lists, call, scanned, scanned_lists, closed, closed_lists};
+ghost use Rattle.traced.specs.Calls.{opened, opened_of, lists, call, scanned, scanned_of, scanned_lists, closed, closed_of, closed_lists};
 ghost use Rattle.stream.specs.Byte.{busy_of};
 
 use checks::{refusal, shortest};
+use refusals::Refusal;
 use reports::write_closing;
 use scan::{gates_of, run};
 use stream::Stream;
@@ -35,28 +36,26 @@ pub struct Traced {
     pub starts: Starts,
 }
 
-// The answer of an opening.
+// What an opening gives: a state, which is closed if the opening is refused.
 #[derive(Clone, Copy)]
 pub struct Opened {
-    pub number: u32,
+    pub refusal: Option<Refusal>,
     pub traced: Traced,
 }
 
-// The answer of a scan: its number, how many bytes it took, how many reports it wrote, how many
-// units of work it used, the next state.
+// What an accepted scan gives: how many bytes it took, how many reports it wrote, how many units of
+// work it used, the next state.
 #[derive(Clone, Copy)]
-pub struct Scanned {
-    pub number: u32,
+pub struct Progress {
     pub taken: usize,
     pub reports: usize,
     pub used: u64,
     pub traced: Traced,
 }
 
-// The answer of a closing.
+// What an accepted closing gives: how many reports it wrote, the closed state.
 #[derive(Clone, Copy)]
-pub struct Closed {
-    pub number: u32,
+pub struct Ending {
     pub reports: usize,
     pub traced: Traced,
 }
@@ -64,18 +63,18 @@ pub struct Closed {
 impl Traced {
     // Opens a stream over a table.
     pub fn open(words: &[u64]) -> Opened
-        ensures { result ≡ opened words.now }
+        ensures { opened_of result ≡ opened words.now }
     {
-        let r = Stream::open(words);
-        let stream = r.stream;
-        let live = [0u64; 256];
-        let held = [0u64; 256];
-        let pairs = [0u64; 64];
+        let opened = Stream::open(words);
         Opened {
-            number: r.number,
+            refusal: opened.refusal,
             traced: Traced {
-                stream,
-                starts: Starts { live, held, pairs },
+                stream: opened.stream,
+                starts: Starts {
+                    live: [0; 256],
+                    held: [0; 256],
+                    pairs: [0; 64],
+                },
             },
         }
     }
@@ -92,52 +91,36 @@ impl Traced {
         offsets: &mut [u64],
         starts: &mut [u64],
         relatives: &mut [i64],
-    ) -> Scanned
-        ensures answer { result ≡ scanned words.now self (call allowance block.now (lists ids.old offsets.old starts.old relatives.old)) }
+    ) -> Result<Progress, Refusal>
+        ensures answer { scanned_of self result ≡ scanned words.now self (call allowance block.now (lists ids.old offsets.old starts.old relatives.old)) }
         ensures lists { lists ids.new offsets.new starts.new relatives.new ≡ scanned_lists words.now self (call allowance block.now (lists ids.old offsets.old starts.old relatives.old)) }
     {
         let space = shortest(ids.len(), offsets.len(), starts.len(), relatives.len());
-        let stream = self.stream;
-        let mut live = self.starts.live;
-        let mut held = self.starts.held;
-        let mut pairs = self.starts.pairs;
-        let number = refusal(stream, &live, &held, &pairs, words, block.len(), space);
-        if number != 0 {
-            return Scanned {
-                number,
-                taken: 0,
-                reports: 0,
-                used: 0,
-                traced: self,
-            };
-        }
+        refusal(&self, words, block.len(), space)?;
+        let mut kept = self.starts;
         let mut spare = [0u64; 256];
         let r = run(
-            stream,
+            self.stream,
             gates_of(words),
             words,
             allowance,
             block,
-            &mut live,
+            &mut kept,
             &mut spare,
-            &mut held,
-            &mut pairs,
             ids,
             offsets,
             starts,
             relatives,
         );
-        let after = r.stream;
-        Scanned {
-            number: 0,
+        Ok(Progress {
             taken: r.at,
             reports: r.count,
             used: allowance - r.left,
             traced: Traced {
-                stream: after,
-                starts: Starts { live, held, pairs },
+                stream: r.stream,
+                starts: kept,
             },
-        }
+        })
     }
 
     // Closes the stream, and writes the reports that needed its end at the front of the lists,
@@ -149,39 +132,32 @@ impl Traced {
         offsets: &mut [u64],
         starts: &mut [u64],
         relatives: &mut [i64],
-    ) -> Closed
-        ensures answer { result ≡ closed words.now self (lists ids.old offsets.old starts.old relatives.old) }
+    ) -> Result<Ending, Refusal>
+        ensures answer { closed_of self result ≡ closed words.now self (lists ids.old offsets.old starts.old relatives.old) }
         ensures lists { lists ids.new offsets.new starts.new relatives.new ≡ closed_lists words.now self (lists ids.old offsets.old starts.old relatives.old) }
     {
         let space = shortest(ids.len(), offsets.len(), starts.len(), relatives.len());
-        let stream = self.stream;
-        let live = self.starts.live;
-        let held = self.starts.held;
-        let pairs = self.starts.pairs;
-        let number = refusal(stream, &live, &held, &pairs, words, 0, space);
-        if number != 0 {
-            return Closed {
-                number,
-                reports: 0,
-                traced: self,
-            };
-        }
+        refusal(&self, words, 0, space)?;
         let reports = write_closing(
-            stream, &live, &held, &pairs, words, ids, offsets, starts, relatives,
+            self.stream,
+            &self.starts,
+            words,
+            ids,
+            offsets,
+            starts,
+            relatives,
         );
         self.stream.closed = true;
-        Closed {
-            number: 0,
+        Ok(Ending {
             reports,
             traced: self,
-        }
+        })
     }
 
     // How many positions are live.
     pub fn busy(self) -> u32
         ensures { result ≡ busy_of self.stream }
     {
-        let stream = self.stream;
-        stream.busy()
+        self.stream.busy()
     }
 }

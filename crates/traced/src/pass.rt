@@ -47,22 +47,17 @@ pub(super) fn pass_over(y: Turn, words: &[u64], block: &[u8]) -> Turn
 {
     let at = y.at;
     let s = y.stream;
-    let live = s.live;
-    let waited = s.held;
-    let before = s.last;
-    let quiet = is_quiet(y.some, y.waits, live, s.taken);
+    let quiet = is_quiet(y.some, y.waits, s.live, s.taken);
     let to = pass_end(quiet, words, block, at, y.left);
-    let held = passed_set(at < to, waited);
-    let pending = passed_pairs(at < to, s.pending);
-    let last = passed_side(at, to, before, block);
     let passed = (to - at) as u64;
+    let live = s.live;
     Turn {
         stream: Stream {
             live,
-            held,
+            held: passed_set(at < to, s.held),
             reported: s.reported,
-            pending,
-            last,
+            pending: passed_pairs(at < to, s.pending),
+            last: passed_side(at, to, s.last, block),
             taken: s.taken + passed,
             rules: s.rules,
             positions: s.positions,
@@ -73,6 +68,5 @@ pub(super) fn pass_over(y: Turn, words: &[u64], block: &[u8]) -> Turn
         left: y.left - passed,
         some: y.some,
         waits: y.waits,
-        stopped: y.stopped,
     }
 }

@@ -1,6 +1,7 @@
 // Runs of reports with starts: a run has one end offset, and the rules that end there by rising
 // place, each a digit of a word, with a start for each place. A byte has two of them, and so has
-// the closing.
+// the closing. The crate `stream` writes its runs by functions of its own: a second caller is not
+// put into the loop over the bytes (docs/DECISIONS.md, the objects of the library).
 ghost use Rattle.std.specs.Prelude.{◌≡◌, true, cond, not, ◌&&◌, ◌+◌, ◌*◌, ◌-◌, ◌^◌, ◌<◌, ◌≤◌, length, get_or};
 ghost use Rattle.sets.specs.Set.{on, count};
 ghost use Rattle.table.specs.Layout.{table_words, rules_of};
@@ -11,10 +12,12 @@ ghost use Rattle.stream.specs.Valid.{pending_inside};
 ghost use Rattle.stream.specs.Byte.{run_reports, two_reports};
 ghost use Rattle.traced.specs.Byte.{none, from, given, end_start};
 ghost use Rattle.traced.specs.Calls.{lists, space, in_stream, from_offset};
-ghost use Rattle.traced.specs.Invariants.{at, Small, MarksOf, RuleStarts, Wrote, WroteTwo, Ended, state_of};
+ghost use Rattle.traced.specs.Invariants.{at, Small, MarksOf, RuleStarts, Wrote, WroteTwo, Ended, state_by};
 
+use super::Starts;
 use carried::rule_starts;
 use lengths::long_in;
+use sets::Digits;
 use steps::{closing, in_window, leftmosts, rule_id, singles};
 use stream::Stream;
 
@@ -57,7 +60,7 @@ fn relative(leftmost: bool, start: u64, first: u64) -> i64
 pub(super) fn due(ending: u64, reported: u64) -> usize
     ensures { result ≡ count 64 (λ a. on ending a && not (on reported a)) }
 {
-    u64::count_ones(ending & !reported) as usize
+    (ending & !reported).count_ones() as usize
 }
 
 // For each of some rules, a digit for each place, the smallest start of a match that ends at a gap
@@ -73,8 +76,7 @@ pub(super) fn starts_of(
     requires { table_words ≤ length words.now }
     ensures { RuleStarts rules (start_at (automaton words.now) gap set starts.now least) result }
 {
-    let from = [least; 64];
-    rule_starts(rules, gap, set, starts, &from, words)
+    rule_starts(rules, gap, set, starts, &[least; 64], words)
 }
 
 // Writes one run into the lists from place `from` on, and marks its single-match rules. The word
@@ -100,18 +102,15 @@ pub(super) fn write_run(
         (automaton words.now).rules) ≤ space (lists ids.old offsets.old starts.old relatives.old)) }
     ensures { Wrote (automaton words.now) (on ending) reported (given (automaton words.now) end (at froms.now)) marks.first place (lists ids.old offsets.old starts.old relatives.old) result.next result.reported (lists ids.new offsets.new starts.new relatives.new) }
 {
-    let mut due = ending & !reported;
     let mut n = place;
-    while due != 0 {
-        let a = u64::trailing_zeros(due);
+    for a in Digits(ending & !reported) {
         let leftmost = (marks.leftmost >> a) % 2 == 1;
-        let start = froms[a as usize];
-        ids[n] = rule_id(words, a as usize) as u32;
+        let start = froms[a];
+        ids[n] = rule_id(words, a) as u32;
         offsets[n] = end;
         starts[n] = start_of(leftmost, start);
         relatives[n] = relative(leftmost, start, marks.first);
         n += 1;
-        due = due & (due - 1);
     }
     Run {
         next: n,
@@ -186,68 +185,57 @@ pub(super) fn write_two(
     )
 }
 
-// The offset before the last byte, 0 where there is none.
-fn before_last(taken: u64) -> u64
-    ensures { result ≡ taken - 1 }
-{
-    if taken == 0 { 0 } else { taken - 1 }
-}
-
 // For each of some rules, a digit for each place, the start of its pair at closing: the smaller of
 // those of the live and of the held positions.
-fn end_starts(
-    rules: u64,
-    s: Stream,
-    live: &[u64; 256],
-    held: &[u64; 256],
-    pairs: &[u64; 64],
-    words: &[u64],
-) -> [u64; 64]
+fn end_starts(rules: u64, s: Stream, kept: &Starts, words: &[u64]) -> [u64; 64]
     requires { table_words ≤ length words.now }
-    ensures { RuleStarts rules (end_start (automaton words.now) (state_of s live.now held.now pairs.now)) result }
+    ensures { RuleStarts rules (end_start (automaton words.now) (state_by s kept.now)) result }
 {
-    let alive = s.live;
-    let waiting = s.held;
-    let last = s.last;
-    let gap = table::gaps::at_end(last);
-    let first = starts_of(rules, gap, alive, live, s.taken, words);
-    rule_starts(rules, gap, waiting, held, &first, words)
+    let gap = table::gaps::at_end(s.last);
+    let first = starts_of(rules, gap, s.live, &kept.live, s.taken, words);
+    rule_starts(rules, gap, s.held, &kept.held, &first, words)
 }
 
 // Writes both runs of a closing at the front of the lists.
 pub(super) fn write_closing(
     s: Stream,
-    live: &[u64; 256],
-    held: &[u64; 256],
-    pairs: &[u64; 64],
+    kept: &Starts,
     words: &[u64],
     ids: &mut [u32],
     offsets: &mut [u64],
     starts: &mut [u64],
     relatives: &mut [i64],
 ) -> usize
-    requires { (is_table words.now ≡ true) × (pending_inside (automaton words.now) s ≡ true) × (s.taken < 2 ^ 63) × Small pairs.now
-        × (2 * rules_of words.now ≤ space (lists ids.old offsets.old starts.old relatives.old)) }
-    ensures { Ended (automaton words.now) (state_of s live.now held.now pairs.now) (lists ids.old offsets.old starts.old relatives.old) result (lists ids.new offsets.new starts.new relatives.new) }
+    requires { (is_table words.now ≡ true) × (pending_inside (automaton words.now) s ≡ true) × (s.taken < 2 ^ 63)
+        × Small kept.now.pairs × (2 * rules_of words.now ≤ space (lists ids.old offsets.old starts.old relatives.old)) }
+    ensures { Ended (automaton words.now) (state_by s kept.now) (lists ids.old offsets.old starts.old relatives.old) result (lists ids.new offsets.new starts.new relatives.new) }
 {
-    let alive = s.live;
-    let waiting = s.held;
-    let last = s.last;
-    let earlier = before_last(s.taken);
+    let earlier = s.taken.saturating_sub(1);
     let held_pairs = in_window(s.pending, earlier, words);
-    let counts = long_in(alive, live, s.taken, words);
-    let waits = long_in(waiting, held, s.taken, words);
-    let found = in_window(closing(last, counts, waits, words), s.taken, words);
+    let counts = long_in(s.live, &kept.live, s.taken, words);
+    let waits = long_in(s.held, &kept.held, s.taken, words);
+    let found = in_window(closing(s.last, counts, waits, words), s.taken, words);
     let leftmost = leftmosts(words);
-    let ends = end_starts(found & leftmost, s, live, held, pairs, words);
+    let ends = end_starts(found & leftmost, s, kept, words);
     let marks = Marks {
         single: singles(words),
         leftmost,
         first: s.taken,
     };
     let run = write_two(
-        held_pairs, found, s.reported, pairs, &ends, marks, words, earlier, s.taken, ids, offsets,
-        starts, relatives,
+        held_pairs,
+        found,
+        s.reported,
+        &kept.pairs,
+        &ends,
+        marks,
+        words,
+        earlier,
+        s.taken,
+        ids,
+        offsets,
+        starts,
+        relatives,
     );
     run.next
 }

@@ -1,5 +1,6 @@
 // The bytes of a block, one after the other: each is looked at, its reports are written, and the
-// starts are carried along.
+// starts are carried along. The four lists are lent one by one: tried as a struct of them, of which
+// the borrow checker does not lend parts of two fields at once.
 ghost use Rattle.std.specs.Prelude.{◌≡◌, true, false, not, ◌&&◌, suc, ◌+◌, ◌-◌, ◌^◌, ◌<◌, ◌≤◌, ltb, length};
 ghost use Rattle.std.specs.Int.Bits.{bit_and, bit_or};
 ghost use Rattle.sets.specs.Set.{on, count};
@@ -14,8 +15,9 @@ ghost use Rattle.stream.specs.Valid.{stream_limit};
 ghost use Rattle.stream.specs.Byte.{next_live, next_held, run_reports};
 ghost use Rattle.traced.specs.Byte.{given, live_next, held_next, pairs_next, late_long, own_long, pending_long};
 ghost use Rattle.traced.specs.Calls.{lists, space};
-ghost use Rattle.traced.specs.Invariants.{zeros, starts_of, state_of, GatesOf, InOrder, Wrote, Byte, Carried, stop_at, Delivered, Offered, Ran};
+ghost use Rattle.traced.specs.Invariants.{zeros, state_by, GatesOf, InOrder, Wrote, Byte, Carried, Delivered, Offered, Ran};
 
+use super::Starts;
 use super::checks::shortest;
 use super::pass::pass_over;
 use super::reports::{Marks, Run, due, give_run, starts_of};
@@ -51,15 +53,11 @@ pub(super) fn gates_of(words: &[u64]) -> Gates
     requires { table_words ≤ length words.now }
     ensures { GatesOf words.now result }
 {
-    let positions = sets::below(sets::full(), words[POSITIONS_AT] as usize);
-    let last = lasts(words);
-    let late = lates(words);
-    let keepers = keepers(words);
     Gates {
-        last,
-        late,
-        keepers,
-        positions,
+        last: lasts(words),
+        late: lates(words),
+        keepers: keepers(words),
+        positions: sets::below(sets::full(), words[POSITIONS_AT] as usize),
         single: singles(words),
         leftmost: leftmosts(words),
     }
@@ -80,16 +78,16 @@ fn left_waiting(s: Stream, words: &[u64], byte: u8, live: &[u64; 256]) -> Waitin
     ensures pending { result.pending ≡ pending_long (automaton words.now) s live.now byte }
 {
     if byte != NEWLINE {
-        let held = sets::empty();
-        return Waiting { held, pending: 0 };
+        return Waiting {
+            held: sets::empty(),
+            pending: 0,
+        };
     }
     let positions = words[POSITIONS_AT] as usize;
-    let alive = s.live;
-    let before = s.last;
     let held = line_step(
-        before,
+        s.last,
         side_of(byte),
-        alive,
+        s.live,
         s.taken,
         words,
         positions,
@@ -98,10 +96,10 @@ fn left_waiting(s: Stream, words: &[u64], byte: u8, live: &[u64; 256]) -> Waitin
     if s.taken == 0 {
         return Waiting { held, pending: 0 };
     }
-    let counts = long_in(alive, live, s.taken, words);
+    let counts = long_in(s.live, live, s.taken, words);
     Waiting {
         held,
-        pending: line_ending(before, counts, words),
+        pending: line_ending(s.last, counts, words),
     }
 }
 
@@ -111,13 +109,10 @@ fn late_rules(gates: Gates, s: Stream, byte: u8, words: &[u64], live: &[u64; 256
     requires { (is_table words.now ≡ true) × GatesOf words.now gates }
     ensures { result ≡ rules_where (automaton words.now) (late_long (automaton words.now) s live.now byte) }
 {
-    let alive = s.live;
-    let late = gates.late;
-    let before = s.last;
-    if meets(alive, late) {
-        let counts = long_in(alive, live, s.taken, words);
+    if meets(s.live, gates.late) {
+        let counts = long_in(s.live, live, s.taken, words);
         in_window(
-            late_ending(before, side_of(byte), counts, words),
+            late_ending(s.last, side_of(byte), counts, words),
             s.taken,
             words,
         )
@@ -142,14 +137,11 @@ fn counted_after(
     if words[LENGTHS_AT] == 0 {
         return next;
     }
-    let keepers = gates.keepers;
-    let alive = s.live;
-    let before = s.last;
-    let was = sets::intersection(alive, keepers);
-    let reached = sets::intersection(next, keepers);
+    let was = sets::intersection(s.live, gates.keepers);
+    let reached = sets::intersection(next, gates.keepers);
     let stepped = step_starts(
         false,
-        before,
+        s.last,
         side_of(byte),
         was,
         live,
@@ -173,8 +165,7 @@ fn own_rules(
     requires { (is_table words.now ≡ true) × GatesOf words.now gates × (next ≡ next_live (automaton words.now) s byte) × (s.taken + 1 < 2 ^ 63) }
     ensures { result ≡ rules_where (automaton words.now) (own_long (automaton words.now) s live.now byte) }
 {
-    let last = gates.last;
-    if meets(next, last) {
+    if meets(next, gates.last) {
         let counts = counted_after(gates, s, next, byte, words, live);
         in_window(ending(counts, words), s.taken + 1, words)
     } else {
@@ -201,19 +192,16 @@ fn carry_live(
     ensures none { result ≡ false → live.new ≡ zeros max_positions }
     ensures spare { spare.new ≡ spare.old }
 {
-    let keepers = gates.keepers;
-    let alive = s.live;
-    let before = s.last;
-    let reached = sets::intersection(next, keepers);
+    let reached = sets::intersection(next, gates.keepers);
     let more = !sets::is_empty(reached);
     if !(some | more) {
         return false;
     }
-    let was = sets::intersection(alive, keepers);
+    let was = sets::intersection(s.live, gates.keepers);
     carry_starts(
-        before,
+        s.last,
         side_of(byte),
-        alive,
+        s.live,
         was,
         reached,
         s.taken,
@@ -232,55 +220,49 @@ fn carry_waiting(
     byte: u8,
     some: bool,
     words: &[u64],
-    live: &[u64; 256],
-    held: &mut [u64; 256],
-    pairs: &mut [u64; 64],
+    kept: &mut Starts,
 ) -> bool
     requires { (is_table words.now ≡ true) × GatesOf words.now gates
-        × (waiting.held ≡ next_held (automaton words.now) s byte) × (waiting.pending ≡ pending_long (automaton words.now) s live.now byte)
-        × (some ≡ false → (held.old ≡ zeros max_positions) × (pairs.old ≡ zeros max_rules)) }
-    ensures held { held.new ≡ held_next (automaton words.now) s live.now byte }
-    ensures pairs { pairs.new ≡ pairs_next (automaton words.now) s live.now byte }
-    ensures none { result ≡ false → (held.new ≡ zeros max_positions) × (pairs.new ≡ zeros max_rules) }
+        × (waiting.held ≡ next_held (automaton words.now) s byte) × (waiting.pending ≡ pending_long (automaton words.now) s kept.old.live byte)
+        × (some ≡ false → (kept.old.held ≡ zeros max_positions) × (kept.old.pairs ≡ zeros max_rules)) }
+    ensures live { kept.new.live ≡ kept.old.live }
+    ensures held { kept.new.held ≡ held_next (automaton words.now) s kept.old.live byte }
+    ensures pairs { kept.new.pairs ≡ pairs_next (automaton words.now) s kept.old.live byte }
+    ensures none { result ≡ false → (kept.new.held ≡ zeros max_positions) × (kept.new.pairs ≡ zeros max_rules) }
 {
-    let keepers = gates.keepers;
-    let alive = s.live;
-    let before = s.last;
-    let next = waiting.held;
     let rules = waiting.pending & gates.leftmost;
-    let reached = sets::intersection(next, keepers);
+    let reached = sets::intersection(waiting.held, gates.keepers);
     let more = !sets::is_empty(reached) | (rules != 0);
     if !(some | more) {
         return false;
     }
-    let was = sets::intersection(alive, keepers);
+    let was = sets::intersection(s.live, gates.keepers);
     let stepped = step_starts(
         true,
-        before,
+        s.last,
         side_of(byte),
         was,
-        live,
+        &kept.live,
         reached,
         s.taken,
         words,
     );
-    *held = stepped;
-    let kept = starts_of(
+    let paired = starts_of(
         rules,
-        table::gaps::before_last(before),
-        alive,
-        live,
+        table::gaps::before_last(s.last),
+        s.live,
+        &kept.live,
         s.taken,
         words,
     );
-    *pairs = kept;
+    kept.held = stepped;
+    kept.pairs = paired;
     more
 }
 
 // Where the loop over a block stands: the stream, how many bytes are taken, how many reports are
-// written, and the units that are left; whether a start of a live position, and of what is held,
-// may not be 0; and whether it stopped before a byte that is not there, cannot be paid for or
-// cannot be reported.
+// written, and the units that are left; and whether a start of a live position, and of what is
+// held, may not be 0.
 #[derive(Clone, Copy)]
 pub(super) struct Turn {
     pub stream: Stream,
@@ -289,15 +271,12 @@ pub(super) struct Turn {
     pub left: u64,
     pub some: bool,
     pub waits: bool,
-    pub stopped: bool,
 }
 
-// What one byte's runs come to: whether the free space is too small for their reports, how many
-// were written, the marks afterwards, and whether a start of a live position, and of what is held,
-// may not be 0.
+// What one byte's runs come to: how many reports were written, the marks afterwards, and whether a
+// start of a live position, and of what is held, may not be 0.
 #[derive(Clone, Copy)]
 struct Delivery {
-    pub full: bool,
     pub reports: usize,
     pub reported: u64,
     pub some: bool,
@@ -322,17 +301,15 @@ fn carry(
     some: bool,
     waits: bool,
     words: &[u64],
-    live: &mut [u64; 256],
+    kept: &mut Starts,
     spare: &mut [u64; 256],
-    held: &mut [u64; 256],
-    pairs: &mut [u64; 64],
 ) -> Kept
-    requires { Byte words.now gates s next waiting byte some waits (starts_of live.old held.old pairs.old) × (spare.old ≡ zeros max_positions) }
+    requires { Byte words.now gates s next waiting byte some waits kept.old × (spare.old ≡ zeros max_positions) }
     ensures spare { spare.new ≡ spare.old }
-    ensures starts { Carried (automaton words.now) (state_of s live.old held.old pairs.old) byte result.some result.waits (starts_of live.new held.new pairs.new) }
+    ensures starts { Carried (automaton words.now) (state_by s kept.old) byte result.some result.waits kept.new }
 {
-    let behind = carry_waiting(gates, s, waiting, byte, waits, words, live, held, pairs);
-    let ahead = carry_live(gates, s, next, byte, some, words, live, spare);
+    let behind = carry_waiting(gates, s, waiting, byte, waits, words, kept);
+    let ahead = carry_live(gates, s, next, byte, some, words, &mut kept.live, spare);
     Kept {
         some: ahead,
         waits: behind,
@@ -377,8 +354,6 @@ fn late_run(
             reported: s.reported,
         };
     }
-    let alive = s.live;
-    let before = s.last;
     let marks = Marks {
         single: gates.single,
         leftmost: gates.leftmost,
@@ -387,8 +362,8 @@ fn late_run(
     give_run(
         late,
         s.reported,
-        table::gaps::between(before, side_of(byte)),
-        alive,
+        table::gaps::between(s.last, side_of(byte)),
+        s.live,
         live,
         marks,
         words,
@@ -462,37 +437,29 @@ fn report(
     waits: bool,
     first: u64,
     words: &[u64],
-    live: &mut [u64; 256],
+    kept: &mut Starts,
     spare: &mut [u64; 256],
-    held: &mut [u64; 256],
-    pairs: &mut [u64; 64],
     ids: &mut [u32],
     offsets: &mut [u64],
     starts: &mut [u64],
     relatives: &mut [i64],
-) -> Delivery
-    requires { Byte words.now gates s next waiting byte some waits (starts_of live.old held.old pairs.old)
+) -> Option<Delivery>
+    requires { Byte words.now gates s next waiting byte some waits kept.old
         × (first < 2 ^ 63) × (s.taken + 1 < 2 ^ 63) × (spare.old ≡ zeros max_positions) }
     ensures spare { spare.new ≡ spare.old }
-    ensures reports { Delivered (automaton words.now) (state_of s live.old held.old pairs.old) byte first (lists ids.old offsets.old starts.old relatives.old) result.full result.reports result.reported result.some result.waits (starts_of live.new held.new pairs.new) (lists ids.new offsets.new starts.new relatives.new) }
+    ensures reports { Delivered (automaton words.now) (state_by s kept.old) byte first (lists ids.old offsets.old starts.old relatives.old) result kept.new (lists ids.new offsets.new starts.new relatives.new) }
 {
-    let late = late_rules(gates, s, byte, words, live);
-    let own = own_rules(gates, s, next, byte, words, live);
+    let late = late_rules(gates, s, byte, words, &kept.live);
+    let own = own_rules(gates, s, next, byte, words, &kept.live);
     let space = shortest(ids.len(), offsets.len(), starts.len(), relatives.len());
     if too_many(late, own, s.reported, gates.single, space) {
-        return Delivery {
-            full: true,
-            reports: 0,
-            reported: s.reported,
-            some,
-            waits,
-        };
+        return None;
     }
     let one = late_run(
-        late, gates, s, byte, first, words, live, ids, offsets, starts, relatives,
+        late, gates, s, byte, first, words, &kept.live, ids, offsets, starts, relatives,
     );
-    let kept = carry(
-        gates, s, next, waiting, byte, some, waits, words, live, spare, held, pairs,
+    let more = carry(
+        gates, s, next, waiting, byte, some, waits, words, kept, spare,
     );
     let two = own_run(
         own,
@@ -502,27 +469,18 @@ fn report(
         s.taken + 1,
         first,
         words,
-        live,
+        &kept.live,
         ids,
         offsets,
         starts,
         relatives,
     );
-    Delivery {
-        full: false,
+    Some(Delivery {
         reports: two.next,
         reported: two.reported,
-        some: kept.some,
-        waits: kept.waits,
-    }
-}
-
-// A turn that stops.
-fn stop(mut y: Turn) -> Turn
-    ensures { result ≡ stop_at y }
-{
-    y.stopped = true;
-    y
+        some: more.some,
+        waits: more.waits,
+    })
 }
 
 // Takes the next byte of the block, if there is one that can be paid for and whose reports all fit
@@ -533,40 +491,35 @@ fn take_byte(
     first: u64,
     words: &[u64],
     block: &[u8],
-    live: &mut [u64; 256],
+    kept: &mut Starts,
     spare: &mut [u64; 256],
-    held: &mut [u64; 256],
-    pairs: &mut [u64; 64],
     ids: &mut [u32],
     offsets: &mut [u64],
     starts: &mut [u64],
     relatives: &mut [i64],
-) -> Turn
+) -> Option<Turn>
     requires { (is_table words.now ≡ true) × GatesOf words.now gates × (y.count ≤ space (lists ids.old offsets.old starts.old relatives.old))
         × (first < 2 ^ 63) × (y.stream.taken + (length block.now - y.at) ≤ stream_limit)
-        × (y.some ≡ false → live.old ≡ zeros max_positions)
-        × (y.waits ≡ false → (held.old ≡ zeros max_positions) × (pairs.old ≡ zeros max_rules))
-        × OnlyIn y.stream.live live.old × (spare.old ≡ zeros max_positions) }
+        × (y.some ≡ false → kept.old.live ≡ zeros max_positions)
+        × (y.waits ≡ false → (kept.old.held ≡ zeros max_positions) × (kept.old.pairs ≡ zeros max_rules))
+        × OnlyIn y.stream.live kept.old.live × (spare.old ≡ zeros max_positions) }
     ensures spare { spare.new ≡ spare.old }
-    ensures turn { Offered (automaton words.now) (state_of y.stream live.old held.old pairs.old) first block.now y (lists ids.old offsets.old starts.old relatives.old) result (starts_of live.new held.new pairs.new) (lists ids.new offsets.new starts.new relatives.new) }
+    ensures turn { Offered (automaton words.now) (state_by y.stream kept.old) first block.now y (lists ids.old offsets.old starts.old relatives.old) result kept.new (lists ids.new offsets.new starts.new relatives.new) }
 {
     let at = y.at;
     if block.len() <= at {
-        return stop(y);
+        return None;
     }
     let s = y.stream;
     let byte = block[at];
     let new = side_of(byte);
-    let alive = s.live;
-    let before = s.last;
-    let positions = gates.positions;
-    let after = step(before, new, alive, s.taken, words, positions, byte);
+    let after = step(s.last, new, s.live, s.taken, words, gates.positions, byte);
     let cost = 1 + after.turns as u64;
     if y.left < cost {
-        return stop(y);
+        return None;
     }
     let next = after.live;
-    let waiting = left_waiting(s, words, byte, live);
+    let waiting = left_waiting(s, words, byte, &kept.live);
     let count = y.count;
     let r = report(
         gates,
@@ -578,23 +531,18 @@ fn take_byte(
         y.waits,
         first,
         words,
-        live,
+        kept,
         spare,
-        held,
-        pairs,
         &mut ids[count..],
         &mut offsets[count..],
         &mut starts[count..],
         &mut relatives[count..],
-    );
-    if r.full {
-        return stop(y);
-    }
-    let behind = waiting.held;
-    Turn {
+    )?;
+    let held = waiting.held;
+    Some(Turn {
         stream: Stream {
             live: next,
-            held: behind,
+            held,
             reported: r.reported,
             pending: waiting.pending,
             last: new,
@@ -608,8 +556,7 @@ fn take_byte(
         left: y.left - cost,
         some: r.some,
         waits: r.waits,
-        stopped: false,
-    }
+    })
 }
 
 // Takes bytes of the block up to its end, or up to the first that cannot be paid for or whose
@@ -620,40 +567,33 @@ pub(super) fn run(
     words: &[u64],
     allowance: u64,
     block: &[u8],
-    live: &mut [u64; 256],
+    kept: &mut Starts,
     spare: &mut [u64; 256],
-    held: &mut [u64; 256],
-    pairs: &mut [u64; 64],
     ids: &mut [u32],
     offsets: &mut [u64],
     starts: &mut [u64],
     relatives: &mut [i64],
 ) -> Turn
     requires { (is_table words.now ≡ true) × GatesOf words.now gates × (s.taken + length block.now ≤ stream_limit)
-        × InOrder s (starts_of live.old held.old pairs.old) × (spare.old ≡ zeros max_positions) }
-    ensures { Ran (automaton words.now) (state_of s live.old held.old pairs.old) allowance block.now (lists ids.old offsets.old starts.old relatives.old) result (starts_of live.new held.new pairs.new) (lists ids.new offsets.new starts.new relatives.new) }
+        × InOrder s kept.old × (spare.old ≡ zeros max_positions) }
+    ensures { Ran (automaton words.now) (state_by s kept.old) allowance block.now (lists ids.old offsets.old starts.old relatives.old) result kept.new (lists ids.new offsets.new starts.new relatives.new) }
 {
     let first = s.taken;
-    let alive = s.live;
-    let waited = s.held;
     let mut y = Turn {
         stream: s,
         at: 0,
         count: 0,
         left: allowance,
-        some: !sets::is_empty(alive),
-        waits: !sets::is_empty(waited) | (s.pending != 0),
-        stopped: false,
+        some: !sets::is_empty(s.live),
+        waits: !sets::is_empty(s.held) | (s.pending != 0),
     };
-    let mut going = true;
-    while going {
-        let over = pass_over(y, words, block);
-        let next = take_byte(
-            over, gates, first, words, block, live, spare, held, pairs, ids, offsets, starts,
-            relatives,
-        );
-        y = next;
-        going = !next.stopped;
+    'bytes: loop {
+        y = pass_over(y, words, block);
+        match take_byte(
+            y, gates, first, words, block, kept, spare, ids, offsets, starts, relatives,
+        ) {
+            Some(next) => y = next,
+            None => return y,
+        }
     }
-    y
 }

@@ -7,8 +7,7 @@ use Prim.Native.Nat.{ℕ, ◌+◌, ◌-◌, ◌^◌, ◌≤◌, ◌<◌}
 use native.Mathlib.Omega.{arith}
 use lib.ListN.{length, take, drop, length-drop}
 use lib.Seq.{take_all}
-use Rattle.lines.specs.declared.RuleLine.{RuleLine}
-use Rattle.lines.specs.Lines.{rule_line_of}
+use Rattle.lines.specs.Lines.{ReadLine, rule_line_of}
 use Rattle.lines.proofs.Laws.{pattern-within, good-id}
 use Rattle.table.specs.Layout.{table_words}
 use Rattle.table.specs.Table.{is_table, emptied}
@@ -26,7 +25,7 @@ rest-is l from = take_all (length l - from) (drop from l) (omega (arith, length-
 
 -- ---- the rules file
 
-module _ (t line : List ℕ) (r : RuleLine) (e : r ≡ rule_line_of line) where
+module _ (t line : List ℕ) (r : ReadLine) (e : r ≡ rule_line_of line) where
   pub pattern-inside : r.pattern ≤ length line
   pattern-inside = rw e (pattern-within line)
 

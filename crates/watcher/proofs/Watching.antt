@@ -10,6 +10,9 @@ use lib.IntN.{ℤ}
 use lib.ListN.{length, take, drop, length-drop}
 use lib.Seq.{length-take-le}
 use borrow.Author.Tests.{le-leb}
+use Rattle.std.specs.Prelude.{Result}
+use Rattle.std.specs.Result.{IsOk}
+use Rattle.refusals.specs.declared.Refusal.{Refusal}
 use Rattle.lines.specs.Numbers.{askable}
 use Rattle.lines.proofs.Laws.{askable-limit}
 use Rattle.table.specs.Layout.{table_words}
@@ -17,7 +20,9 @@ use Rattle.table.specs.Table.{is_table}
 use Rattle.table.specs.Automaton.{Automaton, automaton}
 use Rattle.table.proofs.Test.{passes}
 use Rattle.stream.specs.declared.Stream.{Stream}
-use Rattle.stream.specs.declared.Scanned.{Scanned}
+use Rattle.stream.specs.declared.Progress.{Progress}
+use Rattle.stream.specs.declared.Ending.{Ending}
+use Rattle.stream.specs.Calls.{Scanned, Closed}
 use Rattle.stream.specs.Byte.{after, state_after}
 use Rattle.stream.specs.Valid.{stream_limit, needs_starts}
 use Rattle.stream.specs.Calls as stream
@@ -28,7 +33,9 @@ use Rattle.stream.proofs.Blocks.{blank, taken-after, closed_after}
 use Rattle.stream.proofs.Results as stream-results
 use Rattle.stream.proofs.Results.{fitting-after, opened-stream}
 use Rattle.traced.specs.declared.Traced.{Traced}
-use Rattle.traced.specs.declared.Scanned.{Scanned as Trace-scanned}
+use Rattle.traced.specs.declared.Progress as trace-progress
+use Rattle.traced.specs.declared.Ending as trace-ending
+use Rattle.traced.specs.Calls.{Scanned as Trace-scanned, Closed as Trace-closed}
 use Rattle.traced.specs.Calls as traced
 use Rattle.traced.proofs.Accepting as traced-accepting
 use Rattle.traced.proofs.Same.{stream_after}
@@ -194,6 +201,23 @@ pub pair-step : (t block : List ℕ) (s now : Stream) (from : ℕ) (ids offsets 
 pair-step t block s now from ids offsets h short half room =
     pair-scans t block now from ids offsets (runs pairs pair-law t block s now from h short half) (fits pairs pair-law t block s now from h short half) room
 
+-- so the next scan is accepted, and so is the closing
+pub pair-ok : (t block : List ℕ) (s now : Stream) (from : ℕ) (ids offsets : List ℕ) → Running pairs t s → s.taken + length block ≤ stream_limit
+    → Half pairs t block s now from → Roomy ids offsets
+    → (r : Result Progress Refusal) → stream.scanned_of now r ≡ stream.scanned t now (unlimited (take (length block - from) (drop from block)) ids offsets) → IsOk r
+pair-ok t block s now from ids offsets h short half room r e =
+    stream-results.scan-ok now r
+    (ap (λ (a : Scanned). a.number) (e ∙ ap (λ (rest : List ℕ). stream.scanned t now (unlimited rest ids offsets)) (rest-is block from))
+    ∙ number t now (drop from block) ids offsets (runs pairs pair-law t block s now from h short half) (fits pairs pair-law t block s now from h short half) room)
+
+pub pair-closes : (t : List ℕ) (s : Stream) (ids offsets : List ℕ) → Running pairs t s → Roomy ids offsets
+    → (r : Result Ending Refusal) → stream.closed_of s r ≡ stream.closed t s (stream.lists ids offsets) → IsOk r
+pair-closes t s ids offsets h room r e =
+    let l = stream.lists ids offsets in
+    stream-results.close-ok s r
+    (ap (λ (a : Closed). a.number) e ∙ stream-results.close-number-is t s l ∙ sym (stream-accepting.close-number t s (stream.space l))
+    ∙ sym (stream-accepting.not-refused t s 0 (stream.space l) h.table h.fits h.going (omega (arith, pair-law.limited (automaton t) s h.fits)) (omega (arith, (passes t h.table).rules))))
+
 -- ---- with starts
 
 pub trace-law : Lawful traces
@@ -244,3 +268,20 @@ pub trace-step : (t block : List ℕ) (z now : Traced) (from : ℕ) (ids offsets
     → Scans traces t now (drop from block) r.taken r.traced
 trace-step t block z now from ids offsets starts relatives h short half room =
     trace-scans t block now from ids offsets starts relatives (runs traces trace-law t block z now from h short half) (fits traces trace-law t block z now from h short half) room
+
+-- so the next scan is accepted, and so is the closing
+pub trace-ok : (t block : List ℕ) (z now : Traced) (from : ℕ) (ids offsets starts : List ℕ) (relatives : List ℤ) → Running traces t z
+    → z.stream.taken + length block ≤ stream_limit → Half traces t block z now from → Wide ids offsets starts relatives
+    → (r : Result trace-progress.Progress Refusal) → traced.scanned_of now r ≡ traced.scanned t now (unlimited-trace (take (length block - from) (drop from block)) ids offsets starts relatives) → IsOk r
+trace-ok t block z now from ids offsets starts relatives h short half room r e =
+    traced-results.scan-ok now r
+    (ap (λ (a : Trace-scanned). a.number) (e ∙ ap (λ (rest : List ℕ). traced.scanned t now (unlimited-trace rest ids offsets starts relatives)) (rest-is block from))
+    ∙ trace-number t now (drop from block) ids offsets starts relatives (runs traces trace-law t block z now from h short half) (fits traces trace-law t block z now from h short half) room)
+
+pub trace-closes : (t : List ℕ) (z : Traced) (ids offsets starts : List ℕ) (relatives : List ℤ) → Running traces t z → Wide ids offsets starts relatives
+    → (r : Result trace-ending.Ending Refusal) → traced.closed_of z r ≡ traced.closed t z (traced.lists ids offsets starts relatives) → IsOk r
+trace-closes t z ids offsets starts relatives h room r e =
+    let l = traced.lists ids offsets starts relatives in
+    traced-results.close-ok z r
+    (ap (λ (a : Trace-closed). a.number) e ∙ traced-results.close-number-is t z l ∙ sym (traced-accepting.close-number t z (traced.space l))
+    ∙ sym (traced-accepting.not-refused t z 0 (traced.space l) h.table h.fits h.going (omega (arith, trace-law.limited (automaton t) z h.fits)) (omega (arith, (passes t h.table).rules))))

@@ -1,7 +1,7 @@
 -- What the private functions keep, so that no call of the library is refused but for a rule: the
 -- words are an emptied table with additions, the stream fits them, and every byte of a block is
 -- taken. Said once for streams with starts and without.
-use Rattle.std.specs.Prelude.{◌≡◌, Bool, true, false, List, ℕ, ◌*◌, ◌≤◌, ℤ, length}
+use Rattle.std.specs.Prelude.{◌≡◌, Bool, true, false, List, ℕ, ◌*◌, ◌≤◌, ℤ, length, Result, IfOk}
 use Rattle.table.specs.Layout.{table_words, max_rules}
 use Rattle.table.specs.Table.{is_table, emptied}
 use Rattle.table.specs.Automaton.{Automaton, automaton}
@@ -49,5 +49,5 @@ abbrev pub Wide : (ids offsets starts : List ℕ) (relatives : List ℤ) → Typ
 Wide ids offsets starts relatives = Roomy ids offsets × ((2 * max_rules ≤ length starts) × (2 * max_rules ≤ length relatives))
 
 -- the state after a whole block, unless a write failed
-abbrev pub AllTaken : {S R : Type 0} → Way S R → List ℕ → S → List ℕ → (good : Bool) → S → Type 0
-AllTaken k t s block good next = good ≡ true → next ≡ after (k.machine (automaton t)) s block (length block)
+abbrev pub AllTaken : {S R E : Type 0} → Way S R → List ℕ → S → List ℕ → Result S E → Type 0
+AllTaken k t s block answer = IfOk answer (λ next. next ≡ after (k.machine (automaton t)) s block (length block))

@@ -10,9 +10,10 @@ mod watch;
 
 fn main(rt: HostRuntime) {
     let mut words = [0u64; 16384];
-    table::empty(&mut words);
+    let _ = table::empty(&mut words);
     let mut out = [0u8; 65536];
-    if rules_file::add_rules(&rt, rt.stdout(), &mut words, &mut out) {
-        watch::watch(rt.stdin(), rt.stdout(), &words, &mut out);
+    // A write that fails ends the program, which says nothing more.
+    if let Ok(true) = rules_file::add_rules(&rt, rt.stdout(), &mut words, &mut out) {
+        let _ = watch::watch(rt.stdin(), rt.stdout(), &words, &mut out);
     }
 }

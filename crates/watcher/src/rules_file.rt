@@ -5,9 +5,9 @@ ghost use Rattle.watcher.specs.Invariants.{FromEmpty};
 
 use crate::output;
 use rules::Added;
-use std::fs;
 use std::io::{Read, Stdout};
 use std::rt::Files;
+use std::{fs, io};
 
 // The most bytes of a rules file. One byte more is read, to see that there is no more.
 const MOST: usize = 16_384;
@@ -17,6 +17,7 @@ fn read_full(file: &mut impl Read, text: &mut [u8]) -> usize
     ensures { result ≤ length text.new }
 {
     let mut size = 0;
+    // How far a turn goes, the read says; `read_to_end` would need a heap.
     while size < text.len() {
         match file.read(&mut text[size..]) {
             Ok(0) | Err(_) => break,
@@ -41,49 +42,50 @@ fn add_line(words: &mut [u64], line: &[u8]) -> Added
     ensures answer { result ≡ line_answer words.old line.now }
     ensures words { words.new ≡ line_words words.old line.now }
 {
-    let rule = lines::rule_line(line);
-    if !rule.good {
+    let Some(rule) = lines::rule_line(line) else {
         return Added {
             number: 22,
             place: 0,
         };
-    }
-    let from = rule.pattern;
-    rules::add(words, rule.id, rule.flags, &line[from..])
+    };
+    rules::add(words, rule.id, rule.flags, &line[rule.pattern..])
 }
 
-// Adds the rules of a text, line by line, and says which were refused; whether all was written.
-fn add_lines(stdout: Stdout, words: &mut [u64], text: &[u8], out: &mut [u8]) -> bool
+// Adds the rules of a text, line by line, and says which were refused.
+fn add_lines(stdout: Stdout, words: &mut [u64], text: &[u8], out: &mut [u8]) -> io::Result<()>
     requires { FromEmpty words.old }
     ensures { FromEmpty words.new }
 {
     let mut from = 0;
     let mut line: u64 = 0;
     let mut at = 0;
+    // `split` would give one more line, an empty one, after the last newline.
     while from < text.len() {
         let end = lines::line_end(text, from);
         line += 1;
         let added = add_line(words, &text[from..end]);
-        let said = output::say_answer(stdout, out, at, line, added.number, added.place);
-        if !said.good {
-            return false;
-        }
-        at = said.next;
+        at = output::say_answer(stdout, out, at, line, added.number, added.place)?;
         from = end + 1;
     }
     output::flush(stdout, out, at)
 }
 
-// Adds the rules of rules.txt; whether to go on.
-pub fn add_rules(rt: &impl Files, stdout: Stdout, words: &mut [u64], out: &mut [u8]) -> bool
+// Adds the rules of rules.txt; whether the file was short enough.
+pub fn add_rules(
+    rt: &impl Files,
+    stdout: Stdout,
+    words: &mut [u64],
+    out: &mut [u8],
+) -> io::Result<bool>
     requires { FromEmpty words.old }
     ensures { FromEmpty words.new }
 {
     let mut text = [0u8; 16385];
     let size = read_rules(rt, &mut text);
     if MOST < size {
-        output::say_too_long(stdout);
-        return false;
+        output::say_too_long(stdout)?;
+        return Ok(false);
     }
-    add_lines(stdout, words, &text[..size], out)
+    add_lines(stdout, words, &text[..size], out)?;
+    Ok(true)
 }

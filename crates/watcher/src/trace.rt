@@ -7,19 +7,13 @@ ghost use Rattle.watcher.specs.Invariants.{traces, Running, Roomy, Wide, AllTake
 
 use crate::output;
 use crate::watch::read_block;
+use std::io;
 use std::io::{Stdin, Stdout};
 use stream::NO_LIMIT;
 use traced::Traced;
 
-// What became of a block: whether its reports were written, and the state after it.
-#[derive(Clone, Copy)]
-struct Traces {
-    good: bool,
-    traced: Traced,
-}
-
-// Scans a block and writes its reports. What a scan leaves, because its reports would not have
-// fitted, is offered again.
+// Scans a block and writes its reports; the state after it. What a scan leaves, because its reports
+// would not have fitted, is offered again.
 fn trace_block(
     stdout: Stdout,
     traced: Traced,
@@ -30,37 +24,34 @@ fn trace_block(
     starts: &mut [u64],
     relatives: &mut [i64],
     out: &mut [u8],
-) -> Traces
+) -> io::Result<Traced>
     requires { Running traces words.now traced × (traced.stream.taken + length block.now ≤ stream_limit)
         × Wide ids.old offsets.old starts.old relatives.old }
-    ensures { AllTaken traces words.now traced block.now result.good result.traced }
+    ensures { AllTaken traces words.now traced block.now result }
 {
     let mut traced = traced;
     let mut from = 0;
     while from < block.len() {
-        let scanned = traced.scan(
-            words,
-            NO_LIMIT,
-            &block[from..],
-            ids,
-            offsets,
-            starts,
-            relatives,
-        );
-        if !output::say_reports(stdout, out, ids, offsets, scanned.reports) {
-            return Traces {
-                good: false,
-                traced,
-            };
-        }
+        let scanned = traced
+            .scan(
+                words,
+                NO_LIMIT,
+                &block[from..],
+                ids,
+                offsets,
+                starts,
+                relatives,
+            )
+            .unwrap();
+        output::say_reports(stdout, out, ids, offsets, scanned.reports)?;
         traced = scanned.traced;
         from += scanned.taken;
     }
-    Traces { good: true, traced }
+    Ok(traced)
 }
 
 // Watches the input to its end, closes the stream and writes the last lines; a write that fails
-// ends it before. Whether all was written.
+// ends it before.
 pub fn trace_input(
     stdin: Stdin,
     stdout: Stdout,
@@ -69,7 +60,7 @@ pub fn trace_input(
     ids: &mut [u32],
     offsets: &mut [u64],
     out: &mut [u8],
-) -> bool
+) -> io::Result<()>
     requires { (is_table words.now ≡ true) × Roomy ids.old offsets.old }
 {
     let mut starts = [0u64; 1536];
@@ -81,7 +72,7 @@ pub fn trace_input(
         if size == 0 {
             break;
         }
-        let watched = trace_block(
+        traced = trace_block(
             stdout,
             traced,
             words,
@@ -91,13 +82,11 @@ pub fn trace_input(
             &mut starts,
             &mut relatives,
             out,
-        );
-        if !watched.good {
-            return false;
-        }
-        traced = watched.traced;
+        )?;
     }
     let total = traced.stream.taken;
-    let closed = traced.close(words, ids, offsets, &mut starts, &mut relatives);
+    let closed = traced
+        .close(words, ids, offsets, &mut starts, &mut relatives)
+        .unwrap();
     output::say_end(stdout, out, ids, offsets, closed.reports, total)
 }

@@ -10,15 +10,9 @@ ghost use Rattle.watcher.specs.Invariants.{pairs, Running, Roomy, AllTaken};
 
 use crate::output;
 use crate::trace::trace_input;
+use std::io;
 use std::io::{Read, Stdin, Stdout};
 use stream::{NO_LIMIT, Stream, needs_starts};
-
-// What became of a block: whether its reports were written, and the state after it.
-#[derive(Clone, Copy)]
-struct Watched {
-    good: bool,
-    stream: Stream,
-}
 
 // Reads some of the next bytes of the input; how many. There are none at its end, and none where a
 // read fails.
@@ -40,8 +34,8 @@ pub(super) fn read_block(stdin: Stdin, block: &mut [u8], taken: u64) -> usize
     read_some(stdin, &mut block[..most])
 }
 
-// Scans a block and writes its reports. What a scan leaves, because its reports would not have
-// fitted, is offered again.
+// Scans a block and writes its reports; the state after it. What a scan leaves, because its reports
+// would not have fitted, is offered again.
 fn watch_block(
     stdout: Stdout,
     stream: Stream,
@@ -50,28 +44,25 @@ fn watch_block(
     ids: &mut [u32],
     offsets: &mut [u64],
     out: &mut [u8],
-) -> Watched
+) -> io::Result<Stream>
     requires { Running pairs words.now stream × (stream.taken + length block.now ≤ stream_limit) × Roomy ids.old offsets.old }
-    ensures { AllTaken pairs words.now stream block.now result.good result.stream }
+    ensures { AllTaken pairs words.now stream block.now result }
 {
     let mut stream = stream;
     let mut from = 0;
     while from < block.len() {
-        let scanned = stream.scan(words, NO_LIMIT, &block[from..], ids, offsets);
-        if !output::say_reports(stdout, out, ids, offsets, scanned.reports) {
-            return Watched {
-                good: false,
-                stream,
-            };
-        }
+        let scanned = stream
+            .scan(words, NO_LIMIT, &block[from..], ids, offsets)
+            .unwrap();
+        output::say_reports(stdout, out, ids, offsets, scanned.reports)?;
         stream = scanned.stream;
         from += scanned.taken;
     }
-    Watched { good: true, stream }
+    Ok(stream)
 }
 
 // Watches the input to its end, closes the stream and writes the last lines; a write that fails
-// ends it before. Whether all was written.
+// ends it before.
 fn watch_input(
     stdin: Stdin,
     stdout: Stdout,
@@ -80,7 +71,7 @@ fn watch_input(
     ids: &mut [u32],
     offsets: &mut [u64],
     out: &mut [u8],
-) -> bool
+) -> io::Result<()>
     requires { (is_table words.now ≡ true) × (needs_starts (automaton words.now) ≡ false) × Roomy ids.old offsets.old }
 {
     let opened = Stream::open(words);
@@ -90,26 +81,22 @@ fn watch_input(
         if size == 0 {
             break;
         }
-        let watched = watch_block(stdout, stream, words, &block[..size], ids, offsets, out);
-        if !watched.good {
-            return false;
-        }
-        stream = watched.stream;
+        stream = watch_block(stdout, stream, words, &block[..size], ids, offsets, out)?;
     }
-    let closed = stream.close(words, ids, offsets);
+    let closed = stream.close(words, ids, offsets).unwrap();
     output::say_end(stdout, out, ids, offsets, closed.reports, stream.taken)
 }
 
 // Watches standard input under a table. The lines of all reports of a call fit in the output's
 // 65,536 bytes: 1,536 times at most 42 bytes.
-pub fn watch(stdin: Stdin, stdout: Stdout, words: &[u64], out: &mut [u8])
+pub fn watch(stdin: Stdin, stdout: Stdout, words: &[u64], out: &mut [u8]) -> io::Result<()>
     requires { is_table words.now ≡ true }
 {
     let mut block = [0u8; 65536];
     let mut ids = [0u32; 1536];
     let mut offsets = [0u64; 1536];
     if needs_starts(words) {
-        trace_input(
+        return trace_input(
             stdin,
             stdout,
             words,
@@ -118,7 +105,6 @@ pub fn watch(stdin: Stdin, stdout: Stdout, words: &[u64], out: &mut [u8])
             &mut offsets,
             out,
         );
-        return;
     }
     watch_input(
         stdin,
@@ -128,5 +114,5 @@ pub fn watch(stdin: Stdin, stdout: Stdout, words: &[u64], out: &mut [u8])
         &mut ids,
         &mut offsets,
         out,
-    );
+    )
 }

@@ -6,8 +6,7 @@ use mathlib.Core.List.{List}
 use Prim.Native.Nat.{ℕ}
 use lib.Dec.{eqb}
 use Rattle.table.specs.Automaton.{automaton}
-use Rattle.stream.specs.declared.Scanned.{Scanned}
-use Rattle.stream.specs.declared.Closed.{Closed}
+use Rattle.stream.specs.Calls.{Scanned, Closed}
 use Rattle.stream.specs.Calls as stream
 use Rattle.states.specs.State.{state_of, stream_form}
 use Rattle.states.specs.Call.{short, stored_in, on_state}

@@ -6,12 +6,11 @@ use Rattle.std.specs.Prelude.{cond, ◌&&◌, List, ℕ}
 use Rattle.table.specs.Table.{is_table}
 use Rattle.table.specs.Automaton.{automaton}
 use Rattle.stream.specs.declared.Stream.{Stream}
-use Rattle.stream.specs.declared.Scanned.{Scanned}
-use Rattle.stream.specs.declared.Closed.{Closed}
+use Rattle.stream.specs.Calls.{Scanned, Closed}
 use Rattle.stream.specs.Valid.{needs_starts}
 use Rattle.stream.specs.Calls as stream
 use Rattle.pattern.specs.declared.bounds.Bounds.{Bounds}
-use Rattle.plain.specs.declared.Matched.{Matched}
+use Rattle.plain.specs.Answer.{Matched}
 use Rattle.matched.specs.Matched.{matched_part}
 use Rattle.states.specs.State.{stream_form}
 use Rattle.states.specs.Call.{short_state, Given, Call, Scan, scan, Closing, closing}

@@ -18,7 +18,7 @@ ghost use Rattle.states.specs.Call.{open_number, stored_in, busy_figure, left, o
 ghost use Rattle.watcher_c.specs.Interface.{bounds, matched, test_number, needs_number, scan_call, close_call, matched_source};
 
 use pattern::Bounds;
-use states::{SHORT_STATE, STATE_WORDS, load, store};
+use states::{InWords, SHORT_STATE, busy};
 use stream::{Stream, needs_starts};
 
 // Where the bytes of a match stand.
@@ -32,7 +32,7 @@ pub extern "C" fn watcher_empty(table: &mut [u64]) -> u32
     ensures answer { result ≡ empty_number table.old }
     ensures table { table.new ≡ emptied table.old }
 {
-    table::empty(table)
+    refusals::code(&table::empty(table))
 }
 
 // 0 if the words are a table, else 1.
@@ -114,13 +114,12 @@ pub extern "C" fn watcher_open(table: &[u64], state: &mut [u64]) -> u32
     ensures answer { result ≡ open_number stream_form (opened table.now).number state.old }
     ensures state { state.new ≡ stored_in stream_form (opened table.now).stream state.old }
 {
-    if state.len() < STATE_WORDS {
+    if state.len() < Stream::WORDS {
         return SHORT_STATE;
     }
-    let r = Stream::open(table);
-    let next = r.stream;
-    store(state, next);
-    r.number
+    let opened = Stream::open(table);
+    opened.stream.store(state);
+    refusals::number_if(opened.refusal)
 }
 
 // Scans a block within an allowance of work, and says how many bytes it took, how many reports it
@@ -140,22 +139,23 @@ pub extern "C" fn watcher_scan(
     ensures { left (scan result taken.new reports.new used.new) state.new (lists ids.new offsets.new)
         ≡ on_state (scan_call table.now (call allowance block.now (lists ids.old offsets.old))) state.old }
 {
-    if state.len() < STATE_WORDS {
-        *taken = 0;
-        *reports = 0;
-        *used = 0;
+    *taken = 0;
+    *reports = 0;
+    *used = 0;
+    if state.len() < Stream::WORDS {
         return SHORT_STATE;
     }
-    let s = load(state);
-    let r = s.scan(table, allowance, block, ids, offsets);
-    *taken = r.taken;
-    *reports = r.reports;
-    *used = r.used;
-    let next = r.stream;
-    if r.number == 0 {
-        store(state, next);
+    let s = Stream::load(state);
+    match s.scan(table, allowance, block, ids, offsets) {
+        Ok(progress) => {
+            *taken = progress.taken;
+            *reports = progress.reports;
+            *used = progress.used;
+            progress.stream.store(state);
+            0
+        }
+        Err(refusal) => refusal.number(),
     }
-    r.number
 }
 
 // Closes a stream, and says how many reports it wrote.
@@ -170,18 +170,19 @@ pub extern "C" fn watcher_close(
     ensures { left (closing result reports.new) state.new (lists ids.new offsets.new)
         ≡ on_state (close_call table.now (lists ids.old offsets.old)) state.old }
 {
-    if state.len() < STATE_WORDS {
-        *reports = 0;
+    *reports = 0;
+    if state.len() < Stream::WORDS {
         return SHORT_STATE;
     }
-    let s = load(state);
-    let r = s.close(table, ids, offsets);
-    *reports = r.reports;
-    let next = r.stream;
-    if r.number == 0 {
-        store(state, next);
+    let s = Stream::load(state);
+    match s.close(table, ids, offsets) {
+        Ok(ending) => {
+            *reports = ending.reports;
+            ending.stream.store(state);
+            0
+        }
+        Err(refusal) => refusal.number(),
     }
-    r.number
 }
 
 // How many positions are live.
@@ -189,11 +190,7 @@ pub extern "C" fn watcher_close(
 pub extern "C" fn watcher_busy(state: &[u64]) -> u32
     ensures { result ≡ busy_figure stream_form state.now }
 {
-    if state.len() < STATE_WORDS {
-        return 0;
-    }
-    let s = load(state);
-    s.busy()
+    busy::<Stream>(state)
 }
 
 // Writes a block of a table, and says at which place it was refused.
@@ -208,9 +205,16 @@ pub extern "C" fn watcher_write_block(
     ensures block { block.new ≡ written_block table.now number block.old }
     ensures place { place.new ≡ (write_answer table.now number block.old).place }
 {
-    let r = card::write_block(table, number, block);
-    *place = r.place;
-    r.number
+    match card::write_block(table, number, block) {
+        Ok(()) => {
+            *place = 0;
+            0
+        }
+        Err(misplaced) => {
+            *place = misplaced.place;
+            misplaced.refusal.number()
+        }
+    }
 }
 
 // Reads a block of a table, and says at which place it was refused.
@@ -225,9 +229,16 @@ pub extern "C" fn watcher_read_block(
     ensures table { table.new ≡ read_words table.old number block.now }
     ensures place { place.new ≡ (read_answer table.old number block.now).place }
 {
-    let r = card::read_block(table, number, block);
-    *place = r.place;
-    r.number
+    match card::read_block(table, number, block) {
+        Ok(()) => {
+            *place = 0;
+            0
+        }
+        Err(misplaced) => {
+            *place = misplaced.place;
+            misplaced.refusal.number()
+        }
+    }
 }
 
 // Where the bytes of a match stand, in a kept tail or in the block right after it, which begins at
@@ -264,7 +275,7 @@ pub extern "C" fn watcher_matched_number(
 ) -> u32
     ensures { result ≡ matched_number tail.now block.now offset start end }
 {
-    matched::matched_number(tail, block, offset, start, end)
+    refusals::code(&matched::matched_number(tail, block, offset, start, end))
 }
 
 // The plain second matcher, for disputes: what one rule reports on a whole log, by no table. Says
@@ -285,8 +296,16 @@ pub extern "C" fn watcher_plain(
     ensures { Matches (question pattern.now flags (bounds lowest highest shortest) log.now) (lent offsets.old starts.old) (lent offsets.new starts.new) (matched result place.new reports.new) }
 {
     let bounds = bounds_of(lowest, highest, shortest);
-    let r = plain::matches(pattern, flags, bounds, log, offsets, starts);
-    *place = r.place;
-    *reports = r.count;
-    r.number
+    match plain::matches(pattern, flags, bounds, log, offsets, starts) {
+        Ok(count) => {
+            *place = 0;
+            *reports = count;
+            0
+        }
+        Err(fault) => {
+            *place = fault.place;
+            *reports = 0;
+            fault.refusal.number()
+        }
+    }
 }

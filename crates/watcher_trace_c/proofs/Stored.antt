@@ -6,8 +6,7 @@ use mathlib.Core.List.{List}
 use Prim.Native.Nat.{ℕ}
 use lib.Dec.{eqb}
 use Rattle.table.specs.Automaton.{automaton}
-use Rattle.traced.specs.declared.Scanned.{Scanned}
-use Rattle.traced.specs.declared.Closed.{Closed}
+use Rattle.traced.specs.Calls.{Scanned, Closed}
 use Rattle.traced.specs.Calls as trace
 use Rattle.states.specs.State.{trace_of, traced_form}
 use Rattle.states.specs.Call.{short, stored_in, on_state}

@@ -3,8 +3,7 @@
 -- words. Assumes nothing: these are definitions.
 use Rattle.std.specs.Prelude.{List, ℕ}
 use Rattle.traced.specs.declared.Traced.{Traced}
-use Rattle.traced.specs.declared.Scanned.{Scanned}
-use Rattle.traced.specs.declared.Closed.{Closed}
+use Rattle.traced.specs.Calls.{Scanned, Closed}
 use Rattle.traced.specs.Calls as traced
 use Rattle.states.specs.State.{traced_form}
 use Rattle.states.specs.Call.{short_state, Given, Call, Scan, scan, Closing, closing}

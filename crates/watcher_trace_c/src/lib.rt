@@ -1,7 +1,9 @@
 // The functions for C and Rust on a stream with starts: its state is 591 words that the caller
 // owns, and a report is a slot of four lists. A crate by itself, so that the compiler sees one
-// caller of the loop here and one in watcher_c. Nothing is required of a caller but that its slices
-// are what they say.
+// caller of the loop here and one in watcher_c, whose names C gives, too. Tried as one generic
+// function with a closure that lends the lists: the proof knows nothing of lists that a closure
+// borrows and is not called with. Nothing is required of a caller but that its slices are what they
+// say.
 #![tactic(auto)]
 
 ghost use Rattle.std.specs.Prelude.{◌≡◌};
@@ -10,7 +12,7 @@ ghost use Rattle.states.specs.State.{traced_form};
 ghost use Rattle.states.specs.Call.{open_number, stored_in, busy_figure, left, on_state, scan, closing};
 ghost use Rattle.watcher_trace_c.specs.Interface.{scan_call, close_call};
 
-use states::{SHORT_STATE, TRACE_WORDS, load, load_traced, store_traced};
+use states::{InWords, SHORT_STATE, busy};
 use traced::Traced;
 
 // Opens a stream with starts over a table.
@@ -19,13 +21,12 @@ pub extern "C" fn watcher_trace_open(table: &[u64], state: &mut [u64]) -> u32
     ensures answer { result ≡ open_number traced_form (opened table.now).number state.old }
     ensures state { state.new ≡ stored_in traced_form (opened table.now).traced state.old }
 {
-    if state.len() < TRACE_WORDS {
+    if state.len() < Traced::WORDS {
         return SHORT_STATE;
     }
-    let r = Traced::open(table);
-    let next = r.traced;
-    store_traced(state, next);
-    r.number
+    let opened = Traced::open(table);
+    opened.traced.store(state);
+    refusals::number_if(opened.refusal)
 }
 
 // Scans a block within an allowance of work, and says how many bytes it took, how many reports it
@@ -47,22 +48,23 @@ pub extern "C" fn watcher_trace_scan(
     ensures { left (scan result taken.new reports.new used.new) state.new (lists ids.new offsets.new starts.new relatives.new)
         ≡ on_state (scan_call table.now (call allowance block.now (lists ids.old offsets.old starts.old relatives.old))) state.old }
 {
-    if state.len() < TRACE_WORDS {
-        *taken = 0;
-        *reports = 0;
-        *used = 0;
+    *taken = 0;
+    *reports = 0;
+    *used = 0;
+    if state.len() < Traced::WORDS {
         return SHORT_STATE;
     }
-    let s = load_traced(state);
-    let r = s.scan(table, allowance, block, ids, offsets, starts, relatives);
-    *taken = r.taken;
-    *reports = r.reports;
-    *used = r.used;
-    let next = r.traced;
-    if r.number == 0 {
-        store_traced(state, next);
+    let s = Traced::load(state);
+    match s.scan(table, allowance, block, ids, offsets, starts, relatives) {
+        Ok(progress) => {
+            *taken = progress.taken;
+            *reports = progress.reports;
+            *used = progress.used;
+            progress.traced.store(state);
+            0
+        }
+        Err(refusal) => refusal.number(),
     }
-    r.number
 }
 
 // Closes a stream with starts, and says how many reports it wrote.
@@ -79,18 +81,19 @@ pub extern "C" fn watcher_trace_close(
     ensures { left (closing result reports.new) state.new (lists ids.new offsets.new starts.new relatives.new)
         ≡ on_state (close_call table.now (lists ids.old offsets.old starts.old relatives.old)) state.old }
 {
-    if state.len() < TRACE_WORDS {
-        *reports = 0;
+    *reports = 0;
+    if state.len() < Traced::WORDS {
         return SHORT_STATE;
     }
-    let s = load_traced(state);
-    let r = s.close(table, ids, offsets, starts, relatives);
-    *reports = r.reports;
-    let next = r.traced;
-    if r.number == 0 {
-        store_traced(state, next);
+    let s = Traced::load(state);
+    match s.close(table, ids, offsets, starts, relatives) {
+        Ok(ending) => {
+            *reports = ending.reports;
+            ending.traced.store(state);
+            0
+        }
+        Err(refusal) => refusal.number(),
     }
-    r.number
 }
 
 // How many positions are live in a state with starts.
@@ -98,9 +101,5 @@ pub extern "C" fn watcher_trace_close(
 pub extern "C" fn watcher_trace_busy(state: &[u64]) -> u32
     ensures { result ≡ busy_figure traced_form state.now }
 {
-    if state.len() < TRACE_WORDS {
-        return 0;
-    }
-    let s = load(state);
-    s.busy()
+    busy::<Traced>(state)
 }

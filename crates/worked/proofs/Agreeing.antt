@@ -13,7 +13,7 @@ use lib.ListN.{length, get_or}
 use borrow.Author.Tests.{le-ltb}
 use Rattle.sets.specs.Set.{on, has, any, empty_set, union_of}
 use Rattle.sets.proofs.Laws.{has-set_of, has-empty, has-union, set_of-ext, any-ext}
-use Rattle.sets.proofs.Digits.{word_of-ext}
+use Rattle.sets.proofs.Bits.{word_of-ext}
 use Rattle.kinds.specs.declared.Side.{Side}
 use Rattle.kinds.specs.declared.Side.TheVariants.{Newline}
 use Rattle.kinds.specs.Side.{side_of}

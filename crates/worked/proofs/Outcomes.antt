@@ -14,11 +14,9 @@ use borrow.Author.Tests.{eq-eqb, ne_eqb}
 use Rattle.table.specs.Table.{is_table}
 use Rattle.table.specs.Automaton.{Automaton, automaton}
 use Rattle.stream.specs.declared.Stream.{Stream}
-use Rattle.stream.specs.declared.Scanned.{Scanned}
-use Rattle.stream.specs.declared.Closed.{Closed}
 use Rattle.stream.specs.Byte.{plain, state_after, fits}
 use Rattle.stream.specs.Valid.{valid}
-use Rattle.stream.specs.Calls.{Lists, Call, space, space_number, scan_number, close_number, call_number, taken_by, scanned, scanned_lists, shut, closed, closed_lists, over_limit}
+use Rattle.stream.specs.Calls.{Scanned, Closed, Lists, Call, space, space_number, scan_number, close_number, call_number, taken_by, scanned, scanned_lists, shut, closed, closed_lists, over_limit}
 use Rattle.stream.proofs.Machines.{fits_le}
 use Rattle.stream.proofs.Results.{accepted-scan, refused-scan, accepted-close, refused-close}
 use Rattle.meaning.specs.Ordered.{Report}

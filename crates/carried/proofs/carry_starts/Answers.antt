@@ -12,8 +12,7 @@ use Rattle.carried.proofs.carry_starts.Goals as goal
 
 pub returns-then-words-lt-TABLE_WORDS : goal.returns-then-words-lt-TABLE_WORDS
 returns-then-words-lt-TABLE_WORDS c =
-    let s = c in
-    let a = s.args in
+    let a = c.args in
     in-place-off a.words.now a.before a.after a.live a.keeping a.next a.taken a.starts.now a.spare.now _
     c.if-words-lt-TABLE_WORDS.true c.put.ensures
 

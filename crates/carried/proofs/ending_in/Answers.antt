@@ -29,23 +29,15 @@ none_is t gap set h =
 
 pub met_row-requires : goal.met_row-requires
 met_row-requires c =
-    let c-if1 = c.if-gap-lt-LAST_GAPS in
-    let c-start = c in
-    omega (arith, c-start.requires, c-if1.true)
+    omega (arith, c.requires, c.if-gap-lt-LAST_GAPS.true)
 
 pub returns-then-gap-lt-LAST_GAPS : goal.returns-then-gap-lt-LAST_GAPS
 returns-then-gap-lt-LAST_GAPS c =
-    let c-met-row = c.met_row in
-    let c-if1 = c.if-gap-lt-LAST_GAPS in
-    let c-start = c in
-    let a = c-start.args in
-    c-met-row.ensures ∙ swapped (set_of (row_has a.words.now (last_at a.gap))) a.set
-    ∙ ap (intersection_of a.set) (last_is a.words.now a.gap c-if1.true)
+    let a = c.args in
+    c.met_row.ensures ∙ swapped (set_of (row_has a.words.now (last_at a.gap))) a.set
+    ∙ ap (intersection_of a.set) (last_is a.words.now a.gap c.if-gap-lt-LAST_GAPS.true)
 
 pub returns : goal.returns
 returns c =
-    let c-empty = c.empty in
-    let c-if1 = c.if-gap-lt-LAST_GAPS in
-    let c-start = c in
-    let a = c-start.args in
-    c-empty.ensures ∙ none_is a.words.now a.gap a.set c-if1.false
+    let a = c.args in
+    c.empty.ensures ∙ none_is a.words.now a.gap a.set c.if-gap-lt-LAST_GAPS.false

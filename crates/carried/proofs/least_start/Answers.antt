@@ -1,36 +1,14 @@
--- `carried::least_start` meets its contract: the four words, one after the other.
+-- `carried::least_start` meets its contract: word by word.
+use Rattle.std.proofs.Common.{sym}
+use Rattle.steps.proofs.Carrying.{least-first, least-next, least-last}
 use native.Mathlib.Omega.{arith}
-use Rattle.steps.proofs.Carrying.{least-set}
 use Rattle.carried.proofs.least_start.Goals as goal
 
-pub least_word-a-requires : goal.least_word-a-requires
-least_word-a-requires c =
-    let c-start = c in
-    (c-start.requires, omega arith)
+pub loop-i-init : goal.loop-i-init
+loop-i-init c = let a = c.args in sym (least-first a.words.now a.owner a.starts.now a.set a.least)
 
-pub least_word-b-requires : goal.least_word-b-requires
-least_word-b-requires c =
-    let c-start = c in
-    (c-start.requires, omega arith)
-
-pub least_word-c-requires : goal.least_word-c-requires
-least_word-c-requires c =
-    let c-start = c in
-    (c-start.requires, omega arith)
-
-pub least_word-requires : goal.least_word-requires
-least_word-requires c =
-    let c-start = c in
-    (c-start.requires, omega arith)
+pub loop-i-preserved : goal.loop-i-preserved
+loop-i-preserved c = let a = c.args in least-next a.words.now a.owner a.starts.now a.set a.least c.loop-i.i c.loop-i.invariant c.least_word-least.ensures
 
 pub returns : goal.returns
-returns c =
-    let c-least-word4 = c.least_word in
-    let c-least-word3 = c.least_word-c in
-    let c-least-word2 = c.least_word-b in
-    let c-least-word = c.least_word-a in
-    let c-start = c in
-    let a = c-start.args in
-    least-set a.words.now a.owner a.starts.now a.set a.least
-    c-least-word.result c-least-word2.result c-least-word3.result c-least-word4.result
-    c-least-word.ensures c-least-word2.ensures c-least-word3.ensures c-least-word4.ensures
+returns c = let a = c.args in least-last a.words.now a.owner a.starts.now a.set a.least c.loop-i.i (omega arith) c.loop-i.invariant

@@ -1,10 +1,7 @@
--- `carried::put_word` meets its contract: each turn puts the start in at the lowest digit
--- that is left, and clears it.
+-- `carried::put_word` meets its contract: each turn puts the start in at the lowest digit that is
+-- left.
 use Rattle.steps.proofs.Carrying.{PutLeft}
 use Rattle.carried.proofs.put_word.Given as goal
 
-abbrev pub invariant-loop-word : goal.invariant-loop-word
-invariant-loop-word l = PutLeft l.initial.word l.i l.keep l.start l.initial.starts l.word l.starts
-
-abbrev pub decreases-loop-word : goal.decreases-loop-word
-decreases-loop-word l = l.word
+abbrev pub invariant-loop-k : goal.invariant-loop-k
+invariant-loop-k l = PutLeft l.word l.i l.keep l.start l.initial.starts l.k-iterator.0 l.starts

@@ -1,5 +1,5 @@
 -- `carried::rule_starts` meets its contract: each turn gives the lowest rule that is left its
--- start, and clears its digit (`RulesLeft`).
+-- start.
 use mathlib.Core.List.{List}
 use Prim.Native.Nat.{ℕ}
 use lib.ListN.{get_or}
@@ -12,8 +12,5 @@ use Rattle.carried.proofs.rule_starts.Given as goal
 abbrev pub give : (words found starts from : List ℕ) → ℕ → ℕ
 give words found starts from a = least_owned words (has found) a starts (get_or from a 0)
 
-abbrev pub invariant-loop-rules : goal.invariant-loop-rules
-invariant-loop-rules l = RulesLeft (give l.words l.found l.starts l.from) l.initial.rules l.rules l.new
-
-abbrev pub decreases-loop-rules : goal.decreases-loop-rules
-decreases-loop-rules l = l.rules
+abbrev pub invariant-loop-a : goal.invariant-loop-a
+invariant-loop-a l = RulesLeft (give l.words l.found l.starts l.from) l.rules l.a-iterator.0 l.new

@@ -21,21 +21,15 @@ returns-then-words-lt-TABLE_WORDS c =
 
 pub returns-then-words-eq0 : goal.returns-then-words-eq0
 returns-then-words-eq0 c =
-    let s = c in
-    let a = s.args in
+    let a = c.args in
     let t = a.words.now in
-    all-long t a.set a.starts.now a.end (words-good a.set _ s.well_formed.0) c.if-words-eq0.true
+    all-long t a.set a.starts.now a.end (words-good a.set _ c.well_formed.0) c.if-words-eq0.true
     ∙ sym (set_on_lem t (long_in (automaton t) a.set a.starts.now a.end) c.if-words-lt-TABLE_WORDS.false)
 
 pub returns : goal.returns
 returns c =
-    let third = c in
-    let second = third.before.before in
-    let first = second.before.before in
-    let asked = first.before.before in
-    let s = asked.before.before.before.before in
-    let a = s.args in
+    let a = c.args in
     let t = a.words.now in
-    list_of first.long_word-a.ensures second.long_word-b.ensures third.long_word-c.ensures c.long_word-d.ensures
-    ∙ long-words t a.set a.starts.now a.end asked.if-words-eq0.false
-    ∙ sym (set_on_lem t (long_in (automaton t) a.set a.starts.now a.end) asked.if-words-lt-TABLE_WORDS.false)
+    list_of c.long_word-a.ensures c.long_word-b.ensures c.long_word-c.ensures c.long_word-d.ensures
+    ∙ long-words t a.set a.starts.now a.end c.if-words-eq0.false
+    ∙ sym (set_on_lem t (long_in (automaton t) a.set a.starts.now a.end) c.if-words-lt-TABLE_WORDS.false)

@@ -12,8 +12,5 @@ use Rattle.lengths.proofs.long_word.Given as goal
 abbrev pub passes : (t starts : List ℕ) → (end keeping i : ℕ) → ℕ → Bool
 passes t starts end keeping i k = not (on keeping k) || long_at t starts end (i * 64 + k)
 
-abbrev pub invariant-loop-left : goal.invariant-loop-left
-invariant-loop-left l = SiftLeft l.keeping (passes l.words l.starts l.end l.keeping l.i) l.word l.left l.found
-
-abbrev pub decreases-loop-left : goal.decreases-loop-left
-decreases-loop-left l = l.left
+abbrev pub invariant-loop-k : goal.invariant-loop-k
+invariant-loop-k l = SiftLeft l.keeping (passes l.words l.starts l.end l.keeping l.i) l.word l.k-iterator.0 l.found

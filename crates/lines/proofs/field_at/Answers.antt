@@ -1,6 +1,6 @@
 -- `lines::field_at` meets its contract: its tests are the four properties of a field, and a field's
 -- number is below the cap and its space within the line.
-use mathlib.Core.Path.{◌≡◌, refl, sym}
+use mathlib.Core.Path.{◌≡◌}
 use native.Mathlib.Omega.{arith}
 use borrow.Author.Tests.{leb-true, leb-false, eqb-true, eqb-false}
 use lib.ListN.{get_or, drop}
@@ -37,23 +37,18 @@ bad c g =
       | else-size-ge1-via-else-size-ge1 w ↦ omega tests
     ]
 
-pub overflow_cast-number : goal.overflow_cast-number
-overflow_cast-number c = omega (arith, (good c).small)
+pub overflow_cast-result : goal.overflow_cast-result
+overflow_cast-result c = omega (arith, (good c).small)
 
-pub overflow_add-next : goal.overflow_add-next
-overflow_add-next c = omega (arith, space-within _ _ _ _ (c.digits_at-digits.ensures.value, c.digits_at-digits.ensures.end) (good c))
+pub overflow_add-result : goal.overflow_add-result
+overflow_add-result c = omega (arith, space-within _ _ _ _ (c.digits_at-digits.ensures.value, c.digits_at-digits.ensures.end) (good c))
 
 pub returns-then-after-eq-SPACE : goal.returns-then-after-eq-SPACE
 returns-then-after-eq-SPACE c =
     let x = c.args in
     let d = c.digits_at-digits in
     let r : Read x.line.now x.from d.result.value d.result.end = (d.ensures.value, d.ensures.end) in
-    record {
-      good = sym (field-good _ (good c));
-      value = value_of _ _ _ _ r (good c);
-      next = next_of _ _ _ _ r;
-    }
+    (field-good _ (good c), (value_of _ _ _ _ r (good c), next_of _ _ _ _ r))
 
 pub returns : goal.returns
-returns c =
-    record { good = sym (field-bad _ (bad c)); value = refl; next = refl }
+returns c = field-bad _ (bad c)

@@ -9,22 +9,16 @@ use Rattle.matched.proofs.in_block.Goals as goal
 
 pub overflow_sub-result : goal.overflow_sub-result
 overflow_sub-result c =
-    let c-start = c.before in
-    let c-if1 = c.if-offset-start in
-    let a = c-start.args in
-    let both = (and-eq-true_iff (leb a.offset a.start) (leb a.start a.end)).0 c-if1.true in
+    let a = c.args in
+    let both = (and-eq-true_iff (leb a.offset a.start) (leb a.start a.end)).0 c.if-offset-start.true in
     omega (arith, leb-true a.offset a.start both.0, leb-true a.start a.end both.1)
 
 pub returns-then-offset-start : goal.returns-then-offset-start
 returns-then-offset-start c =
-    let c-start = c.before in
-    let c-if1 = c.if-offset-start in
-    let a = c-start.args in
-    block-test a.block.now a.offset a.start a.end c-if1.true
+    let a = c.args in
+    block-test a.block.now a.offset a.start a.end c.if-offset-start.true
 
 pub returns : goal.returns
 returns c =
-    let c-start = c.before in
-    let c-if1 = c.if-offset-start in
-    let a = c-start.args in
-    block-fails a.block.now a.offset a.start a.end c-if1.false
+    let a = c.args in
+    block-fails a.block.now a.offset a.start a.end c.if-offset-start.false

@@ -9,22 +9,16 @@ use Rattle.matched.proofs.in_tail.Goals as goal
 
 pub overflow_sub-result : goal.overflow_sub-result
 overflow_sub-result c =
-    let c-start = c.before in
-    let c-if1 = c.if-start-end in
-    let a = c-start.args in
-    let both = (and-eq-true_iff (leb a.start a.end) (leb a.end a.offset)).0 c-if1.true in
+    let a = c.args in
+    let both = (and-eq-true_iff (leb a.start a.end) (leb a.end a.offset)).0 c.if-start-end.true in
     omega (arith, leb-true a.start a.end both.0, leb-true a.end a.offset both.1)
 
 pub returns-then-start-end : goal.returns-then-start-end
 returns-then-start-end c =
-    let c-start = c.before in
-    let c-if1 = c.if-start-end in
-    let a = c-start.args in
-    tail-test a.tail.now a.offset a.start a.end c-if1.true
+    let a = c.args in
+    tail-test a.tail.now a.offset a.start a.end c.if-start-end.true
 
 pub returns : goal.returns
 returns c =
-    let c-start = c.before in
-    let c-if1 = c.if-start-end in
-    let a = c-start.args in
-    tail-fails a.tail.now a.offset a.start a.end c-if1.false
+    let a = c.args in
+    tail-fails a.tail.now a.offset a.start a.end c.if-start-end.false

@@ -7,127 +7,81 @@ use Rattle.matched.proofs.matched_bytes.Goals as goal
 
 pub overflow_sub-from : goal.overflow_sub-from
 overflow_sub-from c =
-    let c-start = c.before.before.before.before in
-    let c-in-block = c.in_block in
-    let c-if1 = c.if-in_block in
-    let a = c-start.args in
-    let h = in-block a.block.now a.offset a.start a.end (sym c-in-block.ensures ∙ c-if1.true) in
+    let a = c.args in
+    let h = in-block a.block.now a.offset a.start a.end (sym c.in_block.ensures ∙ c.if-in_block.true) in
     omega (arith, h.after, h.rises, h.inside)
 
 pub overflow_sub-to : goal.overflow_sub-to
 overflow_sub-to c =
-    let c-start = c.before.before.before.before in
-    let c-in-block = c.in_block in
-    let c-if1 = c.if-in_block in
-    let a = c-start.args in
-    let h = in-block a.block.now a.offset a.start a.end (sym c-in-block.ensures ∙ c-if1.true) in
+    let a = c.args in
+    let h = in-block a.block.now a.offset a.start a.end (sym c.in_block.ensures ∙ c.if-in_block.true) in
     omega (arith, h.after, h.rises, h.inside)
 
 pub slice_bounds-result-count : goal.slice_bounds-result-count
 slice_bounds-result-count c =
-    let c-start = c.before.before.before.before in
-    let c-in-block = c.in_block in
-    let c-if1 = c.if-in_block in
-    let a = c-start.args in
-    let h = in-block a.block.now a.offset a.start a.end (sym c-in-block.ensures ∙ c-if1.true) in
+    let a = c.args in
+    let h = in-block a.block.now a.offset a.start a.end (sym c.in_block.ensures ∙ c.if-in_block.true) in
     omega (arith, h.after, h.rises, h.inside)
 
 pub slice_bounds-result-start : goal.slice_bounds-result-start
 slice_bounds-result-start c =
-    let c-start = c.before.before.before.before in
-    let c-in-block = c.in_block in
-    let c-if1 = c.if-in_block in
-    let a = c-start.args in
-    let h = in-block a.block.now a.offset a.start a.end (sym c-in-block.ensures ∙ c-if1.true) in
+    let a = c.args in
+    let h = in-block a.block.now a.offset a.start a.end (sym c.in_block.ensures ∙ c.if-in_block.true) in
     omega (arith, h.after, h.rises, h.inside)
 
 pub slice_bounds-result-end : goal.slice_bounds-result-end
 slice_bounds-result-end c =
-    let c-start = c.before.before.before.before in
-    let c-in-block = c.in_block in
-    let c-if1 = c.if-in_block in
-    let a = c-start.args in
-    let h = in-block a.block.now a.offset a.start a.end (sym c-in-block.ensures ∙ c-if1.true) in
+    let a = c.args in
+    let h = in-block a.block.now a.offset a.start a.end (sym c.in_block.ensures ∙ c.if-in_block.true) in
     omega (arith, h.after, h.rises, h.inside)
 
 pub returns-then-in_block : goal.returns-then-in_block
 returns-then-in_block c =
-    let c-start = c.before.before.before.before.before in
-    let c-in-block = c.in_block in
-    let c-if1 = c.if-in_block in
-    let a = c-start.args in
-    (from_block a.tail.now a.block.now a.offset a.start a.end (sym c-in-block.ensures ∙ c-if1.true)).0
+    let a = c.args in
+    (from_block a.tail.now a.block.now a.offset a.start a.end (sym c.in_block.ensures ∙ c.if-in_block.true)).0
 
 pub overflow_sub-from-then-in_tail : goal.overflow_sub-from-then-in_tail
 overflow_sub-from-then-in_tail c =
-    let c-start = c.before.before.before.before.before.before in
-    let c-in-tail = c.in_tail in
-    let c-if2 = c.if-in_tail in
-    let a = c-start.args in
-    let h = in_tail_lem a.tail.now a.offset a.start a.end (sym c-in-tail.ensures ∙ c-if2.true) in
+    let a = c.args in
+    let h = in_tail_lem a.tail.now a.offset a.start a.end (sym c.in_tail.ensures ∙ c.if-in_tail.true) in
     omega (arith, h.inside, h.rises, h.before)
 
 pub overflow_sub-from-then-in_tail-2 : goal.overflow_sub-from-then-in_tail-2
 overflow_sub-from-then-in_tail-2 c =
-    let c-start = c.before.before.before.before.before.before in
-    let c-in-tail = c.in_tail in
-    let c-if2 = c.if-in_tail in
-    let a = c-start.args in
-    let h = in_tail_lem a.tail.now a.offset a.start a.end (sym c-in-tail.ensures ∙ c-if2.true) in
+    let a = c.args in
+    let h = in_tail_lem a.tail.now a.offset a.start a.end (sym c.in_tail.ensures ∙ c.if-in_tail.true) in
     omega (arith, h.inside, h.rises, h.before)
 
 pub overflow_sub-to-then-in_tail : goal.overflow_sub-to-then-in_tail
 overflow_sub-to-then-in_tail c =
-    let c-start = c.before.before.before.before.before.before in
-    let c-in-tail = c.in_tail in
-    let c-if2 = c.if-in_tail in
-    let a = c-start.args in
-    let h = in_tail_lem a.tail.now a.offset a.start a.end (sym c-in-tail.ensures ∙ c-if2.true) in
+    let a = c.args in
+    let h = in_tail_lem a.tail.now a.offset a.start a.end (sym c.in_tail.ensures ∙ c.if-in_tail.true) in
     omega (arith, h.inside, h.rises, h.before)
 
 pub overflow_sub-to-then-in_tail-2 : goal.overflow_sub-to-then-in_tail-2
 overflow_sub-to-then-in_tail-2 c =
-    let c-start = c.before.before.before.before.before.before in
-    let c-in-tail = c.in_tail in
-    let c-if2 = c.if-in_tail in
-    let a = c-start.args in
-    let h = in_tail_lem a.tail.now a.offset a.start a.end (sym c-in-tail.ensures ∙ c-if2.true) in
+    let a = c.args in
+    let h = in_tail_lem a.tail.now a.offset a.start a.end (sym c.in_tail.ensures ∙ c.if-in_tail.true) in
     omega (arith, h.inside, h.rises, h.before)
 
 pub slice_bounds-result-count-then-in_tail : goal.slice_bounds-result-count-then-in_tail
 slice_bounds-result-count-then-in_tail c =
-    let c-start = c.before.before.before.before.before.before in
-    let c-in-tail = c.in_tail in
-    let c-if2 = c.if-in_tail in
-    let a = c-start.args in
-    let h = in_tail_lem a.tail.now a.offset a.start a.end (sym c-in-tail.ensures ∙ c-if2.true) in
+    let a = c.args in
+    let h = in_tail_lem a.tail.now a.offset a.start a.end (sym c.in_tail.ensures ∙ c.if-in_tail.true) in
     omega (arith, h.inside, h.rises, h.before)
 
 pub slice_bounds-result-start-then-in_tail : goal.slice_bounds-result-start-then-in_tail
 slice_bounds-result-start-then-in_tail c =
-    let c-start = c.before.before.before.before.before.before in
-    let c-in-tail = c.in_tail in
-    let c-if2 = c.if-in_tail in
-    let a = c-start.args in
-    let h = in_tail_lem a.tail.now a.offset a.start a.end (sym c-in-tail.ensures ∙ c-if2.true) in
+    let a = c.args in
+    let h = in_tail_lem a.tail.now a.offset a.start a.end (sym c.in_tail.ensures ∙ c.if-in_tail.true) in
     omega (arith, h.inside, h.rises, h.before)
 
 pub returns-then-in_tail : goal.returns-then-in_tail
 returns-then-in_tail c =
-    let c-start = c.before.before.before.before.before.before.before in
-    let c-in-block = c.in_block in
-    let c-if1 = c.if-in_block in
-    let c-in-tail = c.in_tail in
-    let c-if2 = c.if-in_tail in
-    let a = c-start.args in
-    (from_tail a.tail.now a.block.now a.offset a.start a.end (sym c-in-block.ensures ∙ c-if1.false) (sym c-in-tail.ensures ∙ c-if2.true)).0
+    let a = c.args in
+    (from_tail a.tail.now a.block.now a.offset a.start a.end (sym c.in_block.ensures ∙ c.if-in_block.false) (sym c.in_tail.ensures ∙ c.if-in_tail.true)).0
 
 pub returns : goal.returns
 returns c =
-    let c-start = c.before.before.before.before.before.before.before in
-    let c-in-block = c.in_block in
-    let c-if1 = c.if-in_block in
-    let c-in-tail = c.in_tail in
-    let c-if2 = c.if-in_tail in
-    let a = c-start.args in
-    (from-neither a.tail.now a.block.now a.offset a.start a.end (sym c-in-block.ensures ∙ c-if1.false) (sym c-in-tail.ensures ∙ c-if2.false)).0
+    let a = c.args in
+    (from-neither a.tail.now a.block.now a.offset a.start a.end (sym c.in_block.ensures ∙ c.if-in_block.false) (sym c.in_tail.ensures ∙ c.if-in_tail.false)).0

@@ -1,88 +1,51 @@
--- `read_all` meets its contract: each return is one law of `Whole` about the answer that the
--- readers gave. The readers' contract names the tree in the words afterwards, and the two figures
--- are asked of that tree.
-use mathlib.Core.Path.{refl, sym, ap, ◌∙◌}
+-- `read_all` meets its contract: each return is one law of `Whole` about what the reader of the
+-- branches said, and the two figures are asked of the tree that it names.
+use mathlib.Core.Path.{sym, ◌∙◌}
 use native.Mathlib.Omega.{arith}
-use Rattle.pattern.specs.Read.{options_of, answer_of}
+use Rattle.std.proofs.lemmas.Result.{err_from_is_err_and}
+use Rattle.refusals.specs.declared.Refusal.TheVariants.{LongPattern, BadGroup, EmptyMatch, LargeRule}
+use Rattle.pattern.specs.Read.{options_of}
 use Rattle.pattern.proofs.Whole as whole
 use Rattle.pattern.proofs.read_all.Goals as goal
 
 pub returns-then-length-gt-LONGEST : goal.returns-then-length-gt-LONGEST
 returns-then-length-gt-LONGEST c =
-    let c-refused = c.refused in
-    let c-if1 = c.if-length-gt-LONGEST in
-    let x = c.args in c-refused.ensures ∙ sym (ap answer_of (whole.too_long_lem x.pattern.now (options_of x.flags) c-if1.true))
+    let x = c.args in
+    whole.refusal-answer x.pattern.now (options_of x.flags) LongPattern _ (whole.too_long_lem x.pattern.now (options_of x.flags) c.if-length-gt-LONGEST.true)
 
-pub returns-then-g-ne0 : goal.returns-then-g-ne0
-returns-then-g-ne0 c =
-    let c-refused2 = c.refused-then-g-ne0 in
-    let c-branches = c.branches-g in
-    let c-if1 = c.if-length-gt-LONGEST in
-    let c-options-of = c.options_of in
-    let c-if2 = c.if-g-ne0 in
-    let x = c.args in c-refused2.ensures ∙ sym (ap answer_of (whole.whole-no x.pattern.now _ c-branches.new.a (options_of x.flags) c-branches.result refl c-if1.false (rw c-options-of.ensures at c-branches.ensures) c-if2.true))
+pub returns-in_err-root : goal.returns-in_err-root
+returns-in_err-root c =
+    let x = c.args in
+    let p = err_from_is_err_and c.from_residual.result c.from_residual.ensures.1 in
+    let f = c.in_err-root.field-0.0 in
+    rw (p.1, p.2) (whole.refusal-answer x.pattern.now (options_of x.flags) f.refusal f.place (whole.whole-no x.pattern.now (options_of x.flags) c.branches.new.self f c.if-length-gt-LONGEST.false (rw (c.options_of.ensures, c.new.ensures) at c.in_err-root.ensures)))
 
-pub returns-then-g-length : goal.returns-then-g-length
-returns-then-g-length c =
-    let c-refused3 = c.refused-then-g-length in
-    let c-branches = c.branches-g in
-    let c-if1 = c.if-length-gt-LONGEST in
-    let c-options-of = c.options_of in
-    let c-if2 = c.if-g-ne0 in
-    let c-if3 = c.if-g-length in
-    let x = c.args in c-refused3.ensures ∙ sym (ap answer_of (whole.whole-left x.pattern.now _ c-branches.new.a (options_of x.flags) c-branches.result refl c-if1.false (rw c-options-of.ensures at c-branches.ensures) c-if2.false c-if3.true))
+pub returns-then-parser-length : goal.returns-then-parser-length
+returns-then-parser-length c =
+    let x = c.args in
+    whole.refusal-answer x.pattern.now (options_of x.flags) BadGroup _ (whole.whole-left x.pattern.now (options_of x.flags) c.branches.new.self c.in_ok-root.root c.if-length-gt-LONGEST.false (rw (c.options_of.ensures, c.new.ensures) at c.in_ok-root.ensures) c.if-parser-length.true)
 
 pub slice_bounds-nullable-end : goal.slice_bounds-nullable-end
 slice_bounds-nullable-end c =
-    let c-branches = c.branches-g in
-    let c-if1 = c.if-length-gt-LONGEST in
-    let c-options-of = c.options_of in
-    let c-if2 = c.if-g-ne0 in
-    let x = c.args in whole.whole_room x.pattern.now _ c-branches.new.a (options_of x.flags) c-branches.result refl c-if1.false (rw c-options-of.ensures at c-branches.ensures) c-if2.false
+    let x = c.args in
+    whole.whole_room x.pattern.now (options_of x.flags) c.branches.new.self c.in_ok-root.root c.if-length-gt-LONGEST.false (rw (c.options_of.ensures, c.new.ensures) at c.in_ok-root.ensures)
 
 pub returns-then-nullable : goal.returns-then-nullable
 returns-then-nullable c =
-    let c-refused4 = c.refused-then-nullable in
-    let c-branches = c.branches-g in
-    let c-if1 = c.if-length-gt-LONGEST in
-    let c-options-of = c.options_of in
-    let c-if2 = c.if-g-ne0 in
-    let c-if3 = c.if-g-length in
-    let c-nullable = c.nullable in
-    let c-if4 = c.if-nullable in
-    let x = c.args in c-refused4.ensures ∙ sym (ap answer_of (whole.whole-empty x.pattern.now _ c-branches.new.a (options_of x.flags) c-branches.result refl c-if1.false (rw c-options-of.ensures at c-branches.ensures) c-if2.false c-if3.false (sym c-nullable.ensures ∙ c-if4.true)))
+    let x = c.args in
+    whole.refusal-answer x.pattern.now (options_of x.flags) EmptyMatch _ (whole.whole-empty x.pattern.now (options_of x.flags) c.branches.new.self c.in_ok-root.root c.if-length-gt-LONGEST.false (rw (c.options_of.ensures, c.new.ensures) at c.in_ok-root.ensures) c.if-parser-length.false (sym c.nullable.ensures ∙ c.if-nullable.true))
 
 pub slice_bounds-count-end : goal.slice_bounds-count-end
 slice_bounds-count-end c =
-    let c-branches = c.branches-g in
-    let c-if1 = c.if-length-gt-LONGEST in
-    let c-options-of = c.options_of in
-    let c-if2 = c.if-g-ne0 in
-    let x = c.args in whole.whole_room x.pattern.now _ c-branches.new.a (options_of x.flags) c-branches.result refl c-if1.false (rw c-options-of.ensures at c-branches.ensures) c-if2.false
+    let x = c.args in
+    whole.whole_room x.pattern.now (options_of x.flags) c.branches.new.self c.in_ok-root.root c.if-length-gt-LONGEST.false (rw (c.options_of.ensures, c.new.ensures) at c.in_ok-root.ensures)
 
 pub returns-then-positions-gt256 : goal.returns-then-positions-gt256
 returns-then-positions-gt256 c =
-    let c-refused5 = c.refused-then-positions-gt256 in
-    let c-branches = c.branches-g in
-    let c-if1 = c.if-length-gt-LONGEST in
-    let c-options-of = c.options_of in
-    let c-if2 = c.if-g-ne0 in
-    let c-if3 = c.if-g-length in
-    let c-nullable = c.nullable in
-    let c-if4 = c.if-nullable in
-    let c-if5 = c.if-positions-gt256 in
-    let c-count = c.count-positions in
-    let x = c.args in c-refused5.ensures ∙ sym (ap answer_of (whole.whole-many x.pattern.now _ c-branches.new.a (options_of x.flags) c-branches.result refl c-if1.false (rw c-options-of.ensures at c-branches.ensures) c-if2.false c-if3.false (sym c-nullable.ensures ∙ c-if4.false) (omega (arith, c-if5.true, c-count.ensures))))
+    let x = c.args in
+    whole.refusal-answer x.pattern.now (options_of x.flags) LargeRule _ (whole.whole-many x.pattern.now (options_of x.flags) c.branches.new.self c.in_ok-root.root c.if-length-gt-LONGEST.false (rw (c.options_of.ensures, c.new.ensures) at c.in_ok-root.ensures) c.if-parser-length.false (sym c.nullable.ensures ∙ c.if-nullable.false) (omega (arith, c.if-positions-gt256.true, c.count-positions.ensures)))
 
 pub returns : goal.returns
 returns c =
-    let c-branches = c.branches-g in
-    let c-if1 = c.if-length-gt-LONGEST in
-    let c-options-of = c.options_of in
-    let c-if2 = c.if-g-ne0 in
-    let c-if3 = c.if-g-length in
-    let c-nullable = c.nullable in
-    let c-if4 = c.if-nullable in
-    let c-count = c.count-positions in
-    let c-if5 = c.if-positions-gt256 in
-    let x = c.args in whole.whole-answer x.pattern.now _ c-branches.new.a (options_of x.flags) c-branches.result refl c-if1.false (rw c-options-of.ensures at c-branches.ensures) c-if2.false c-if3.false (sym c-nullable.ensures ∙ c-if4.false) c-count.result c-count.ensures (omega (arith, c-if5.false))
+    let x = c.args in
+    whole.whole-answer x.pattern.now (options_of x.flags) c.branches.new.self c.in_ok-root.root c.if-length-gt-LONGEST.false (rw (c.options_of.ensures, c.new.ensures) at c.in_ok-root.ensures) c.if-parser-length.false (sym c.nullable.ensures ∙ c.if-nullable.false) c.count-positions.result c.count-positions.ensures (omega (arith, c.if-positions-gt256.false))

@@ -1,12 +1,8 @@
 -- `quiet::next_opener` meets its contract: each turn passes one byte with which no match can
 -- begin.
-use Prim.Native.Nat.{◌-◌}
 use Rattle.table.specs.Automaton.{automaton}
 use Rattle.stream.specs.Invariants.{NoOpener}
 use Rattle.quiet.proofs.next_opener.Given as goal
 
 abbrev pub invariant-loop-at : goal.invariant-loop-at
 invariant-loop-at l = NoOpener (automaton l.words) l.block l.from l.end l.at
-
-abbrev pub decreases-loop-at : goal.decreases-loop-at
-decreases-loop-at l = l.end - l.at

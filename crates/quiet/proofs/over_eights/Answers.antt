@@ -23,8 +23,7 @@ one_more w block at i false next h e q j f g = go (dec_lt j (at + i))
 
 pub loop-at-init : goal.loop-at-init
 loop-at-init c =
-    let start = c in
-    unopened-none (automaton start.args.words.now) start.args.block.now start.args.from start.args.end start.requires.0
+    unopened-none (automaton c.args.words.now) c.args.block.now c.args.from c.args.end c.requires.0
 
 pub overflow_sub-end : goal.overflow_sub-end
 overflow_sub-end c = c.loop-at.invariant.inside

@@ -1,15 +1,17 @@
 -- `rules::add_within` meets its contract: one law for each return, by the checks before it. The
 -- windows are put in first, and the rule into the words that come of it.
-use mathlib.Core.Path.{◌≡◌, sym, ap, ap₂, subst, ◌∙◌}
+use mathlib.Core.Path.{◌≡◌, refl, sym, ap, ap₂, subst, ◌∙◌}
 use mathlib.Core.Bool.{Bool}
 use mathlib.Core.List.{List}
 use Prim.Native.Nat.{ℕ, ◌+◌, ◌≤◌, ◌<◌}
 use native.Mathlib.Omega.{arith}
 use lib.ListN.{length}
+use Rattle.std.specs.Prelude.{Ok, Err}
+use Rattle.refusals.proofs.Laws.{number-above}
 use Rattle.table.specs.Layout.{table_words, max_rules, max_positions, rules_of, positions_of}
 use Rattle.meaning.specs.Form.{write, positions}
 use Rattle.nodes.specs.Nodes.{tree_at}
-use Rattle.pattern.specs.declared.Reading.{Reading}
+use Rattle.pattern.specs.Read.{Answer, answered}
 use Rattle.pattern.specs.declared.bounds.Bounds.{Bounds}
 use Rattle.pattern.specs.Windows.{windows_of}
 use Rattle.automaton.specs.declared.Parts.{Parts}
@@ -34,15 +36,17 @@ pub returns-then-size-ne0 : goal.returns-then-size-ne0
 returns-then-size-ne0 c =
     let a = c.args in
     let checked = sym c.if-fault-ne0.false ∙ c.first_fault-fault.ensures in
-    unfit a.words.now (new a.id a.flags a.bounds a.pattern.now) checked c.size_fault-size.result c.size_fault-size.ensures c.if-size-ne0.true
+    unfit a.words.now (new a.id a.flags a.bounds a.pattern.now) checked c.code-size.result (c.code-size.ensures ∙ c.size_fault.ensures) c.if-size-ne0.true
 
 -- those of length and window are
-pub returns-then-reading-ne0 : goal.returns-then-reading-ne0
-returns-then-reading-ne0 c =
+pub returns-in-Err : goal.returns-in-Err
+returns-in-Err c =
     let a = c.args in
     let checked = sym c.if-fault-ne0.false ∙ c.first_fault-fault.ensures in
-    let sized = sym c.if-size-ne0.false ∙ c.size_fault-size.ensures in
-    unread a.words.now (new a.id a.flags a.bounds a.pattern.now) checked sized c.read-reading.result c.read-reading.ensures c.if-reading-ne0.true
+    let sized = sym c.if-size-ne0.false ∙ (c.code-size.ensures ∙ c.size_fault.ensures) in
+    rw c.number.ensures
+    (unread a.words.now (new a.id a.flags a.bounds a.pattern.now) checked sized (answered (Err c.in-Err.fault)) c.in-Err.ensures
+    (λ z. omega (arith, number-above c.in-Err.fault.refusal)))
 
 pub bounds-words-2 : goal.bounds-words-2
 bounds-words-2 c =
@@ -61,8 +65,8 @@ pub returns-then-words-reading-gt-MAX_POSITIONS : goal.returns-then-words-readin
 returns-then-words-reading-gt-MAX_POSITIONS c =
     let a = c.args in
     let checked = sym c.if-fault-ne0.false ∙ c.first_fault-fault.ensures in
-    let sized = sym c.if-size-ne0.false ∙ c.size_fault-size.ensures in
-    too_many a.words.now (new a.id a.flags a.bounds a.pattern.now) checked sized c.read-reading.result c.read-reading.ensures c.if-reading-ne0.false
+    let sized = sym c.if-size-ne0.false ∙ (c.code-size.ensures ∙ c.size_fault.ensures) in
+    too_many a.words.now (new a.id a.flags a.bounds a.pattern.now) checked sized (answered (Ok c.in-Ok.reading)) c.in-Ok.ensures refl
     c.if-words-reading-gt-MAX_POSITIONS.true
 
 pub bounds-words-2-2 : goal.bounds-words-2-2
@@ -81,7 +85,7 @@ put_window-requires c =
     (table.long, passed-few a.words.now n checked, table.positions)
 
 -- the words with the windows
-abbrev Ready : Reading → Parts → List ℕ → Type 0
+abbrev Ready : Answer → Parts → List ℕ → Type 0
 Ready r parts s =
     (table_words ≤ length s) × (rules_of s < max_rules)
     × (positions_of s + positions (write (tree_at r.nodes r.root)) ≤ max_positions)
@@ -93,10 +97,10 @@ add_rule-requires c =
     let t = a.words.now in
     let n = new a.id a.flags a.bounds a.pattern.now in
     let checked = sym c.if-fault-ne0.false ∙ c.first_fault-fault.ensures in
-    let sized = sym c.if-size-ne0.false ∙ c.size_fault-size.ensures in
-    let r = c.read-reading.result in
-    let is = c.read-reading.ensures in
-    let good = c.if-reading-ne0.false in
+    let sized = sym c.if-size-ne0.false ∙ (c.code-size.ensures ∙ c.size_fault.ensures) in
+    let r = answered (Ok c.in-Ok.reading) in
+    let is = c.in-Ok.ensures in
+    let good = refl in
     let few = c.if-words-reading-gt-MAX_POSITIONS.false in
     subst (Ready r c.build-parts.result) (sym c.put_window.ensures) (
       long-room t n checked sized r is good few,
@@ -110,9 +114,9 @@ pub returns : goal.returns
 returns c =
     let a = c.args in
     let checked = sym c.if-fault-ne0.false ∙ c.first_fault-fault.ensures in
-    let sized = sym c.if-size-ne0.false ∙ c.size_fault-size.ensures in
-    let r = c.read-reading.result in
-    accepted a.words.now (new a.id a.flags a.bounds a.pattern.now) checked sized r c.read-reading.ensures c.if-reading-ne0.false
+    let sized = sym c.if-size-ne0.false ∙ (c.code-size.ensures ∙ c.size_fault.ensures) in
+    let r = answered (Ok c.in-Ok.reading) in
+    accepted a.words.now (new a.id a.flags a.bounds a.pattern.now) checked sized r c.in-Ok.ensures refl
     c.if-words-reading-gt-MAX_POSITIONS.false c.add_rule.new.words
     (c.add_rule.ensures ∙ ap₂ (λ (s : List ℕ) (k : Bool). added s a.id a.flags k (parts_at (tree_at r.nodes r.root) (positions_of s)))
-    c.put_window.ensures c.needs_start-keeping.ensures)
+    c.put_window.ensures c.needs_start.ensures)

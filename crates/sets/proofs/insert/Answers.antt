@@ -5,7 +5,7 @@ use Prim.Native.Nat.{ℕ, ◌/◌, ◌%◌}
 use native.Mathlib.Omega.{arith}
 use lib.Bits.{bit_or}
 use lib.ListN.{get_or, set}
-use Rattle.sets.proofs.Digits.{shl_one}
+use Rattle.sets.proofs.Bits.{shl_one}
 use Rattle.sets.proofs.Laws.{words-owned, insert-words}
 use Rattle.sets.proofs.insert.Goals as goal
 

@@ -3,7 +3,7 @@ use mathlib.Core.Path.{◌≡◌, ap, ◌∙◌}
 use Prim.Native.Nat.{ℕ, ◌-◌, ◌^◌, min}
 use native.Mathlib.Omega.{arith}
 use lib.Pow.{pow_pos}
-use Rattle.sets.proofs.Digits.{shl_one}
+use Rattle.sets.proofs.Bits.{shl_one}
 use Rattle.sets.proofs.mask.Goals as goal
 
 pub returns-then-n-base : goal.returns-then-n-base

@@ -19,25 +19,19 @@ why there taken = go (eqb there 0) refl
 
 pub joined-requires : goal.joined-requires
 joined-requires c =
-    let c-start = c in
-    c-start.requires
+    c.requires
 
 pub returns-then-joined-there : goal.returns-then-joined-there
 returns-then-joined-there c =
-    let c-if1 = c.if-joined-there in
-    let c-joined = c.joined in
-    let c-start = c in
-    let a = c-start.args in
-    let two = (and-eq-true_iff (eqb c-joined.result 0) (eqb a.there 0 || ltb 0 a.taken)).0 c-if1.true in
-    order-none a.starts.now a.base a.there a.taken c-joined.result c-joined.ensures
-    (eqb-true c-joined.result 0 two.0) (why a.there a.taken two.1)
+    let a = c.args in
+    let two = (and-eq-true_iff (eqb c.joined.result 0) (eqb a.there 0 || ltb 0 a.taken)).0 c.if-joined-there.true in
+    order-none a.starts.now a.base a.there a.taken c.joined.result c.joined.ensures
+    (eqb-true c.joined.result 0 two.0) (why a.there a.taken two.1)
 
 pub each_ok-requires : goal.each_ok-requires
 each_ok-requires c =
-    let c-start = c in
-    c-start.requires
+    c.requires
 
 pub returns : goal.returns
 returns c =
-    let c-each-ok = c.each_ok in
-    c-each-ok.ensures
+    c.each_ok.ensures

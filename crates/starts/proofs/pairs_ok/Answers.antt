@@ -5,7 +5,5 @@ use Rattle.starts.proofs.pairs_ok.Goals as goal
 
 pub returns : goal.returns
 returns c =
-    let c-block-ok = c.block_ok in
-    let c-start = c in
-    let a = c-start.args in
-    c-block-ok.ensures ∙ rules-order a.pairs.now a.pending a.taken
+    let a = c.args in
+    c.block_ok.ensures ∙ rules-order a.pairs.now a.pending a.taken

@@ -6,14 +6,10 @@ use Rattle.starts.proofs.start_ok.Goals as goal
 
 pub returns-then-there : goal.returns-then-there
 returns-then-there c =
-    let c-if1 = c.if-there in
-    let c-start = c in
-    let a = c-start.args in
-    sym (ap (λ (b : Bool). cond b (ltb a.start a.taken) (eqb a.start 0)) c-if1.true)
+    let a = c.args in
+    sym (ap (λ (b : Bool). cond b (ltb a.start a.taken) (eqb a.start 0)) c.if-there.true)
 
 pub returns-else-there : goal.returns-else-there
 returns-else-there c =
-    let c-if1 = c.if-there in
-    let c-start = c in
-    let a = c-start.args in
-    sym (ap (λ (b : Bool). cond b (ltb a.start a.taken) (eqb a.start 0)) c-if1.false)
+    let a = c.args in
+    sym (ap (λ (b : Bool). cond b (ltb a.start a.taken) (eqb a.start 0)) c.if-there.false)

@@ -1,17 +1,12 @@
--- `states::put_state` meets its contract: the words of the state are copied.
+-- `states::put_state` meets its contract: the words of the state are copied over the first ones.
 use mathlib.Core.Path.{ap, ◌∙◌}
-use mathlib.Core.List.{List}
-use Prim.Native.Nat.{ℕ}
-use Rattle.states.specs.State.{state_words}
-use Rattle.states.proofs.Words.{laid, pasted, stored_is}
+use mathlib.Core.List.{List, ◌++◌}
+use lib.ListN.{drop}
+use Rattle.states.proofs.Words.{laid, stored_is}
 use Rattle.states.proofs.put_state.Goals as goal
 
 pub returns : goal.returns
 returns c =
-    let at_copy = c in
-    let at_Side = at_copy.before.before.before.before in
-    let at_start = at_Side.before.before.before.before in
-    let a = at_start.args in
-    at_copy.copy.ensures
-    ∙ ap (λ (f : List ℕ). pasted f 0 0 state_words a.words.now) (laid a.s at_Side.side_word.result at_Side.side_word.ensures)
-    ∙ stored_is a.s a.words.now at_start.requires
+    let a = c.args in
+    ap (λ (l : List _). l ++ drop 15 a.words.now) (c.copy_from_slice.ensures.after ∙ laid a.s c.from.result c.from.ensures)
+    ∙ stored_is a.s a.words.now

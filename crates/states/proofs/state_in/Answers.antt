@@ -3,7 +3,4 @@ use Rattle.states.proofs.Words.{loaded}
 use Rattle.states.proofs.state_in.Goals as goal
 
 pub returns : goal.returns
-returns c =
-    let c-start = c in
-    let c-side-in = c.side_in-last in
-    loaded c-start.args.words.now c-side-in.result c-side-in.ensures
+returns c = loaded c.args.words.now c.from.result c.from.ensures

@@ -5,16 +5,8 @@ use Rattle.table.proofs.Rows.{row-past-end, row_cut}
 use Rattle.table.proofs.cut_row.Goals as goal
 
 pub returns-then-words-at : goal.returns-then-words-at
-returns-then-words-at c =
-    let c-empty = c.empty in
-    let c-start = c.before.before.before in
-    let c-if1 = c.if-words-at in
-    c-empty.ensures ∙ row-past-end c-start.args.words.now c-start.args.at c-if1.true
+returns-then-words-at c = c.empty.ensures ∙ row-past-end c.args.words.now c.args.at c.if-words-at.true
 
 pub returns : goal.returns
 returns c =
-    let c-start = c.before.before.before.before.before in
-    let c-word = c.word in
-    let c-word2 = c.word-2 in
-    let c-shared-slice-known = c.type_inv.words in
-    row_cut c-start.args.words.now c-start.args.at c-word.result c-word2.result (λ i. c-shared-slice-known i) (omega (arith, c-start.requires)) c-word.ensures c-word2.ensures
+    row_cut c.args.words.now c.args.at c.word.result c.word-2.result (λ i. c.type_inv.words i) (omega (arith, c.requires)) c.word.ensures c.word-2.ensures

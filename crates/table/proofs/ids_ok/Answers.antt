@@ -14,32 +14,21 @@ returns-then-rules-eq0 c =
     sym (ap (λ (n : ℕ). all n (id_ok a.words.now)) c.if-rules-eq0.true ∙ all_none (id_ok a.words.now))
 
 pub loop-a-init : goal.loop-a-init
-loop-a-init c =
-    let a = c.args in
-    seen_first a.words.now (a.rules - 1)
-
-pub overflow_add-a : goal.overflow_add-a
-overflow_add-a c = let inside = c.loop-a.invariant.inside in omega arith
-
-pub offset_bounds-words-a : goal.offset_bounds-words-a
-offset_bounds-words-a c = let inside = c.loop-a.invariant.inside in omega arith
+loop-a-init c = seen_first c.args.words.now (c.args.rules - 1)
 
 pub loop-a-preserved : goal.loop-a-preserved
 loop-a-preserved c =
-    let test = c.before.before.before in
-    let l = test.loop-a in
-    let start = test.before.before.before.before.before in
-    let t = start.args.words.now in
+    let l = c.loop-a in
+    let t = c.args.words.now in
     let next : id_at l.a + 1 ≡ id_at (suc l.a) = omega arith in
-    seen_more t (start.args.rules - 1) l.a l.joined c.unordered-joined.result l.invariant test.loop-a-test.true
+    seen_more t (c.args.rules - 1) l.a l.joined c.unordered-joined.result l.invariant c.loop-a-test.true
     (subst (λ (i : ℕ). Unordered (id_word t l.a) (get_or t i 0) c.unordered-joined.result) next c.unordered-joined.ensures)
 
 pub returns : goal.returns
 returns c =
     let l = c.loop-a in
-    let start = c.before.before.before.before.before in
-    let t = start.args.words.now in
-    let last = start.args.rules - 1 in
-    let done : l.a ≡ last = let inside = l.invariant.inside in omega arith in
-    let whole : suc last ≡ start.args.rules = omega arith in
+    let t = c.args.words.now in
+    let last = c.args.rules - 1 in
+    let done : l.a ≡ last = omega (arith, l.invariant.inside) in
+    let whole : suc last ≡ c.args.rules = omega arith in
     seen_all t last l.joined (subst (λ (a : ℕ). Seen t last a l.joined) done l.invariant) ∙ ap (λ (n : ℕ). all n (id_ok t)) whole

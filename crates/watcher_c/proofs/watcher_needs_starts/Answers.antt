@@ -24,15 +24,11 @@ both t = twice (leb table_words (length t)) _ (needs_starts (automaton t))
 pub returns-then-is_table-needs_starts : goal.returns-then-is_table-needs_starts
 unfolding needs_number
 returns-then-is_table-needs_starts c =
-    let at-needs = c.before in
-    let at_table = at-needs.before in
-    let e = ap₂ ◌&&◌ at_table.is_table.ensures at-needs.needs_starts.ensures in
-    ap (λ (b : Bool). cond b 1 0) (sym c.if-is_table-needs_starts.true ∙ e ∙ both at_table.args.table.now)
+    let e = ap₂ ◌&&◌ c.is_table.ensures c.needs_starts.ensures in
+    ap (λ (b : Bool). cond b 1 0) (sym c.if-is_table-needs_starts.true ∙ e ∙ both c.args.table.now)
 
 pub returns-else-is_table-needs_starts : goal.returns-else-is_table-needs_starts
 unfolding needs_number
 returns-else-is_table-needs_starts c =
-    let at-needs = c.before in
-    let at_table = at-needs.before in
-    let e = ap₂ ◌&&◌ at_table.is_table.ensures at-needs.needs_starts.ensures in
-    ap (λ (b : Bool). cond b 1 0) (sym c.if-is_table-needs_starts.false ∙ e ∙ both at_table.args.table.now)
+    let e = ap₂ ◌&&◌ c.is_table.ensures c.needs_starts.ensures in
+    ap (λ (b : Bool). cond b 1 0) (sym c.if-is_table-needs_starts.false ∙ e ∙ both c.args.table.now)

@@ -1,22 +1,22 @@
 -- `atoms::fault::lower` meets its contract: it asks what the definition asks, and of two faults
--- gives the smaller.
-use native.Mathlib.Omega.{arith}
-use borrow.Author.Tests.{eq-eqb, ne_eqb}
+-- gives the smaller. No fault has the number 0.
+use Rattle.std.proofs.Common.{arith, sym}
 use Rattle.atoms.specs.Fault.{lower}
+use Rattle.atoms.specs.Answer.{fault}
+use Rattle.atoms.proofs.Raws.{lower-none, lower-first, lower-second}
 use Rattle.atoms.proofs.fault.lower.Goals as goal
 
-pub returns-then-f-eq0 : goal.returns-then-f-eq0
+pub returns-in-None-default : goal.returns-in-None-default
 unfolding lower
-returns-then-f-eq0 c = rw (eq-eqb _ 0 c.if-f-eq0.true)
+returns-in-None-default c = rw c.in-None-default.is-0
 
-pub returns-then-g-eq0 : goal.returns-then-g-eq0
-unfolding lower
-returns-then-g-eq0 c = rw (ne_eqb _ 0 c.if-f-eq0.false, eq-eqb _ 0 c.if-g-eq0.true)
+pub returns-in_default-None : goal.returns-in_default-None
+returns-in_default-None c = rw c.in_default-None.is-1 (sym (lower-none (fault c.args.f)))
 
-pub returns-then-f-g : goal.returns-then-f-g
-unfolding lower
-returns-then-f-g c = rw (ne_eqb _ 0 c.if-f-eq0.false, ne_eqb _ 0 c.if-g-eq0.false) (omega arith)
+pub returns-then-number : goal.returns-then-number
+returns-then-number c =
+    rw (c.in-Some-Some.is-0, c.in-Some-Some.is-1) (sym (lower-first c.in-Some-Some.a c.in-Some-Some.b (omega arith)))
 
-pub returns-else-f-g : goal.returns-else-f-g
-unfolding lower
-returns-else-f-g c = rw (ne_eqb _ 0 c.if-f-eq0.false, ne_eqb _ 0 c.if-g-eq0.false) (omega arith)
+pub returns-else-number : goal.returns-else-number
+returns-else-number c =
+    rw (c.in-Some-Some.is-0, c.in-Some-Some.is-1) (sym (lower-second c.in-Some-Some.a c.in-Some-Some.b (omega arith)))

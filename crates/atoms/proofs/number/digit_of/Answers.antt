@@ -1,46 +1,26 @@
--- `atoms::number::digit_of` meets its contract: it asks what the definition asks, in the same
--- order.
-use mathlib.Core.Path.{sym, ◌∙◌}
-use native.Mathlib.Omega.{arith}
-use Rattle.atoms.specs.Number.{digit_of}
-use Rattle.kinds.proofs.Case.{within-true}
+-- `atoms::number::digit_of` meets its contract: in each range of the match a byte is worth what the
+-- definition says, and 16 outside them.
+use Rattle.std.proofs.Common.{arith, sym}
+use Rattle.atoms.proofs.Digits.{worth-decimal, worth-upper, worth-lower, worth-none}
 use Rattle.atoms.proofs.number.digit_of.Goals as goal
 
-pub overflow_sub-result : goal.overflow_sub-result
-overflow_sub-result c = omega (arith, within-true 48 57 c.args.b (sym c.is_within.ensures ∙ c.if-is_within.true))
+pub returns-in-48-to-57 : goal.returns-in-48-to-57
+returns-in-48-to-57 c = omega (arith, worth-decimal c.args.b (omega arith) (omega arith), c.from.ensures)
 
-pub returns-then-is_within : goal.returns-then-is_within
-unfolding digit_of
-returns-then-is_within c = rw (← c.is_within.ensures, c.if-is_within.true)
+pub returns-in-65-to-70 : goal.returns-in-65-to-70
+returns-in-65-to-70 c = omega (arith, worth-upper c.args.b (omega arith) (omega arith))
 
-pub overflow_sub-result-then-is_within-2 : goal.overflow_sub-result-then-is_within-2
-overflow_sub-result-then-is_within-2 c =
-    let args = c.args in
-    omega (arith, within-true 65 70 args.b (sym c.is_within-2.ensures ∙ c.if-is_within-2.true))
+pub returns-in-97-to-102 : goal.returns-in-97-to-102
+returns-in-97-to-102 c = omega (arith, worth-lower c.args.b (omega arith) (omega arith))
 
-pub returns-then-is_within-2 : goal.returns-then-is_within-2
-unfolding digit_of
-returns-then-is_within-2 c =
-    let is_within = c.is_within in
-    rw (← is_within.ensures, c.if-is_within.false, ← c.is_within-2.ensures, c.if-is_within-2.true)
+pub returns-in_default : goal.returns-in_default
+returns-in_default c = sym (worth-none c.args.b (λ h. omega arith) (λ h. omega arith) (λ h. omega arith))
 
-pub overflow_sub-result-then-is_within-3 : goal.overflow_sub-result-then-is_within-3
-overflow_sub-result-then-is_within-3 c =
-    let args = c.args in
-    omega (arith, within-true 97 102 args.b (sym c.is_within-3.ensures ∙ c.if-is_within-3.true))
+pub returns-in_default-2 : goal.returns-in_default-2
+returns-in_default-2 c = sym (worth-none c.args.b (λ h. omega arith) (λ h. omega arith) (λ h. omega arith))
 
-pub returns-then-is_within-3 : goal.returns-then-is_within-3
-unfolding digit_of
-returns-then-is_within-3 c =
-    let is_within = c.is_within in
-    let if1 = c.if-is_within in
-    let is-within2 = c.is_within-2 in
-    rw (← is_within.ensures, if1.false, ← is-within2.ensures, c.if-is_within-2.false, ← c.is_within-3.ensures, c.if-is_within-3.true)
+pub returns-in_default-3 : goal.returns-in_default-3
+returns-in_default-3 c = sym (worth-none c.args.b (λ h. omega arith) (λ h. omega arith) (λ h. omega arith))
 
-pub returns : goal.returns
-unfolding digit_of
-returns c =
-    let is_within = c.is_within in
-    let if1 = c.if-is_within in
-    let is-within2 = c.is_within-2 in
-    rw (← is_within.ensures, if1.false, ← is-within2.ensures, c.if-is_within-2.false, ← c.is_within-3.ensures, c.if-is_within-3.false)
+pub returns-in_default-4 : goal.returns-in_default-4
+returns-in_default-4 c = sym (worth-none c.args.b (λ h. omega arith) (λ h. omega arith) (λ h. omega arith))

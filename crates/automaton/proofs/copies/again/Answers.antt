@@ -4,13 +4,8 @@ use Rattle.automaton.proofs.copies.again.Goals as goal
 
 pub returns : goal.returns
 unfolding moved_part
-returns c =
-    let c-moved = c.moved in
-    let c-moved2 = c.moved-2 in
-    let c-copy-follow = c.copy_follow in
-    let c-copy-takes = c.copy_takes in
-    record {
-      fragment = cc (c-moved.ensures, c-moved2.ensures);
-      follows = c-copy-follow.ensures;
-      takes = c-copy-takes.ensures;
-    }
+returns c = record {
+  fragment = cc (c.moved.ensures, c.moved-2.ensures);
+  follows = c.copy_follow.ensures;
+  takes = c.copy_takes.ensures;
+}

@@ -1,30 +1,29 @@
 -- `forms::holds` meets its contract: it reads one digit, and the digit's number is that of the
 -- assertion.
-use mathlib.Core.Path.{◌≡◌, ap, ◌∙◌}
+use mathlib.Core.Path.{◌≡◌, refl, ap, ◌∙◌}
 use Prim.Native.Nat.{ℕ, ◌/◌, ◌^◌}
-use native.Mathlib.Omega.{arith}
-use lib.Bits.{bit_and, and_mask}
+use lib.Bits.{and_mask}
 use lib.Dec.{eqb}
+use denote.Enum.Declared.{tag_of}
 use Rattle.sets.specs.Set.{on}
-use Rattle.nodes.specs.Nodes.{assertion_of, code_of}
-use Rattle.automaton.specs.Parts.{world_of}
-use Rattle.nodes.proofs.Forms.{code_below, code-above}
+use Rattle.nodes.specs.Nodes.{code_of}
+use Rattle.nodes.specs.Node.{meant}
+use Rattle.nodes.specs.declared.layout.Assertion.{Assertion}
+use Rattle.nodes.specs.declared.layout.Assertion.TheVariants.{AtStart, AtEnd, AtLastLine, LineStart, LineEnd, WordEdge, NoWordEdge}
+use Rattle.nodes.specs.contracts.layout.Assertion.{the_type}
 use Rattle.automaton.proofs.forms.holds.Goals as goal
-use Rattle.automaton.proofs.forms.holds.Goals.{then-x-lt-LAST_ASSERTION, else-x-lt-LAST_ASSERTION}
 
-digit-read : (world x d : ℕ) → d ≡ code_of (assertion_of x) → eqb (bit_and (world / 2 ^ d) 1) 1 ≡ world_of world (assertion_of x)
-unfolding on
-digit-read world x d e = ap (λ (w : ℕ). eqb w 1) (and_mask (world / 2 ^ d) 1) ∙ ap (on world) e
-
-pub overflow_shr-result : goal.overflow_shr-result
-overflow_shr-result c = elim c.if-x-lt-LAST_ASSERTION.branch [ then-x-lt-LAST_ASSERTION w ↦ omega arith | else-x-lt-LAST_ASSERTION w ↦ omega arith ]
+digit-is : (a : Assertion) → tag_of the_type a ≡ code_of (meant a)
+digit-is AtStart = refl
+digit-is AtEnd = refl
+digit-is AtLastLine = refl
+digit-is LineStart = refl
+digit-is LineEnd = refl
+digit-is WordEdge = refl
+digit-is NoWordEdge = refl
 
 pub returns : goal.returns
+unfolding on
 returns c =
     let v = c.args in
-    let d = c.if-x-lt-LAST_ASSERTION in
-    digit-read v.world v.x d.digit
-    (elim d.branch [
-      | then-x-lt-LAST_ASSERTION w ↦ w.digit-is ∙ code_below v.x w.if-x-lt-LAST_ASSERTION.true
-      | else-x-lt-LAST_ASSERTION w ↦ w.digit-is ∙ code-above v.x w.if-x-lt-LAST_ASSERTION.false
-    ])
+    ap (λ (w : ℕ). eqb w 1) (and_mask (v.world / 2 ^ tag_of the_type v.assertion) 1) ∙ ap (on v.world) (digit-is v.assertion)

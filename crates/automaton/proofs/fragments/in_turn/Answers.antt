@@ -4,6 +4,4 @@ use Rattle.automaton.proofs.fragments.in_turn.Goals as goal
 
 pub returns : goal.returns
 returns c =
-    let c-with-if = c.with_if-first in
-    let c-with-if2 = c.with_if-last in
-    in-turn-is c.args.f c.args.g c-with-if.ensures c-with-if2.ensures
+    in-turn-is c.args.f c.args.g c.with_if.ensures c.with_if-2.ensures

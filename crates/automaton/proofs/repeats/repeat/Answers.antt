@@ -1,165 +1,153 @@
 -- `repeats::repeat` meets its contract: the first copy is built, and the others behind it. Each
--- return is
--- one law that puts the parts' promises together.
-use mathlib.Core.Path.{refl, ◌∙◌}
+-- return is one law that puts the parts' promises together.
+use mathlib.Core.Path.{◌≡◌, refl, sym, ap, ◌∙◌}
+use mathlib.Core.Bool.{true, false, ◌&&◌}
+use Prim.Native.Nat.{ℕ, ◌<◌}
 use native.Mathlib.Omega.{arith}
-use Rattle.nodes.specs.Invariants.{child_at}
-use Rattle.nodes.specs.Invariants.{child_form, extra}
+use borrow.Author.Tests.{eq-eqb, ne_eqb}
+use lib.Dec.{eqb}
+use Rattle.std.specs.Prelude.{Option}
+use Rattle.meaning.specs.Form.{repeated}
+use Rattle.nodes.specs.Node.{extra_in, number_in}
+use Rattle.nodes.specs.Invariants.{Written, child_at, child_form}
 use Rattle.automaton.specs.Invariants.{Extends}
 use Rattle.nodes.proofs.Forms as forms
 use Rattle.automaton.proofs.Steps as steps
 use Rattle.automaton.proofs.Standing.{stands-size}
 use Rattle.automaton.proofs.repeats.repeat.Goals as goal
 
+-- what `more` turned out to be
+turned-out : (f : Written) (n : ℕ) {m o : Option ℕ} → m ≡ o → repeated f n (extra_in m) ≡ repeated f n (extra_in o)
+turned-out f n e = ap (λ (m : Option ℕ). repeated f n (extra_in m)) e
+
+-- more than one copy
+some : (n : ℕ) → 1 < n → n ≡ 0 → ⊥
+some n h e = omega arith
+
+several : (n : ℕ) → 1 < n → n ≡ 1 → ⊥
+several n h e = omega arith
+
+-- not `{0}`
+first-copy : (n : ℕ) {m o : Option ℕ} → m ≡ o → (eqb n 0 && eqb (number_in m) 0) ≡ false → n ≡ 0 → number_in o ≡ 0 → ⊥
+first-copy n {o = o} e h = steps.some-copy n (number_in o) (sym (ap (λ (m : Option ℕ). eqb n 0 && eqb (number_in m) 0) e) ∙ h)
+
 pub returns-then-n-eq0 : goal.returns-then-n-eq0
 unfolding Extends
 returns-then-n-eq0 c =
-    let c-if2 = c.if-n-eq0 in
-    let c-if1 = c.if-endless-n in
-    let c-many = c.many in
-    let c-optional = c.optional in
     let v = c.args in
-    let any =
-    forms.repeat-any (child_form v.a.now v.k v.x) v.n v.endless v.j c-if2.true
-    (steps.looped v.endless v.n c-if1.true).0 in
-    λ o u h. steps.built-opt any (steps.built-plus h c-many.ensures) c-optional.ensures
+    let copy = child_form v.a.now v.k v.x in
+    let any = turned-out copy v.n c.in-None.is ∙ forms.repeat-any copy v.n true 0 c.if-n-eq0.true refl in
+    λ o u h. steps.built-opt any (steps.built-plus h c.many.ensures) c.optional.ensures
 
-pub returns-then-endless-n : goal.returns-then-endless-n
+pub returns-then-n-le1 : goal.returns-then-n-le1
 unfolding Extends
-returns-then-endless-n c =
-    let c-if1 = c.if-endless-n in
-    let c-if2 = c.if-n-eq0 in
-    let c-many = c.many in
+returns-then-n-le1 c =
     let v = c.args in
-    let one =
-    forms.repeat_many (child_form v.a.now v.k v.x) v.n v.endless v.j
-    (steps.looped-once v.endless v.n c-if1.true c-if2.false) in
-    λ o u h. steps.built-as one (steps.built-plus h c-many.ensures)
+    let copy = child_form v.a.now v.k v.x in
+    let one = turned-out copy v.n c.in-None.is ∙ forms.repeat_many copy v.n true 0 (eq-eqb v.n 1 (omega arith)) in
+    λ o u h. steps.built-as one (steps.built-plus h c.many.ensures)
 
 pub returns-then-f-eq0 : goal.returns-then-f-eq0
 unfolding Extends
 returns-then-f-eq0 c =
-    let c-if3 = c.if-n-eq0-2 in
-    let c-if1 = c.if-endless-n in
-    let c-if4 = c.if-f-eq0 in
-    let c-optional2 = c.optional-alone in
     let v = c.args in
-    let all =
-    forms.repeat-nested (child_form v.a.now v.k v.x) v.n v.endless v.j
-    c-if3.true (steps.unlooped-none v.endless v.n c-if1.false c-if3.true) in
-    λ o u h. steps.built-as all
-    (steps.settled-nested (child_at v.a.now v.k v.x) h c-if4.true v.j
-    c-optional2.ensures)
+    λ o u h. steps.settled-repeat (child_at v.a.now v.k v.x) h c.if-f-eq0.true v.n (extra_in v.more) (some v.n c.if-n-le1.false)
 
-pub overflow_sub-j : goal.overflow_sub-j
-overflow_sub-j c =
-    let c-if3 = c.if-n-eq0-2 in
-    let v = c.args in
-    let some = steps.some-copy v.n v.j c.requires.0 c-if3.true in
-    omega arith
-
-pub nested-g-requires : goal.nested-g-requires
-nested-g-requires c =
-    let c-if3 = c.if-n-eq0-2 in
-    let c-if1 = c.if-endless-n in
+pub endless-g-requires : goal.endless-g-requires
+endless-g-requires c =
     let v = c.args in
     let p = c.requires in
     let copy = child_form v.a.now v.k v.x in
-    let all =
-    forms.repeat-nested copy v.n v.endless v.j c-if3.true
-    (steps.unlooped-none v.endless v.n c-if1.false c-if3.true) in
-    let sum =
-    forms.nested-positions copy v.j (steps.some-copy v.n v.j p.0 c-if3.true) in
-    (omega (arith, steps.room_as v.b all p.1, sum, stands-size p.2), p.2)
+    let room = steps.room_as v.b (turned-out copy v.n c.in-None.is) p.1 in
+    let sum = forms.repeat-positions copy v.n true 0 (some v.n c.if-n-le1.false) (ne_eqb v.n 1 (several v.n c.if-n-le1.false)) in
+    (omega arith, omega (arith, room, sum, stands-size p.2), p.2)
 
 pub then-requires : goal.then-requires
 then-requires c =
-    let c-if3 = c.if-n-eq0-2 in
-    let c-if1 = c.if-endless-n in
-    let c-nested = c.nested-g in
     let v = c.args in
     let p = c.requires in
     let copy = child_form v.a.now v.k v.x in
-    let all =
-    forms.repeat-nested copy v.n v.endless v.j c-if3.true
-    (steps.unlooped-none v.endless v.n c-if1.false c-if3.true) in
-    let sum =
-    forms.nested-positions copy v.j (steps.some-copy v.n v.j p.0 c-if3.true) in
-    omega (
-      arith,
-      steps.room_as v.b all p.1,
-      sum,
-      stands-size p.2,
-      steps.size_of
-          c-nested.ensures,
-    )
+    let room = steps.room_as v.b (turned-out copy v.n c.in-None.is) p.1 in
+    let sum = forms.repeat-positions copy v.n true 0 (some v.n c.if-n-le1.false) (ne_eqb v.n 1 (several v.n c.if-n-le1.false)) in
+    omega (arith, room, sum, stands-size p.2, steps.size_of c.endless-g.ensures)
 
-pub returns-then-n-eq0-2 : goal.returns-then-n-eq0-2
+pub returns-else-f-eq0 : goal.returns-else-f-eq0
 unfolding Extends
-returns-then-n-eq0-2 c =
-    let c-if3 = c.if-n-eq0-2 in
-    let c-if1 = c.if-endless-n in
-    let c-nested = c.nested-g in
-    let c-then = c.then in
-    let c-optional3 = c.optional-then-n-eq0-2 in
+returns-else-f-eq0 c =
     let v = c.args in
     let copy = child_form v.a.now v.k v.x in
-    let all =
-    forms.repeat-nested copy v.n v.endless v.j c-if3.true
-    (steps.unlooped-none v.endless v.n c-if1.false c-if3.true) in
-    let first =
-    forms.nested-step copy v.j
-    (steps.some-copy v.n v.j c.requires.0 c-if3.true) in
-    λ o u h. steps.built-opt (all ∙ first)
-    (steps.built-seq h c-nested.ensures refl c-then.ensures.0 c-then.ensures.1)
-    c-optional3.ensures
+    let first = forms.repeat-step copy v.n true 0 (some v.n c.if-n-le1.false) (ne_eqb v.n 1 (several v.n c.if-n-le1.false)) in
+    λ o u h. steps.built-seq h c.endless-g.ensures (turned-out copy v.n c.in-None.is ∙ first) c.then.ensures.0 c.then.ensures.1
 
 pub returns-then-f-eq0-2 : goal.returns-then-f-eq0-2
 unfolding Extends
 returns-then-f-eq0-2 c =
-    let c-if5 = c.if-f-eq0-2 in
-    let c-if3 = c.if-n-eq0-2 in
     let v = c.args in
-    λ o u h. steps.settled-repeat (child_at v.a.now v.k v.x) h c-if5.true v.n
-    (extra v.endless v.j) c-if3.false
+    let j = c.in-Some.j in
+    let copy = child_form v.a.now v.k v.x in
+    let all = turned-out copy v.n c.in-Some.is ∙ forms.repeat-nested copy v.n false j c.if-n-eq0-2.true refl in
+    λ o u h. steps.built-as all (steps.settled-nested (child_at v.a.now v.k v.x) h c.if-f-eq0-2.true j c.optional-alone.ensures)
 
-pub more-g-requires : goal.more-g-requires
-more-g-requires c =
-    let c-if1 = c.if-endless-n in
-    let c-if3 = c.if-n-eq0-2 in
+pub nested-g-requires : goal.nested-g-requires
+nested-g-requires c =
     let v = c.args in
     let p = c.requires in
-    let test = steps.unlooped v.endless v.n c-if1.false in
-    let sum =
-    forms.repeat-positions (child_form v.a.now v.k v.x) v.n v.endless v.j
-    c-if3.false test in (
-      steps.more-behind v.endless v.n test c-if3.false,
-      omega
-          (arith, sum, stands-size p.2),
-      p.2,
-    )
+    let j = c.in-Some.j in
+    let copy = child_form v.a.now v.k v.x in
+    let all = turned-out copy v.n c.in-Some.is ∙ forms.repeat-nested copy v.n false j c.if-n-eq0-2.true refl in
+    let sum = forms.nested-positions copy j (first-copy v.n c.in-Some.is p.0 c.if-n-eq0-2.true) in
+    (omega (arith, steps.room_as v.b all p.1, sum, stands-size p.2), p.2)
 
-pub then-requires-2 : goal.then-requires-2
-then-requires-2 c =
-    let c-if3 = c.if-n-eq0-2 in
-    let c-if1 = c.if-endless-n in
-    let c-more = c.more-g in
+pub then-requires-then-n-eq0-2 : goal.then-requires-then-n-eq0-2
+then-requires-then-n-eq0-2 c =
     let v = c.args in
     let p = c.requires in
-    let sum =
-    forms.repeat-positions (child_form v.a.now v.k v.x) v.n v.endless v.j
-    c-if3.false (steps.unlooped v.endless v.n c-if1.false) in
-    omega (arith, sum, stands-size p.2, steps.size_of c-more.ensures)
+    let j = c.in-Some.j in
+    let copy = child_form v.a.now v.k v.x in
+    let all = turned-out copy v.n c.in-Some.is ∙ forms.repeat-nested copy v.n false j c.if-n-eq0-2.true refl in
+    let sum = forms.nested-positions copy j (first-copy v.n c.in-Some.is p.0 c.if-n-eq0-2.true) in
+    omega (arith, steps.room_as v.b all p.1, sum, stands-size p.2, steps.size_of c.nested-g.ensures)
 
-pub returns : goal.returns
+pub returns-then-n-eq0-2 : goal.returns-then-n-eq0-2
 unfolding Extends
-returns c =
-    let c-if3 = c.if-n-eq0-2 in
-    let c-if1 = c.if-endless-n in
-    let c-more = c.more-g in
-    let c-then2 = c.then-2 in
+returns-then-n-eq0-2 c =
     let v = c.args in
-    let first =
-    forms.repeat-step (child_form v.a.now v.k v.x) v.n v.endless v.j c-if3.false
-    (steps.unlooped v.endless v.n c-if1.false) in
-    λ o u h. steps.built-seq h c-more.ensures first c-then2.ensures.0 c-then2.ensures.1
+    let j = c.in-Some.j in
+    let copy = child_form v.a.now v.k v.x in
+    let all = turned-out copy v.n c.in-Some.is ∙ forms.repeat-nested copy v.n false j c.if-n-eq0-2.true refl in
+    let first = forms.nested-step copy j (first-copy v.n c.in-Some.is c.requires.0 c.if-n-eq0-2.true) in
+    λ o u h. steps.built-opt (all ∙ first)
+    (steps.built-seq h c.nested-g.ensures refl c.then-then-n-eq0-2.ensures.0 c.then-then-n-eq0-2.ensures.1)
+    c.optional-then-n-eq0-2.ensures
+
+pub returns-then-f-eq0-3 : goal.returns-then-f-eq0-3
+unfolding Extends
+returns-then-f-eq0-3 c =
+    let v = c.args in
+    λ o u h. steps.settled-repeat (child_at v.a.now v.k v.x) h c.if-f-eq0-3.true v.n (extra_in v.more) c.if-n-eq0-2.false
+
+pub bounded-g-requires : goal.bounded-g-requires
+bounded-g-requires c =
+    let v = c.args in
+    let p = c.requires in
+    let copy = child_form v.a.now v.k v.x in
+    let room = steps.room_as v.b (turned-out copy v.n c.in-Some.is) p.1 in
+    let sum = forms.repeat-positions copy v.n false c.in-Some.j c.if-n-eq0-2.false refl in
+    (omega (arith, room, sum, stands-size p.2), p.2)
+
+pub then-requires-in-Some : goal.then-requires-in-Some
+then-requires-in-Some c =
+    let v = c.args in
+    let p = c.requires in
+    let copy = child_form v.a.now v.k v.x in
+    let room = steps.room_as v.b (turned-out copy v.n c.in-Some.is) p.1 in
+    let sum = forms.repeat-positions copy v.n false c.in-Some.j c.if-n-eq0-2.false refl in
+    omega (arith, room, sum, stands-size p.2, steps.size_of c.bounded-g.ensures)
+
+pub returns-else-f-eq0-3 : goal.returns-else-f-eq0-3
+unfolding Extends
+returns-else-f-eq0-3 c =
+    let v = c.args in
+    let copy = child_form v.a.now v.k v.x in
+    let first = forms.repeat-step copy v.n false c.in-Some.j c.if-n-eq0-2.false refl in
+    λ o u h. steps.built-seq h c.bounded-g.ensures (turned-out copy v.n c.in-Some.is ∙ first) c.then-in-Some.ensures.0 c.then-in-Some.ensures.1

@@ -5,6 +5,3 @@ use Rattle.card.proofs.bytes.number_at.Given as goal
 
 abbrev pub invariant-loop-j : goal.invariant-loop-j
 invariant-loop-j l = Taken l.bytes l.at l.n l.x l.j
-
-abbrev pub decreases-loop-j : goal.decreases-loop-j
-decreases-loop-j l = l.j

@@ -10,7 +10,7 @@ use Rattle.card.proofs.Images.{words-most, words-within}
 use Rattle.card.proofs.read.put_payload.Goals as goal
 
 pub loop-j-init : goal.loop-j-init
-loop-j-init c = (omega arith, written_none (omega arith))
+loop-j-init c = written_none (omega arith)
 
 pub overflow_mul-j : goal.overflow_mul-j
 overflow_mul-j c = omega (arith, words-most c.args.i)
@@ -28,24 +28,19 @@ pub offset_bounds-words-first : goal.offset_bounds-words-first
 offset_bounds-words-first c = omega (arith, words-within c.args.i (omega arith), c.words_in-n.ensures)
 
 pub bounds-words-first : goal.bounds-words-first
-bounds-words-first c = omega (arith, words-within c.args.i (omega arith), c.words_in-n.ensures, c.loop-j.invariant.1.long)
-
-pub loop-j-smaller : goal.loop-j-smaller
-loop-j-smaller c = omega (arith, c.words_in-n.ensures)
+bounds-words-first c = omega (arith, words-within c.args.i (omega arith), c.words_in-n.ensures, c.loop-j.invariant.long)
 
 pub loop-j-preserved : goal.loop-j-preserved
 loop-j-preserved c =
     let x = c.args in
     let l = c.loop-j in
-    let e : l.j ≡ first_word x.i + l.j - first_word x.i = omega arith in (
-      omega (arith, c.words_in-n.ensures),
-      written-up l.invariant.1 (omega arith) (omega (arith, words-within x.i (omega arith), c.words_in-n.ensures)) (omega arith)
-          (c.number_at.ensures ∙ ap (λ (k : ℕ). number_at x.block.now (payload_at + k * 8) 8) e),
-    )
+    let e : l.j ≡ first_word x.i + l.j - first_word x.i = omega arith in
+    written-up l.invariant (omega arith) (omega (arith, words-within x.i (omega arith), c.words_in-n.ensures)) (omega arith)
+    (c.number_at.ensures ∙ ap (λ (k : ℕ). number_at x.block.now (payload_at + k * 8) 8) e)
 
 pub returns : goal.returns
 returns c =
     let x = c.args in
     let l = c.loop-j in
     let e : first_word x.i + l.j ≡ first_word x.i + words_in x.i = omega (arith, c.words_in-n.ensures) in
-    written_all l.invariant.1 e
+    written_all l.invariant e

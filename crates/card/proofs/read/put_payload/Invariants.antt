@@ -7,7 +7,4 @@ use Rattle.card.specs.Block.{payload_at, first_word, words_in}
 use Rattle.card.proofs.read.put_payload.Given as goal
 
 abbrev pub invariant-loop-j : goal.invariant-loop-j
-invariant-loop-j l = (l.j ≤ words_in l.i) × Written (first_word l.i) (first_word l.i + l.j) (λ w. number_at l.block (payload_at + (w - first_word l.i) * 8) 8) l.initial.words l.words
-
-abbrev pub decreases-loop-j : goal.decreases-loop-j
-decreases-loop-j l = words_in l.i - l.j
+invariant-loop-j l = Written (first_word l.i) (first_word l.i + l.j) (λ w. number_at l.block (payload_at + (w - first_word l.i) * 8) 8) l.initial.words l.words

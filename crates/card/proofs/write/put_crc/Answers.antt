@@ -9,16 +9,12 @@ use Rattle.table.proofs.Over.{written_none, written-up, written_all}
 use Rattle.card.proofs.write.put_crc.Goals as goal
 
 pub loop-k-init : goal.loop-k-init
-loop-k-init c = (omega arith, omega arith, written_none (omega arith))
+loop-k-init c = written_none (omega arith)
 
 pub loop-k-preserved : goal.loop-k-preserved
 loop-k-preserved c =
-    let k = c.loop-k.k in (
-      omega arith,
-      omega arith,
-      written-up c.loop-k.invariant.2 (omega arith) (omega arith) refl
-          (c.byte_of.ensures ∙ ap (λ (x : ℕ). byte_of x (k - crc_at)) c.crc_of-crc.ensures),
-    )
+    written-up c.loop-k.invariant (omega arith) (omega arith) refl
+    (c.byte_of.ensures ∙ ap (λ (x : ℕ). byte_of x (c.loop-k.k - crc_at)) c.crc_of-crc.ensures)
 
 pub returns : goal.returns
-returns c = written_all c.loop-k.invariant.2 (omega arith)
+returns c = written_all c.loop-k.invariant (omega arith)

@@ -9,7 +9,4 @@ use Rattle.table.proofs.Over.{Written}
 use Rattle.card.proofs.write.put_crc.Given as goal
 
 abbrev pub invariant-loop-k : goal.invariant-loop-k
-invariant-loop-k l = (crc_at ≤ l.k) × (l.k ≤ block_bytes) × Written crc_at l.k (λ j. byte_of (crc32 (take crc_at l.initial.block)) (j - crc_at)) l.initial.block l.block
-
-abbrev pub decreases-loop-k : goal.decreases-loop-k
-decreases-loop-k l = block_bytes - l.k
+invariant-loop-k l = Written crc_at l.k (λ j. byte_of (crc32 (take crc_at l.initial.block)) (j - crc_at)) l.initial.block l.block

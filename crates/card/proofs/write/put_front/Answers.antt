@@ -6,10 +6,10 @@ use Rattle.table.proofs.Over.{written_none, written-up, written_all}
 use Rattle.card.proofs.write.put_front.Goals as goal
 
 pub loop-k-init : goal.loop-k-init
-loop-k-init c = (omega arith, written_none (omega arith))
+loop-k-init c = written_none (omega arith)
 
 pub loop-k-preserved : goal.loop-k-preserved
-loop-k-preserved c = (omega arith, written-up c.loop-k.invariant.1 (omega arith) (omega arith) refl c.front_byte.ensures)
+loop-k-preserved c = written-up c.loop-k.invariant (omega arith) (omega arith) refl c.front_byte.ensures
 
 pub returns : goal.returns
-returns c = written_all c.loop-k.invariant.1 (omega arith)
+returns c = written_all c.loop-k.invariant (omega arith)

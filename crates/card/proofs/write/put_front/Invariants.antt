@@ -7,7 +7,4 @@ use Rattle.table.proofs.Over.{Written}
 use Rattle.card.proofs.write.put_front.Given as goal
 
 abbrev pub invariant-loop-k : goal.invariant-loop-k
-invariant-loop-k l = (l.k ≤ crc_at) × Written 0 l.k (front_byte l.words l.i) l.initial.block l.block
-
-abbrev pub decreases-loop-k : goal.decreases-loop-k
-decreases-loop-k l = crc_at - l.k
+invariant-loop-k l = Written 0 l.k (front_byte l.words l.i) l.initial.block l.block

@@ -9,7 +9,7 @@ use native.Mathlib.Omega.{arith}
 use lib.ListN.{drop}
 use Rattle.classes.specs.Class.{members_of}
 use Rattle.atoms.proofs.Gaps.{mark-inside}
-use Rattle.classes.proofs.Ranges.{member-advances, members-end, members-mark, members-close, members-fault, members-more}
+use Rattle.classes.proofs.Ranges.{members-end, members-mark, members-close, told-refused, told-advances, told-more}
 use Rattle.classes.proofs.classes.members_at.Goals as goal
 
 pub loop-i-init : goal.loop-i-init
@@ -57,63 +57,41 @@ returns-then-c-first c =
     (sym (members-close args.caseless args.negated loop.first loop.quoted loop.set s loop.i
     c.loop-i-test.true mark c.if-c-first.true) ∙ loop.invariant)
 
-pub returns-then-m-ne0 : goal.returns-then-m-ne0
-returns-then-m-ne0 c =
-    let args = c.args in
-    let s = args.s.now in
-    let peek = c.peek-d in
+pub returns-in-Err : goal.returns-in-Err
+returns-in-Err c =
     let loop = c.loop-i in
-    let member-at = c.member_at-m in
-    let mark = rw peek.ensures at (sym c.is_mark.ensures ∙
-    c.if-is_mark.false) in
-    c.refused.ensures
-    ∙ sym
-    (members-fault args.caseless args.negated loop.first loop.quoted loop.set s loop.i
-    c.loop-i-test.true mark member-at.result
-    c.if-c-first.false member-at.ensures c.if-m-ne0.true)
+    let mark = rw c.peek-d.ensures at (sym c.is_mark.ensures ∙ c.if-is_mark.false) in
+    sym (told-refused c.args.s.now loop.i c.args.caseless loop.quoted c.member_at-m.result c.member_at-m.ensures c.loop-i-test.true
+    c.in-Err.refusal c.in-Err.is c.args.negated loop.first loop.set mark c.if-c-first.false)
     ∙ loop.invariant
 
 pub overflow_add-i-else-is_mark : goal.overflow_add-i-else-is_mark
 overflow_add-i-else-is_mark c =
-    let args = c.args in
-    let s = args.s.now in
     let loop = c.loop-i in
-    let member-at = c.member_at-m in
-    let more = member-advances s loop.i args.caseless loop.quoted member-at.result
-    c.loop-i-test.true member-at.ensures
-    c.if-m-ne0.false in
+    let more = told-advances c.args.s.now loop.i c.args.caseless loop.quoted c.member_at-m.result c.member_at-m.ensures c.loop-i-test.true
+    c.in-Ok.ends c.in-Ok.is in
     omega (arith, more.1, c.well_formed)
 
 pub loop-i-smaller : goal.loop-i-smaller
 loop-i-smaller c =
-    let args = c.args in
-    let s = args.s.now in
     let loop = c.loop-i in
-    let member-at = c.member_at-m in
-    let more = member-advances s loop.i args.caseless loop.quoted member-at.result
-    c.loop-i-test.true member-at.ensures
-    c.if-m-ne0.false in
+    let more = told-advances c.args.s.now loop.i c.args.caseless loop.quoted c.member_at-m.result c.member_at-m.ensures c.loop-i-test.true
+    c.in-Ok.ends c.in-Ok.is in
     omega (arith, more.0, more.1)
 
 pub loop-i-preserved : goal.loop-i-preserved
 loop-i-preserved c =
-    let args = c.args in
-    let s = args.s.now in
-    let peek = c.peek-d in
     let loop = c.loop-i in
-    let member-at = c.member_at-m in
-    let mark = rw peek.ensures at (sym c.is_mark.ensures ∙
-    c.if-is_mark.false) in
+    let mark = rw c.peek-d.ensures at (sym c.is_mark.ensures ∙ c.if-is_mark.false) in
     rw c.join-more.ensures
-    (sym (members-more args.caseless args.negated loop.first loop.quoted loop.set s loop.i
-    c.loop-i-test.true mark member-at.result
-    c.if-c-first.false member-at.ensures c.if-m-ne0.false) ∙ loop.invariant)
+    (sym (told-more c.args.s.now loop.i c.args.caseless loop.quoted c.member_at-m.result c.member_at-m.ensures c.loop-i-test.true
+    c.in-Ok.ends c.in-Ok.is c.args.negated loop.first loop.set mark c.if-c-first.false)
+    ∙ loop.invariant)
 
 pub returns : goal.returns
 returns c =
     let args = c.args in
     let s = args.s.now in
     let loop = c.loop-i in
-    c.refused-2.ensures
-    ∙ sym (members-end args.caseless args.negated loop.first loop.quoted loop.set s loop.i c.loop-i-test.false)
+    sym (members-end args.caseless args.negated loop.first loop.quoted loop.set s loop.i c.loop-i-test.false)
     ∙ loop.invariant

@@ -1,11 +1,10 @@
 -- `classes::members::joint_at` meets its contract: the marks before and after the hyphen, and the
 -- bytes that follow them, decide. They stand in the pattern, so no sum wraps.
-use mathlib.Core.Path.{sym}
-use mathlib.Core.Bool.{false}
+use mathlib.Core.Bool.{true, false}
 use Prim.Native.Nat.{◌+◌}
 use native.Mathlib.Omega.{arith}
 use Rattle.atoms.proofs.Gaps.{gap-size}
-use Rattle.classes.proofs.Ranges.{joint-is}
+use Rattle.classes.proofs.Ranges.{joint-told}
 use Rattle.classes.proofs.members.joint_at.Goals as goal
 
 pub overflow_add-hyphen : goal.overflow_add-hyphen
@@ -68,12 +67,12 @@ overflow_add-at c =
 pub overflow_sub-rest : goal.overflow_sub-rest
 overflow_sub-rest c = c.requires
 
+pub returns-then-is : goal.returns-then-is
+returns-then-is c =
+    joint-told c.args.s.now c.args.at c.args.quoted c.gap_at-g.result c.gap_at-h.result c.peek.result c.peek-last.result true
+    c.gap_at-g.ensures c.gap_at-h.ensures c.peek.ensures c.peek-last.ensures c.if-is.true
+
 pub returns : goal.returns
 returns c =
-    let args = c.args in
-    let s = args.s.now in
-    let at = args.at in
-    let gap_at = c.gap_at-g in
-    let gap-at2 = c.gap_at-h in
-    sym (joint-is s at args.quoted gap_at.result gap-at2.result c.peek.result c.peek-last.result
-    gap_at.ensures gap-at2.ensures c.peek.ensures c.peek-last.ensures)
+    joint-told c.args.s.now c.args.at c.args.quoted c.gap_at-g.result c.gap_at-h.result c.peek.result c.peek-last.result false
+    c.gap_at-g.ensures c.gap_at-h.ensures c.peek.ensures c.peek-last.ensures c.if-is.false

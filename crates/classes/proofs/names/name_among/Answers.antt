@@ -1,5 +1,5 @@
 -- `classes::names::name_among` meets its contract. The invariant: the names from the number on give
--- what all of them give. The measure is how many are left.
+-- what all of them give.
 use mathlib.Core.Path.{refl, sym, ◌∙◌}
 use native.Mathlib.Omega.{arith}
 use lib.ListN.{drop, length-drop}
@@ -34,9 +34,10 @@ returns-then-size-ne0 c =
     let spelled = c.spelled-size in
     let loop = c.loop-number in
     let e = rw row.ensures.0 at spelled.ensures in
-    rw (c.sound.ensures, c.atom_of.ensures, row.ensures.1)
+    c.sound.ensures
+    ∙ rw (c.atom_of.ensures, row.ensures.1)
     (sym (among-found args.caseless args.negated args.lead (drop at s) loop.number spelled.result
-    c.loop-number-test.true e c.if-size-ne0.true) ∙ loop.invariant)
+    (omega arith) e c.if-size-ne0.true) ∙ loop.invariant)
 
 pub loop-number-preserved : goal.loop-number-preserved
 loop-number-preserved c =
@@ -48,7 +49,7 @@ loop-number-preserved c =
     let loop = c.loop-number in
     let e = rw row.ensures.0 at spelled.ensures in
     sym (among_next args.caseless args.negated args.lead (drop at s) loop.number spelled.result
-    c.loop-number-test.true e c.if-size-ne0.false)
+    (omega arith) e c.if-size-ne0.false)
     ∙ loop.invariant
 
 pub returns : goal.returns
@@ -58,5 +59,5 @@ returns c =
     let at = args.at in
     let loop = c.loop-number in
     c.faulty.ensures
-    ∙ sym (among_none args.caseless args.negated args.lead (drop at s) loop.number c.loop-number-test.false)
+    ∙ sym (among_none args.caseless args.negated args.lead (drop at s) loop.number (omega arith))
     ∙ loop.invariant

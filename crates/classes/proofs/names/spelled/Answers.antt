@@ -13,7 +13,7 @@ loop-k-init c =
     let args = c.args in
     let s = args.s.now in
     let at = args.at in
-    (omega arith, spell-start s args.text at)
+    spell-start s args.text at
 
 pub returns-then-c-eq0 : goal.returns-then-c-eq0
 returns-then-c-eq0 c =
@@ -21,7 +21,7 @@ returns-then-c-eq0 c =
     let s = args.s.now in
     let at = args.at in
     let loop = c.loop-k in
-    sym (spell-end s args.text at loop.k c.if-c-eq0.true) ∙ loop.invariant.1
+    sym (spell-end s args.text at loop.k c.if-c-eq0.true) ∙ loop.invariant
 
 pub returns-then-peek-c : goal.returns-then-peek-c
 returns-then-peek-c c =
@@ -32,7 +32,7 @@ returns-then-peek-c c =
     let peek = c.peek in
     sym (spell-more s args.text at loop.k peek.result c.if-c-eq0.false peek.ensures ∙ rw
     (ne_eqb _ _ (λ e. c.if-peek-c.true (sym e))))
-    ∙ loop.invariant.1
+    ∙ loop.invariant
 
 pub loop-k-preserved : goal.loop-k-preserved
 loop-k-preserved c =
@@ -40,11 +40,9 @@ loop-k-preserved c =
     let s = args.s.now in
     let at = args.at in
     let loop = c.loop-k in
-    let peek = c.peek in (
-      omega arith,
-      sym (spell-more s args.text at loop.k peek.result c.if-c-eq0.false peek.ensures ∙ rw
-          (eq-eqb _ _ (sym c.if-peek-c.false))) ∙ loop.invariant.1,
-    )
+    let peek = c.peek in
+    sym (spell-more s args.text at loop.k peek.result c.if-c-eq0.false peek.ensures ∙ rw
+    (eq-eqb _ _ (sym c.if-peek-c.false))) ∙ loop.invariant
 
 pub returns : goal.returns
 returns c =
@@ -55,4 +53,4 @@ returns c =
     let size : length args.text ≤ 8 = omega (arith, c.well_formed) in
     let end : loop.k ≡ 8 = omega arith in
     let past = spell-end s args.text at 8 (get_or-eq_default args.text 0 (size)) in
-    sym past ∙ rw end at loop.invariant.1
+    sym past ∙ rw end at loop.invariant

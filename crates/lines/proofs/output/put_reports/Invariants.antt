@@ -1,12 +1,8 @@
 -- `lines::output::put_reports` meets its contract: the loop's invariant is that the lines of the
 -- reports passed are placed.
-use mathlib.Core.Path.{◌≡◌}
-use Prim.Native.Nat.{◌-◌, ◌≤◌}
+use Rattle.std.proofs.Common.{◌≡◌}
 use Rattle.lines.specs.Output.{buffer, reports_placed}
 use Rattle.lines.proofs.output.put_reports.Given as goal
 
 abbrev pub invariant-loop-i : goal.invariant-loop-i
-invariant-loop-i l = (l.i ≤ l.reports) × (buffer l.next l.out ≡ reports_placed (buffer l.at l.initial.out) l.ids l.offsets l.i)
-
-abbrev pub decreases-loop-i : goal.decreases-loop-i
-decreases-loop-i l = l.reports - l.i
+invariant-loop-i l = buffer l.next l.out ≡ reports_placed (buffer l.at l.initial.out) l.ids l.offsets l.i

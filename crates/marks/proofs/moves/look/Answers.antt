@@ -8,7 +8,7 @@ use Rattle.marks.proofs.moves.look.Goals as goal
 
 pub loop-j-init : goal.loop-j-init
 loop-j-init c =
-    (omega arith, refl, refl, λ u v. looked-none c.args.parts.now c.args.g c.args.marks.now c.args.cores.now c.args.ends.now)
+    record { cores = refl; ends = refl; looked = λ u v. looked-none c.args.parts.now c.args.g c.args.marks.now c.args.cores.now c.args.ends.now }
 
 pub core-c-requires : goal.core-c-requires
 core-c-requires c =
@@ -42,26 +42,20 @@ pub bounds-ends-j : goal.bounds-ends-j
 bounds-ends-j c =
     omega (arith, c.requires.0)
 
-pub overflow_add-j-in-loop-j : goal.overflow_add-j-in-loop-j
-overflow_add-j-in-loop-j c =
-    omega (arith, c.requires.0)
-
 pub loop-j-preserved : goal.loop-j-preserved
 loop-j-preserved c =
     let inv = c.loop-j.invariant in
-    let e : suc c.loop-j.j ≡ c.loop-j.j + 1 = omega arith in (
-      omega arith,
-      length-set c.loop-j.cores c.loop-j.j c.core-c.result ∙ inv.1,
-      length-set c.loop-j.ends c.loop-j.j c.only.result ∙ inv.2,
-      λ u v. looked-to c.args.parts.now c.args.g c.args.marks.now _ _ e
+    let e : suc c.loop-j.j ≡ c.loop-j.j + 1 = omega arith in record {
+      cores = length-set c.loop-j.cores c.loop-j.j c.core-c.result ∙ inv.cores;
+      ends = length-set c.loop-j.ends c.loop-j.j c.only.result ∙ inv.ends;
+      looked = λ u v. looked-to c.args.parts.now c.args.g c.args.marks.now _ _ e
           (looked-more c.args.parts.now c.args.g c.args.marks.now c.loop-j.cores c.loop-j.ends c.loop-j.j c.core-c.result c.only.result
-          (omega (arith, c.requires.0, inv.1)) (omega (arith, c.requires.0, inv.2)) c.core-c.ensures
-          (through c.args.parts.now c.loop-j.j 6 c.args.g c.word.ensures c.has.ensures refl c.only.ensures) (inv.3 u v)),
-    )
+          (omega (arith, c.requires.0, inv.cores)) (omega (arith, c.requires.0, inv.ends)) c.core-c.ensures
+          (through c.args.parts.now c.loop-j.j 6 c.args.g c.word.ensures c.has.ensures refl c.only.ensures) (inv.looked u v));
+    }
 
 pub returns : goal.returns
 returns c =
-    let c-loop = c.loop-j in
-    let inv = c-loop.invariant in
-    let e : c-loop.j ≡ c.args.n = omega arith in
-    record { cores = inv.1; ends = inv.2; looked = λ u v. looked-to c.args.parts.now c.args.g c.args.marks.now c-loop.cores c-loop.ends e (inv.3 u v) }
+    let inv = c.loop-j.invariant in
+    let e : c.loop-j.j ≡ c.args.n = omega arith in
+    record { cores = inv.cores; ends = inv.ends; looked = λ u v. looked-to c.args.parts.now c.args.g c.args.marks.now c.loop-j.cores c.loop-j.ends e (inv.looked u v) }

@@ -10,6 +10,3 @@ use Rattle.marks.proofs.moves.step.Given as goal
 abbrev pub invariant-loop-j : goal.invariant-loop-j
 invariant-loop-j l =
     (l.j ≤ l.n) × (length l.comes ≡ 512) × (length l.marks ≡ length l.initial.marks) × (l.n ≡ 0 → l.marks ≡ l.initial.marks) × Remains l.parts l.n l.g (hits_of l.a l.byte) l.initial.marks l.come l.j l.comes l.marks
-
-abbrev pub decreases-loop-j : goal.decreases-loop-j
-decreases-loop-j l = l.j

@@ -10,7 +10,6 @@ use lib.Seq.{get_or-take, get_or-drop}
 use Rattle.sets.specs.Set.{on, has}
 use Rattle.nodes.specs.Invariants.{set_at}
 use Rattle.marks.proofs.moves.takes.Goals as goal
-use Rattle.marks.proofs.moves.takes.Goals.{then-k-lt4, else-k-lt4}
 
 -- a byte in the set that stands before node k
 takes_is : (a : List ℕ) (k from x w : ℕ) → x < 256 → from ≡ k - 4 → w ≡ get_or a (from + x / 64) 0 → eqb (bit_and (w / 2 ^ (x % 64)) 1) 1 ≡ has (set_at a k) x
@@ -20,13 +19,5 @@ takes_is a k from x w lt e f =
     let read : get_or (set_at a k) (x / 64) 0 ≡ w = get_or-take 4 (drop (k - 4) a) (x / 64) 0 inside ∙ rw get_or-drop (rw (← e) (sym f)) in
     ap (λ (v : ℕ). eqb v 1) (and_mask (w / 2 ^ (x % 64)) 1) ∙ ap (λ (v : ℕ). eqb (v / 2 ^ (x % 64) % 2) 1) (sym read)
 
-pub overflow_add-from : goal.overflow_add-from
-overflow_add-from c =
-    let c-if1 = c.if-k-lt4 in
-    elim c-if1.branch [ then-k-lt4 w ↦ omega arith | else-k-lt4 w ↦ omega arith ]
-
 pub returns : goal.returns
-returns c =
-    let c-if1 = c.if-k-lt4 in
-    let c-word = c.word in
-    takes_is c.args.a.now c.args.k c-if1.from c.args.byte c-word.result (omega arith) (elim c-if1.branch [ then-k-lt4 w ↦ omega arith | else-k-lt4 w ↦ omega arith ]) c-word.ensures
+returns c = takes_is c.args.a.now c.args.k c.saturating_sub.result c.args.byte c.word.result (omega arith) c.saturating_sub.ensures c.word.ensures

@@ -1,11 +1,19 @@
--- `turn` meets its contract: by what the row is.
-use Rattle.marks.proofs.Passes.{turn-item, turn-pair}
+-- `turn` meets its contract: by what the row says.
+use mathlib.Core.Path.{refl}
+use Rattle.marks.proofs.Passes.{turned}
 use Rattle.marks.proofs.moves.turn.Goals as goal
 
-pub returns-then-word-eq-ITEM : goal.returns-then-word-eq-ITEM
-returns-then-word-eq-ITEM c =
-    turn-item c.args.parts.now c.args.j c.args.a.now c.args.g c.args.byte c.args.cores.now c.args.ends.now c.args.comes.now c.args.marks.now c.word.ensures c.entered-i.ensures c.if-word-eq-ITEM.true c.word-k.ensures c.word-p.ensures c.takes.ensures c.only.ensures c.put.ensures
+pub returns-in-Item : goal.returns-in-Item
+returns-in-Item c =
+    turned c.args.parts.now c.args.j c.read.ensures c.in-Item.is c.args.a.now c.args.g c.args.byte c.args.cores.now c.args.ends.now c.args.comes.now c.args.marks.now c.entered-come.ensures
+    (rw (c.put.ensures, c.only.ensures, c.takes.ensures) refl) refl
 
-pub returns : goal.returns
-returns c =
-    turn-pair c.args.parts.now c.args.j c.args.a.now c.args.g c.args.byte c.args.cores.now c.args.ends.now c.args.comes.now c.args.marks.now c.word.ensures c.entered-i.ensures c.if-word-eq-ITEM.false c.hand_down.ensures
+pub returns-in-Then : goal.returns-in-Then
+returns-in-Then c =
+    turned c.args.parts.now c.args.j c.read.ensures c.in-Then.is c.args.a.now c.args.g c.args.byte c.args.cores.now c.args.ends.now c.args.comes.now c.args.marks.now c.entered-come.ensures
+    refl (rw (c.put-in-Then-2.ensures, c.put-in-Then.ensures, c.passed.ensures, c.has.ensures, c.word.ensures) refl)
+
+pub returns-in-Or : goal.returns-in-Or
+returns-in-Or c =
+    turned c.args.parts.now c.args.j c.read.ensures c.in-Or.is c.args.a.now c.args.g c.args.byte c.args.cores.now c.args.ends.now c.args.comes.now c.args.marks.now c.entered-come.ensures
+    refl (rw (c.put-in-Or-2.ensures, c.put-in-Or.ensures) refl)

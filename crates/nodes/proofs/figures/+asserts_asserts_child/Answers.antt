@@ -1,37 +1,41 @@
--- The test for an assertion and the test of a child meet their contracts together: the laws of
--- `Counts` say what a node's figure is by its children's.
-use mathlib.Core.Logic.{inl, inr}
-use Rattle.nodes.proofs.Counts as counts
+-- The test for an assertion and the test of a child meet their contracts together: each arm is the
+-- figure of the node that the word says.
+use mathlib.Core.Path.{◌∙◌}
+use mathlib.Core.Logic.{⊎_elim}
+use borrow.Author.Tests.{le-ltb}
+use Rattle.nodes.specs.Nodes.{asserts}
+use Rattle.nodes.proofs.Base.{or-first, or-second}
+use Rattle.nodes.proofs.Counts.{inside, outside}
+use Rattle.nodes.proofs.Nodes.{figure}
 use Rattle.nodes.proofs.figures.+asserts_asserts_child.Goals as goal
-use Rattle.nodes.proofs.figures.+asserts_asserts_child.Goals.{asserts-then-op-eq-THEN-via-then-op-eq-THEN, asserts-then-op-eq-THEN-via-else-op-eq-THEN+then-op-eq-OR}
 
-pub asserts-returns-then-op-eq-ASSERTION : goal.asserts-returns-then-op-eq-ASSERTION
-asserts-returns-then-op-eq-ASSERTION t c =
-    counts.asserts-assertion c.args.a.now c.args.k c.word-w.result c.word-w.ensures c.if-op-eq-ASSERTION.true
+pub asserts-returns-in-Empty : goal.asserts-returns-in-Empty
+unfolding asserts
+asserts-returns-in-Empty t c = ⊎_elim (figure asserts _ _ c.node_at.ensures.is) (figure asserts _ _ c.node_at.ensures.is) c.in-Empty.is
 
-pub asserts-returns-then-op-eq-THEN : goal.asserts-returns-then-op-eq-THEN
-asserts-returns-then-op-eq-THEN t c =
-    counts.asserts-both c.args.a.now c.args.k c.word-w.result c.word-w.ensures
-    c.asserts_child.result c.asserts_child-then-op-eq-THEN.result
-    (elim c.then-op-eq-THEN.branch [
-      | asserts-then-op-eq-THEN-via-then-op-eq-THEN w ↦ inl w.if-op-eq-THEN.true
-      | asserts-then-op-eq-THEN-via-else-op-eq-THEN+then-op-eq-OR w ↦ inr w.if-op-eq-OR.true
-    ])
-    c.asserts_child.ensures c.asserts_child-then-op-eq-THEN.ensures
+pub asserts-returns-in-Assertion : goal.asserts-returns-in-Assertion
+unfolding asserts
+asserts-returns-in-Assertion t c = figure asserts _ _ c.node_at.ensures.is c.in-Assertion.is
 
-pub asserts-returns-then-op-eq-REPEAT : goal.asserts-returns-then-op-eq-REPEAT
-asserts-returns-then-op-eq-REPEAT t c =
-    counts.asserts-repeat c.args.a.now c.args.k c.word-w.result c.word-w.ensures
-    c.asserts_child-then-op-eq-REPEAT.result c.if-op-eq-REPEAT.true c.asserts_child-then-op-eq-REPEAT.ensures
+pub asserts-returns-in-Repeat : goal.asserts-returns-in-Repeat
+unfolding asserts
+asserts-returns-in-Repeat t c = c.asserts_child.ensures ∙ figure asserts _ _ c.node_at.ensures.is c.in-Repeat.is
 
-pub asserts-returns : goal.asserts-returns
-asserts-returns t c =
-    counts.asserts-none c.args.a.now c.args.k c.word-w.result c.word-w.ensures
-    c.if-op-eq-ASSERTION.false c.if-op-eq-THEN.false c.if-op-eq-OR.false c.if-op-eq-REPEAT.false
+pub asserts-returns-then-asserts_child : goal.asserts-returns-then-asserts_child
+unfolding asserts
+asserts-returns-then-asserts_child t c =
+    ⊎_elim (λ e. or-first _ c.if-asserts_child.true c.if-asserts_child.ensures (figure asserts _ _ c.node_at.ensures.is e))
+    (λ e. or-first _ c.if-asserts_child.true c.if-asserts_child.ensures (figure asserts _ _ c.node_at.ensures.is e)) c.in-Then.is
+
+pub asserts-returns-else-asserts_child : goal.asserts-returns-else-asserts_child
+unfolding asserts
+asserts-returns-else-asserts_child t c =
+    ⊎_elim (λ e. or-second c.asserts_child-else-asserts_child.ensures c.if-asserts_child.ensures (figure asserts _ _ c.node_at.ensures.is e))
+    (λ e. or-second c.asserts_child-else-asserts_child.ensures c.if-asserts_child.ensures (figure asserts _ _ c.node_at.ensures.is e)) c.in-Then.is
 
 pub asserts_child-returns-then-x-k : goal.asserts_child-returns-then-x-k
-asserts_child-returns-then-x-k t c =
-    counts.asserts-inside c.args.a.now c.args.k c.args.x c.asserts.result c.if-x-k.true c.asserts.ensures
+asserts_child-returns-then-x-k t c = c.asserts.ensures ∙ inside asserts _ _ _ c.if-x-k.true
 
 pub asserts_child-returns-else-x-k : goal.asserts_child-returns-else-x-k
-asserts_child-returns-else-x-k t c = counts.asserts-outside c.args.a.now c.args.k c.args.x c.if-x-k.false
+unfolding asserts
+asserts_child-returns-else-x-k t c = rw (le-ltb _ _ c.if-x-k.false) (outside asserts _ _ _ c.if-x-k.false)

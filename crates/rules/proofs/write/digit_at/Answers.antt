@@ -19,8 +19,8 @@ returns-then-a-k-2 c =
     let a = c.args in
     rw (le-ltb a.a a.k c.if-a-k.false, eq-eqb a.a a.k c.if-a-k-2.true)
 
-pub returns : goal.returns
+pub returns-else-a-k-2 : goal.returns-else-a-k-2
 unfolding on
-returns c =
+returns-else-a-k-2 c =
     let a = c.args in
     rw (le-ltb a.a a.k c.if-a-k.false, ne_eqb a.a a.k c.if-a-k-2.false) (ap (λ (x : ℕ). eqb x 1) (and_mask (a.old / 2 ^ (a.a - 1)) 1))

@@ -7,16 +7,16 @@ use Rattle.rules.proofs.Steps.{rows-below-none, rows-below-more, rows-below-all}
 use Rattle.rules.proofs.write.inner_rows.Goals as goal
 
 pub loop-g-init : goal.loop-g-init
-loop-g-init c = (omega arith, c.empty-s.ensures ∙ rows-below-none c.args.words.now c.args.at)
+loop-g-init c = c.empty-s.ensures ∙ rows-below-none c.args.words.now c.args.at
 
 pub loop-g-preserved : goal.loop-g-preserved
 loop-g-preserved c =
     let a = c.args in
     let l = c.loop-g in
-    (omega arith, c.union-t.ensures ∙ ap₂ union_of l.invariant.1 c.row.ensures ∙ rows-below-more a.words.now a.at l.g)
+    c.union-t.ensures ∙ ap₂ union_of l.invariant c.row.ensures ∙ rows-below-more a.words.now a.at l.g
 
 pub returns : goal.returns
 returns c =
     let l = c.loop-g in
     let a = c.args in
-    rows-below-all a.words.now a.at l.s l.g l.invariant.1 (omega arith)
+    rows-below-all a.words.now a.at l.s l.g l.invariant (omega arith)

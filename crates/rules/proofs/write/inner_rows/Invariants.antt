@@ -1,13 +1,8 @@
 -- `rules::write::inner_rows` meets its contract: each turn joins the set of one gap between two
 -- bytes.
 use mathlib.Core.Path.{◌≡◌}
-use Prim.Native.Nat.{◌-◌, ◌≤◌}
-use Rattle.table.specs.Gaps.{inner_gaps}
 use Rattle.rules.proofs.Steps.{rows_below}
 use Rattle.rules.proofs.write.inner_rows.Given as goal
 
 abbrev pub invariant-loop-g : goal.invariant-loop-g
-invariant-loop-g l = (l.g ≤ inner_gaps) × (l.s ≡ rows_below l.words l.at l.g)
-
-abbrev pub decreases-loop-g : goal.decreases-loop-g
-decreases-loop-g l = inner_gaps - l.g
+invariant-loop-g l = l.s ≡ rows_below l.words l.at l.g

@@ -10,27 +10,21 @@ use Rattle.rules.proofs.Steps.{rows_none, rows-turn, rows_whole}
 use Rattle.rules.proofs.write.mask_rows.Goals as goal
 
 pub loop-k-init : goal.loop-k-init
-loop-k-init c =
-    let c-start = c.before.before in
-    (omega arith, rows_none c-start.args.at c-start.args.n (λ j. empty_set) c-start.args.words.now)
+loop-k-init c = rows_none c.args.at c.args.n (λ j. empty_set) c.args.words.now
+
+pub merge_row-requires : goal.merge_row-requires
+merge_row-requires c = omega (arith, c.loop-k.invariant.long)
 
 pub loop-k-preserved : goal.loop-k-preserved
 loop-k-preserved c =
-    let c-start = c.before.before.before.before.before.before.before.before in
-    let c-loop = c.loop-k in
-    let c-merge-row = c.merge_row in
-    let c-empty = c.empty-none in
-    let at = c-start.args.at in
-    let n = c-start.args.n in
-    let k = c-loop.k in (
-      omega arith,
-      rows-turn at k n (λ j. empty_set) c-start.args.words.now c-loop.words c-merge-row.new.words c-loop.invariant.1
-          (c-merge-row.ensures ∙ ap (λ (l : List ℕ). merged (at + k * 4) n l c-loop.words) c-empty.ensures),
-    )
+    let a = c.args in
+    let l = c.loop-k in
+    rows-turn a.at l.k a.n (λ j. empty_set) a.words.now l.words c.merge_row.new.words l.invariant
+    (c.merge_row.ensures ∙ ap (λ (s : List ℕ). merged (a.at + l.k * 4) a.n s l.words) c.empty-none.ensures)
 
 pub returns : goal.returns
 unfolding masked_rows
 returns c =
-    let c-start = c.before.before.before.before in
-    let c-loop = c.loop-k in
-    rows_whole c-start.args.at c-start.args.rows c-loop.k c-start.args.n (λ j. empty_set) c-start.args.words.now c-loop.words c-loop.invariant.1 (omega arith)
+    let a = c.args in
+    let l = c.loop-k in
+    rows_whole a.at a.rows l.k a.n (λ j. empty_set) a.words.now l.words l.invariant (omega arith)

@@ -10,19 +10,14 @@ use Rattle.rules.proofs.write.new_keepers.Goals as goal
 
 pub returns-then-keeping : goal.returns-then-keeping
 returns-then-keeping c =
-    let rest = c.before in
-    let old = rest.before in
-    let all = old.before.before in
-    let start = all.before.before.before in
-    let a = start.args in
+    let n = c.args.span.n in
+    let more = c.args.span.more in
     c.intersection.ensures
-    ∙ keepers-new a.n a.more all.below-all.result old.below-old.result rest.complement.result
-    (all.below-all.ensures ∙ ap (λ (s : List ℕ). kept_below s (a.n + a.more)) all.full.ensures)
-    (old.below-old.ensures ∙ ap (λ (s : List ℕ). kept_below s a.n) old.full-then-keeping.ensures)
-    rest.complement.ensures
-    ∙ ap (new_keepers a.n a.more) (sym all.if-keeping.true)
+    ∙ keepers-new n more c.below-all.result c.below-old.result c.complement.result
+    (c.below-all.ensures ∙ ap (λ (s : List ℕ). kept_below s (n + more)) c.full.ensures)
+    (c.below-old.ensures ∙ ap (λ (s : List ℕ). kept_below s n) c.full-then-keeping.ensures)
+    c.complement.ensures
+    ∙ ap (new_keepers n more) (sym c.if-keeping.true)
 
 pub returns : goal.returns
-returns c =
-    let a = c.args in
-    c.empty.ensures ∙ keepers-none a.n a.more ∙ ap (new_keepers a.n a.more) (sym c.if-keeping.false)
+returns c = c.empty.ensures ∙ keepers-none c.args.span.n c.args.span.more ∙ ap (new_keepers c.args.span.n c.args.span.more) (sym c.if-keeping.false)

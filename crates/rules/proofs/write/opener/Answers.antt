@@ -7,16 +7,10 @@ use Rattle.rules.proofs.write.opener.Goals as goal
 
 pub returns-then-is_empty : goal.returns-then-is_empty
 returns-then-is_empty c =
-    let start = c.before.before.before.before.before in
-    let a = start.args in
-    let row = c.row-takers in
-    let met = c.intersection in
-    opener-is a.words.now row.result a.first met.result a.x row.ensures start.requires.0 met.ensures true (sym c.is_empty.ensures ∙ c.if-is_empty.true)
+    let a = c.args in
+    opener-is a.words.now c.row-takers.result a.first c.intersection.result a.x c.row-takers.ensures c.requires.0 c.intersection.ensures true (sym c.is_empty.ensures ∙ c.if-is_empty.true)
 
-pub returns : goal.returns
-returns c =
-    let start = c.before.before.before.before.before in
-    let a = start.args in
-    let row = c.row-takers in
-    let met = c.intersection in
-    opener-is a.words.now row.result a.first met.result a.x row.ensures start.requires.0 met.ensures false (sym c.is_empty.ensures ∙ c.if-is_empty.false)
+pub returns-else-is_empty : goal.returns-else-is_empty
+returns-else-is_empty c =
+    let a = c.args in
+    opener-is a.words.now c.row-takers.result a.first c.intersection.result a.x c.row-takers.ensures c.requires.0 c.intersection.ensures false (sym c.is_empty.ensures ∙ c.if-is_empty.false)

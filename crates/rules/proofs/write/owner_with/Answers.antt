@@ -9,28 +9,28 @@ pub returns-then-o-k : goal.returns-then-o-k
 unfolding owner_with raised
 returns-then-o-k c =
     let a = c.args in
-    rw (lt-ltb a.q a.n c.if-q-n.true, lt-ltb a.o a.k c.if-o-k.true)
+    rw (lt-ltb a.q a.span.n c.if-q-span.true, lt-ltb a.o a.k c.if-o-k.true)
 
 pub returns-then-o-lt-MAX_RULES : goal.returns-then-o-lt-MAX_RULES
 unfolding owner_with raised
 returns-then-o-lt-MAX_RULES c =
     let a = c.args in
-    rw (lt-ltb a.q a.n c.if-q-n.true, le-ltb a.o a.k c.if-o-k.false, lt-ltb a.o max_rules c.if-o-lt-MAX_RULES.true)
+    rw (lt-ltb a.q a.span.n c.if-q-span.true, le-ltb a.o a.k c.if-o-k.false, lt-ltb a.o max_rules c.if-o-lt-MAX_RULES.true)
 
-pub returns-then-q-n : goal.returns-then-q-n
+pub returns-then-q-span : goal.returns-then-q-span
 unfolding owner_with raised
-returns-then-q-n c =
+returns-then-q-span c =
     let a = c.args in
-    rw (lt-ltb a.q a.n c.if-q-n.true, le-ltb a.o a.k c.if-o-k.false, le-ltb a.o max_rules c.if-o-lt-MAX_RULES.false)
+    rw (lt-ltb a.q a.span.n c.if-q-span.true, le-ltb a.o a.k c.if-o-k.false, le-ltb a.o max_rules c.if-o-lt-MAX_RULES.false)
 
-pub returns-then-q-n-2 : goal.returns-then-q-n-2
+pub returns-then-q-span-2 : goal.returns-then-q-span-2
 unfolding owner_with
-returns-then-q-n-2 c =
+returns-then-q-span-2 c =
     let a = c.args in
-    rw (le-ltb a.q a.n c.if-q-n.false, lt-ltb a.q (a.n + a.more) c.if-q-n-2.true)
+    rw (le-ltb a.q a.span.n c.if-q-span.false, lt-ltb a.q (a.span.n + a.span.more) c.if-q-span-2.true)
 
 pub returns : goal.returns
 unfolding owner_with
 returns c =
     let a = c.args in
-    rw (le-ltb a.q a.n c.if-q-n.false, le-ltb a.q (a.n + a.more) c.if-q-n-2.false)
+    rw (le-ltb a.q a.span.n c.if-q-span.false, le-ltb a.q (a.span.n + a.span.more) c.if-q-span-2.false)

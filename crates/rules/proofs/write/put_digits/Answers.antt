@@ -1,4 +1,5 @@
--- `rules::write::put_digits` meets its contract: it is one `put_words` of the new digits.
+-- `rules::write::put_digits` meets its contract: the word of the digits is written anew.
+use Rattle.rules.proofs.Blocks.{one-put}
 use Rattle.rules.proofs.Steps.{digits-is}
 use Rattle.rules.proofs.write.put_digits.Goals as goal
 
@@ -6,5 +7,4 @@ pub returns : goal.returns
 returns c =
     let a = c.args in
     let new = c.digits_with in
-    let put = c.put_words in
-    digits-is a.at a.k a.new new.result a.words.now put.new.words new.ensures put.ensures
+    digits-is a.at a.k a.new new.result a.words.now _ new.ensures (one-put a.at new.result a.words.now c.requires)

@@ -10,27 +10,19 @@ use Rattle.rules.proofs.write.put_gap.Goals as goal
 
 pub returns-then-gap-ge-LAST_GAPS : goal.returns-then-gap-ge-LAST_GAPS
 returns-then-gap-ge-LAST_GAPS c =
-    let c-start = c.before.before.before.before.before.before.before in
-    let c-merge-row = c.merge_row in
-    let c-if1 = c.if-gap-ge-LAST_GAPS in
-    gap-start c-start.args.gap c-start.args.n c-start.args.parts c-start.args.words.now c-merge-row.new.words c-merge-row.ensures c-if1.true
+    let a = c.args in
+    gap-start a.gap a.n a.parts.now a.words.now c.merge_row.new.words c.merge_row.ensures c.if-gap-ge-LAST_GAPS.true
 
 pub returns-then-gap-ge-FOLLOW_GAPS : goal.returns-then-gap-ge-FOLLOW_GAPS
 returns-then-gap-ge-FOLLOW_GAPS c =
-    let c-start = c.before.before.before.before.before.before.before.before.before.before.before.before.before in
-    let c-merge-row = c.merge_row in
-    let c-merge-row2 = c.merge_row-2 in
-    let c-if2 = c.if-gap-ge-FOLLOW_GAPS in
-    gap-end c-start.args.gap c-start.args.n c-start.args.parts c-start.args.words.now c-merge-row.new.words c-merge-row.ensures
-    c-merge-row2.new.words c-merge-row2.ensures (omega arith) c-if2.true
+    let a = c.args in
+    gap-end a.gap a.n a.parts.now a.words.now c.merge_row.new.words c.merge_row.ensures
+    c.merge_row-2.new.words c.merge_row-2.ensures (omega arith) c.if-gap-ge-FOLLOW_GAPS.true
 
 pub returns : goal.returns
 returns c =
-    let c-start = c.before.before.before.before.before.before.before.before.before.before.before.before.before.before.before.before.before.before.before in
-    let c-merge-row = c.merge_row in
-    let c-merge-row2 = c.merge_row-2 in
-    let c-put-follow = c.put_follow in
-    let e : 5120 + c-start.args.gap * 1024 ≡ follow_at c-start.args.gap 0 = omega arith in
-    gap-inside c-start.args.gap c-start.args.n c-start.args.parts c-start.args.words.now c-merge-row.new.words c-merge-row.ensures
-    c-merge-row2.new.words c-merge-row2.ensures (omega arith) c-put-follow.new.words
-    (c-put-follow.ensures ∙ ap (λ (at : ℕ). follow_put at c-start.args.n c-start.args.parts.follow c-start.args.parts.positions c-merge-row2.new.words) e)
+    let a = c.args in
+    let e : 5120 + a.gap * 1024 ≡ follow_at a.gap 0 = omega arith in
+    gap-inside a.gap a.n a.parts.now a.words.now c.merge_row.new.words c.merge_row.ensures
+    c.merge_row-2.new.words c.merge_row-2.ensures (omega arith) c.put_follow.new.words
+    (c.put_follow.ensures ∙ ap (λ (at : ℕ). follow_put at a.n a.parts.now.follow a.parts.now.positions c.merge_row-2.new.words) e)

@@ -4,7 +4,5 @@ use Rattle.rules.proofs.write.put_keepers.Goals as goal
 
 pub returns : goal.returns
 returns c =
-    let put = c.before.before in
-    let new = put.before.before in
-    let a = new.args in
-    keepers-is a.n a.more a.keeping new.new_keepers-new.result a.words.now put.merge_row.new.words new.new_keepers-new.ensures put.merge_row.ensures
+    let a = c.args in
+    keepers-is a.span.n a.span.more a.keeping c.new_keepers.result a.words.now c.merge_row.new.words c.new_keepers.ensures c.merge_row.ensures

@@ -5,9 +5,5 @@ use Rattle.rules.proofs.write.put_lates.Goals as goal
 
 pub returns : goal.returns
 returns c =
-    let put = c.put_set in
-    let late = c.before.before.before.before in
-    let settled = late.before.before in
-    let some = settled.before.before in
-    lates-is some.args.words.now some.inner_rows-some.result settled.row-settled.result late.complement.result late.intersection-late.result put.new.words
-    some.inner_rows-some.ensures settled.row-settled.ensures late.complement.ensures late.intersection-late.ensures put.ensures
+    lates-is c.args.words.now c.inner_rows-some.result c.row-settled.result c.complement.result c.intersection-late.result c.put_set.new.words
+    c.inner_rows-some.ensures c.row-settled.ensures c.complement.ensures c.intersection-late.ensures c.put_set.ensures

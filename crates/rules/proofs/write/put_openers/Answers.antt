@@ -24,30 +24,28 @@ module _ (t s : List ℕ) (x : ℕ) (o : Opened t x s) where
   opener-kept h = opener-same s t x (λ q. row_same s t (takers_at x) (takers_at x) (λ i l. written-above o (takers_at x + i) (omega arith)) q) firsts
 
 pub loop-x-init : goal.loop-x-init
-loop-x-init c = (omega arith, written_none (omega arith))
+loop-x-init c = written_none (omega arith)
 
 pub opener-requires : goal.opener-requires
 opener-requires c =
     let l = c.loop-x in
     let t = c.args.words.now in
-    (c.inner_rows-first.ensures ∙ sym (openings-kept t l.words l.x l.invariant.1), omega arith)
+    (c.inner_rows-first.ensures ∙ sym (openings-kept t l.words l.x l.invariant), omega arith)
 
 pub bounds-words-x : goal.bounds-words-x
-bounds-words-x c = omega (arith, c.loop-x.invariant.1.long)
+bounds-words-x c = omega (arith, c.loop-x.invariant.long)
 
 pub loop-x-preserved : goal.loop-x-preserved
 loop-x-preserved c =
     let l = c.loop-x in
     let t = c.args.words.now in
-    let e : l.x ≡ opener_at l.x - opener_at 0 = omega arith in (
-      omega arith,
-      written-up l.invariant.1 (omega arith) (omega arith) (omega arith)
-          (c.opener.ensures ∙ opener-kept t l.words l.x l.invariant.1 (omega arith) ∙ ap (opener_of t) e),
-    )
+    let e : l.x ≡ opener_at l.x - opener_at 0 = omega arith in
+    written-up l.invariant (omega arith) (omega arith) (omega arith)
+    (c.opener.ensures ∙ opener-kept t l.words l.x l.invariant (omega arith) ∙ ap (opener_of t) e)
 
 pub returns : goal.returns
 unfolding openers_put
 returns c =
     let l = c.loop-x in
     let e : opener_at l.x ≡ opener_at bytes = omega arith in
-    written_all l.invariant.1 e
+    written_all l.invariant e

@@ -1,8 +1,8 @@
 -- `rules::write::put_openers` meets its contract: the loop writes a word for each byte, and leaves
 -- the sets that it reads.
 use mathlib.Core.List.{List}
-use Prim.Native.Nat.{ℕ, ◌-◌, ◌≤◌}
-use Rattle.table.specs.Layout.{bytes, opener_at}
+use Prim.Native.Nat.{ℕ, ◌-◌}
+use Rattle.table.specs.Layout.{opener_at}
 use Rattle.table.proofs.Over.{Written}
 use Rattle.rules.specs.Invariants.{opener_of}
 use Rattle.rules.proofs.write.put_openers.Given as goal
@@ -12,7 +12,4 @@ abbrev pub Opened : (t : List ℕ) → (x : ℕ) → List ℕ → Type 0
 Opened t x s = Written (opener_at 0) (opener_at x) (λ w. opener_of t (w - opener_at 0)) t s
 
 abbrev pub invariant-loop-x : goal.invariant-loop-x
-invariant-loop-x l = (l.x ≤ bytes) × Opened l.initial.words l.x l.words
-
-abbrev pub decreases-loop-x : goal.decreases-loop-x
-decreases-loop-x l = bytes - l.x
+invariant-loop-x l = Opened l.initial.words l.x l.words

@@ -10,27 +10,25 @@ use Rattle.rules.specs.Invariants.{owners_put}
 use Rattle.rules.proofs.write.put_owners.Goals as goal
 
 pub loop-q-init : goal.loop-q-init
-loop-q-init c = (omega arith, written_none (omega arith))
+loop-q-init c = written_none (omega arith)
 
 pub bounds-words-q : goal.bounds-words-q
-bounds-words-q c = omega (arith, c.loop-q.invariant.1.long)
+bounds-words-q c = omega (arith, c.loop-q.invariant.long)
 
 pub bounds-words-q-in-loop-q : goal.bounds-words-q-in-loop-q
-bounds-words-q-in-loop-q c = omega (arith, c.loop-q.invariant.1.long)
+bounds-words-q-in-loop-q c = omega (arith, c.loop-q.invariant.long)
 
 pub loop-q-preserved : goal.loop-q-preserved
 loop-q-preserved c =
     let a = c.args in
     let l = c.loop-q in
-    let e : l.q ≡ owner_at l.q - owner_at 0 = omega arith in (
-      omega arith,
-      written-up l.invariant.1 (omega arith) (omega arith) (omega arith)
-          (c.owner_with.ensures ∙ ap₂ (owner_with a.n a.more a.k) e (written-above l.invariant.1 (owner_at l.q) (omega arith))),
-    )
+    let e : l.q ≡ owner_at l.q - owner_at 0 = omega arith in
+    written-up l.invariant (omega arith) (omega arith) (omega arith)
+    (c.owner_with.ensures ∙ ap₂ (owner_with a.span.n a.span.more a.k) e (written-above l.invariant (owner_at l.q) (omega arith)))
 
 pub returns : goal.returns
 unfolding owners_put
 returns c =
     let l = c.loop-q in
     let e : owner_at l.q ≡ owner_at max_positions = omega arith in
-    written_all l.invariant.1 e
+    written_all l.invariant e

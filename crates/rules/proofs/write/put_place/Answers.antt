@@ -1,16 +1,18 @@
 -- `rules::write::put_place` meets its contract: each call wrote its part, for the place of the id.
+use mathlib.Core.Path.{ap, ◌∙◌}
+use mathlib.Core.Bool.{Bool}
+use Rattle.table.specs.Layout.{leftmosts_at}
+use Rattle.rules.specs.Invariants.{digits_put}
+use Rattle.rules.specs.Words.{is_single, is_leftmost}
 use Rattle.rules.proofs.Steps.{place_is}
 use Rattle.rules.proofs.write.put_place.Goals as goal
 
 pub returns : goal.returns
 returns c =
-    let keepers = c.before.before in
-    let owners = keepers.before.before.before.before in
-    let leftmosts = owners.before.before.before.before in
-    let singles = leftmosts.before.before.before.before in
-    let ids = singles.before.before.before.before in
-    let place = ids.before.before in
-    let a = place.args in
-    place_is a.rules a.n a.more a.id place.place_of-k.result a.single a.leftmost a.keeping a.words.now ids.put_number.new.words singles.put_digits.new.words
-    leftmosts.put_digits-2.new.words owners.put_owners.new.words keepers.put_keepers.new.words place.place_of-k.ensures.1 ids.put_number.ensures singles.put_digits.ensures
-    leftmosts.put_digits-2.ensures owners.put_owners.ensures keepers.put_keepers.ensures
+    let a = c.args in
+    let k = c.place_of-k in
+    place_is a.rules a.span.n a.span.more a.rule.id k.result (is_single a.rule.flags.bits) (is_leftmost a.rule.flags.bits) a.rule.keeping a.words.now
+    c.put_number.new.words c.put_digits.new.words c.put_digits-2.new.words c.put_owners.new.words c.put_keepers.new.words k.ensures.1 c.put_number.ensures
+    (c.put_digits.ensures ∙ ap (λ (b : Bool). digits_put 3 k.result b c.put_number.new.words) c.single.ensures)
+    (c.put_digits-2.ensures ∙ ap (λ (b : Bool). digits_put leftmosts_at k.result b c.put_digits.new.words) c.leftmost.ensures)
+    c.put_owners.ensures c.put_keepers.ensures

@@ -10,26 +10,22 @@ use Rattle.rules.proofs.Steps.{rows_none, rows-turn, rows_whole}
 use Rattle.rules.proofs.write.put_takers.Goals as goal
 
 pub loop-x-init : goal.loop-x-init
-loop-x-init c =
-    let c-start = c.before in
-    (omega arith, rows_none (takers_at 0) c-start.args.n (new_takers c-start.args.takes.now c-start.args.n c-start.args.more) c-start.args.words.now)
+loop-x-init c = rows_none (takers_at 0) c.args.span.n (new_takers c.args.takes.now c.args.span.n c.args.span.more) c.args.words.now
+
+pub merge_row-requires : goal.merge_row-requires
+merge_row-requires c = omega (arith, c.loop-x.invariant.long)
 
 pub loop-x-preserved : goal.loop-x-preserved
 loop-x-preserved c =
-    let c-start = c.before.before.before.before.before.before.before.before in
-    let c-loop = c.loop-x in
-    let c-merge-row = c.merge_row in
-    let c-takers-of = c.takers_of-new in
-    let n = c-start.args.n in
-    let x = c-loop.x in (
-      omega arith,
-      rows-turn (takers_at 0) x n (new_takers c-start.args.takes.now n c-start.args.more) c-start.args.words.now c-loop.words c-merge-row.new.words c-loop.invariant.1
-          (c-merge-row.ensures ∙ ap (λ (l : List ℕ). merged (takers_at x) n l c-loop.words) c-takers-of.ensures),
-    )
+    let a = c.args in
+    let l = c.loop-x in
+    let n = a.span.n in
+    rows-turn (takers_at 0) l.x n (new_takers a.takes.now n a.span.more) a.words.now l.words c.merge_row.new.words l.invariant
+    (c.merge_row.ensures ∙ ap (λ (s : List ℕ). merged (takers_at l.x) n s l.words) c.takers_of-new.ensures)
 
 pub returns : goal.returns
 unfolding takers_put
 returns c =
-    let c-loop = c.loop-x in
-    let c-start = c.before.before.before in
-    rows_whole (takers_at 0) 256 c-loop.x c-start.args.n (new_takers c-start.args.takes.now c-start.args.n c-start.args.more) c-start.args.words.now c-loop.words c-loop.invariant.1 (omega arith)
+    let a = c.args in
+    let l = c.loop-x in
+    rows_whole (takers_at 0) 256 l.x a.span.n (new_takers a.takes.now a.span.n a.span.more) a.words.now l.words l.invariant (omega arith)

@@ -13,29 +13,21 @@ use Rattle.rules.proofs.write.takers_of.Goals as goal
 use Rattle.rules.proofs.write.takers_of.Goals.{then-contains, else-contains}
 
 pub loop-i-init : goal.loop-i-init
-loop-i-init c =
-    let c-empty = c.empty-s in
-    let c-start = c.before in
-    (omega arith, c-empty.ensures ∙ takers-none c-start.args.takes.now c-start.args.n c-start.args.x)
+loop-i-init c = c.empty-s.ensures ∙ takers-none c.args.takes.now c.args.span.n c.args.x
 
 pub loop-i-preserved : goal.loop-i-preserved
 loop-i-preserved c =
-    let c-start = c.before.before.before.before.before.before.before in
-    let c-loop = c.loop-i in
-    let c-row = c.row-t in
-    let c-contains = c.contains in
-    let takes = c-start.args.takes.now in
-    let n = c-start.args.n in
-    let x = c-start.args.x in
-    let i = c-loop.i in
-    let test = sym (c-contains.ensures ∙ ap (λ (l : List ℕ). has l x) c-row.ensures ∙ has-set_of (row_has takes (i * 4)) x (omega arith)) in
+    let takes = c.args.takes.now in
+    let n = c.args.span.n in
+    let x = c.args.x in
+    let l = c.loop-i in
+    let test = sym (c.contains.ensures ∙ ap (λ (s : List ℕ). has s x) c.row.ensures ∙ has-set_of (row_has takes (l.i * 4)) x (omega arith)) in
     elim c.if-contains.branch [
-      | then-contains w ↦ (omega arith, w.s-is ∙ w.insert-r.ensures ∙ ap (λ (r : List ℕ). inserted r (n + i)) c-loop.invariant.1 ∙ takers-hit takes n x i (test ∙ w.if-contains.true))
-      | else-contains w ↦ (omega arith, w.s-is ∙ c-loop.invariant.1 ∙ takers-miss takes n x i (test ∙ w.if-contains.false))
+      | then-contains w ↦ w.s-is ∙ w.insert-r.ensures ∙ ap (λ (r : List ℕ). inserted r (n + l.i)) l.invariant ∙ takers-hit takes n x l.i (test ∙ w.if-contains.true)
+      | else-contains w ↦ w.s-is ∙ l.invariant ∙ takers-miss takes n x l.i (test ∙ w.if-contains.false)
     ]
 
 pub returns : goal.returns
 returns c =
-    let c-loop = c.loop-i in
-    let c-start = c.before.before.before in
-    let e : c-loop.i ≡ c-start.args.more = omega arith in c-loop.invariant.1 ∙ ap (λ (k : ℕ). new_takers c-start.args.takes.now c-start.args.n k c-start.args.x) e
+    let l = c.loop-i in
+    let e : l.i ≡ c.args.span.more = omega arith in l.invariant ∙ ap (λ (k : ℕ). new_takers c.args.takes.now c.args.span.n k c.args.x) e

@@ -15,11 +15,7 @@ key_at-k-requires c =
 pub returns : goal.returns
 unfolding rests
 returns c =
-    let c-key-at = c.key_at-k in
-    let c-is-empty = c.is_empty in
-    let c-side-word = c.side_word in
-    let c-side-word2 = c.side_word-2 in
-    let k = c-key-at.ensures in
-    let live = c-is-empty.ensures ∙ ap (λ (j : Key). is_empty j.live) k in
-    let last = c-side-word.ensures ∙ ap (λ (j : Key). side_word j.last) k in
-    λ i. not (eqb c.args.e 0) && (live i && eqb (last i) (c-side-word2.ensures i))
+    let k = c.key_at-k.ensures in
+    let live = c.is_empty.ensures ∙ ap (λ (j : Key). is_empty j.live) k in
+    let last = c.from.ensures ∙ ap (λ (j : Key). side_word j.last) k in
+    λ i. not (eqb c.args.e 0) && (live i && eqb (last i) (c.from-2.ensures i))

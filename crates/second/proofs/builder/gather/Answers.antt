@@ -18,55 +18,43 @@ put_entry-requires c =
 
 pub loop-n-init : goal.loop-n-init
 loop-n-init c =
-    (omega arith, sym (found-start (automaton c.args.words.now)), written_none (omega arith))
+    (sym (found-start (automaton c.args.words.now)), written_none (omega arith))
 
-pub visit-more-requires : goal.visit-more-requires
-visit-more-requires c =
-    let c-put-entry = c.put_entry in
-    let c-start-entry = c.start_entry in
-    let c-loop = c.loop-n in
+pub visit-count-requires : goal.visit-count-requires
+visit-count-requires c =
     let a = c.args in
     let w = automaton a.words.now in
     let t = a.second.now in
-    let t₀ = c-put-entry.new.second in
-    let first = gather-start w t t₀ c.requires.1 c-start-entry.result c-start-entry.ensures c-put-entry.ensures in
-    (c.requires.0, omega (arith, c.requires.1, c-loop.invariant.2.long, first.long), omega (arith, c-loop.invariant.1, (found-few w c-loop.n).1))
+    let t₀ = c.put_entry.new.second in
+    let first = gather-start w t t₀ c.requires.1 c.start_entry.result c.start_entry.ensures c.put_entry.ensures in
+    (c.requires.0, omega (arith, c.requires.1, c.loop-n.invariant.1.long, first.long), omega (arith, c.loop-n.invariant.0, (found-few w c.loop-n.n).1))
 
 pub loop-n-preserved : goal.loop-n-preserved
 loop-n-preserved c =
-    let c-put-entry = c.put_entry in
-    let c-start-entry = c.start_entry in
-    let c-loop = c.loop-n in
-    let c-loop-test = c.loop-n-test in
-    let c-visit = c.visit-more in
     let a = c.args in
     let w = automaton a.words.now in
     let t = a.second.now in
-    let t₀ = c-put-entry.new.second in
-    let first = gather-start w t t₀ c.requires.1 c-start-entry.result c-start-entry.ensures c-put-entry.ensures in
-    let l = c-loop in
-    let one : 1 ≤ l.count = omega (arith, l.invariant.1, (found-few w l.n).0) in
-    let read = words-in w t t₀ l.second l.count c.requires.1 one (omega (arith, l.invariant.1, (found-few w l.n).1)) first l.invariant.2 in (
-      omega arith,
-      gather-count w l.second l.n c-loop-test.true l.count l.invariant.1 read c-visit.result c-visit.ensures.count,
-      gather-more w l.second l.n c-loop-test.true l.count l.invariant.1 read 32 t₀ (omega arith) l.invariant.2 c-visit.result c-visit.new.second c-visit.ensures.count c-visit.ensures.words,
+    let t₀ = c.put_entry.new.second in
+    let first = gather-start w t t₀ c.requires.1 c.start_entry.result c.start_entry.ensures c.put_entry.ensures in
+    let l = c.loop-n in
+    let one : 1 ≤ l.count = omega (arith, l.invariant.0, (found-few w l.n).0) in
+    let read = words-in w t t₀ l.second l.count c.requires.1 one (omega (arith, l.invariant.0, (found-few w l.n).1)) first l.invariant.1 in (
+      gather-count w l.second l.n (omega arith) l.count l.invariant.0 read c.visit-count.result c.visit-count.ensures.count,
+      gather-more w l.second l.n (omega arith) l.count l.invariant.0 read 32 t₀ (omega arith) l.invariant.1 c.visit-count.result c.visit-count.new.second c.visit-count.ensures.count c.visit-count.ensures.words,
     )
 
 pub returns : goal.returns
 returns c =
-    let c-put-entry = c.put_entry in
-    let c-start-entry = c.start_entry in
-    let c-loop = c.loop-n in
     let a = c.args in
     let w = automaton a.words.now in
     let t = a.second.now in
-    let t₀ = c-put-entry.new.second in
-    let first = gather-start w t t₀ c.requires.1 c-start-entry.result c-start-entry.ensures c-put-entry.ensures in
-    let l = c-loop in
-    let one : 1 ≤ l.count = omega (arith, l.invariant.1, (found-few w l.n).0) in
-    let so_far = parts w 16 32 (16 + l.count * 16) (second_word w (entries w)) t t₀ l.second (omega arith) (omega arith) first l.invariant.2 in
+    let t₀ = c.put_entry.new.second in
+    let first = gather-start w t t₀ c.requires.1 c.start_entry.result c.start_entry.ensures c.put_entry.ensures in
+    let l = c.loop-n in
+    let one : 1 ≤ l.count = omega (arith, l.invariant.0, (found-few w l.n).0) in
+    let so_far = parts w 16 32 (16 + l.count * 16) (second_word w (entries w)) t t₀ l.second (omega arith) (omega arith) first l.invariant.1 in
     let all : l.n ≡ max_entries * 256 = omega arith in
-    let count : l.count ≡ length (entries w) = l.invariant.1 ∙ ap (λ (m : ℕ). length (found w m)) all in
+    let count : l.count ≡ length (entries w) = l.invariant.0 ∙ ap (λ (m : ℕ). length (found w m)) all in
     record {
       count = count;
       words = written_all so_far (ap (λ (m : ℕ). 16 + m * 16) count);

@@ -14,6 +14,4 @@ key_at-requires c =
 pub returns : goal.returns
 unfolding has_key
 returns c =
-    let c-same-key = c.same_key in
-    let c-key-at = c.key_at in
-    ap (λ (b : Bool). not (eqb c.args.e 0) && b) (c-same-key.ensures ∙ ap (λ (j : Key). same_key j c.args.k) c-key-at.ensures)
+    ap (λ (b : Bool). not (eqb c.args.e 0) && b) (c.same_key.ensures ∙ ap (λ (j : Key). same_key j c.args.k) c.key_at.ensures)

@@ -8,9 +8,7 @@ use Rattle.second.proofs.builder.held_after.Goals as goal
 
 pub returns-then-byte-ne-NEWLINE : goal.returns-then-byte-ne-NEWLINE
 returns-then-byte-ne-NEWLINE c =
-    let c-if1 = c.if-byte-ne-NEWLINE in
-    let c-empty = c.empty in
-    none-held (automaton c.args.words.now) (state_at c.args.e c.args.k) c.args.byte c-if1.true c-empty.result c-empty.ensures
+    none-held (automaton c.args.words.now) (state_at c.args.e c.args.k) c.args.byte c.if-byte-ne-NEWLINE.true c.empty.result c.empty.ensures
 
 pub bounds-words-2 : goal.bounds-words-2
 bounds-words-2 c =
@@ -18,7 +16,4 @@ bounds-words-2 c =
 
 pub returns : goal.returns
 returns c =
-    let c-if1 = c.if-byte-ne-NEWLINE in
-    let c-side-of = c.side_of in
-    let c-line-step = c.line_step in
-    line-held c.args.words.now (passes c.args.words.now c.requires).long (state_at c.args.e c.args.k) c.args.byte c-if1.false c-side-of.result c-side-of.ensures c-line-step.result c-line-step.ensures
+    line-held c.args.words.now (passes c.args.words.now c.requires).long (state_at c.args.e c.args.k) c.args.byte c.if-byte-ne-NEWLINE.false c.side_of.result c.side_of.ensures c.line_step.result c.line_step.ensures

@@ -8,18 +8,12 @@ use Rattle.second.proofs.builder.pending_after.Goals as goal
 
 pub returns-then-byte-ne-NEWLINE : goal.returns-then-byte-ne-NEWLINE
 returns-then-byte-ne-NEWLINE c =
-    let c-if1 = c.if-byte-ne-NEWLINE in
-    none-pending (automaton c.args.words.now) (state_at c.args.e c.args.k) c.args.byte c-if1.true
+    none-pending (automaton c.args.words.now) (state_at c.args.e c.args.k) c.args.byte c.if-byte-ne-NEWLINE.true
 
 pub returns-then-e-eq0 : goal.returns-then-e-eq0
 returns-then-e-eq0 c =
-    let c-if1 = c.if-byte-ne-NEWLINE in
-    let c-if2 = c.if-e-eq0 in
-    start-pending c.args.words.now (passes c.args.words.now c.requires).long (state_at c.args.e c.args.k) c.args.byte c-if1.false c-if2.true
+    start-pending c.args.words.now (passes c.args.words.now c.requires).long (state_at c.args.e c.args.k) c.args.byte c.if-byte-ne-NEWLINE.false c.if-e-eq0.true
 
 pub returns : goal.returns
 returns c =
-    let c-if1 = c.if-byte-ne-NEWLINE in
-    let c-if2 = c.if-e-eq0 in
-    let c-line-ending = c.line_ending in
-    line-pending c.args.words.now (passes c.args.words.now c.requires).long (state_at c.args.e c.args.k) c.args.byte c-if1.false c-if2.false c-line-ending.result c-line-ending.ensures
+    line-pending c.args.words.now (passes c.args.words.now c.requires).long (state_at c.args.e c.args.k) c.args.byte c.if-byte-ne-NEWLINE.false c.if-e-eq0.false c.line_ending.result c.line_ending.ensures

@@ -10,14 +10,7 @@ use Rattle.second.proofs.builder.put_entry.Goals as goal
 
 pub returns : goal.returns
 returns c =
-    let c-put-record = c.put_record in
-    let c-side-word = c.side_word-side in
-    let c-ending = c.ending-own in
-    let c-late-ending = c.late_ending-other in
-    let c-late-ending2 = c.late_ending-word in
-    let c-late-ending3 = c.late_ending-newline in
-    let c-size = c.size-busy in
     let a = c.args in
     let t = a.words.now in
-    c-put-record.ensures ∙ ap (λ (l : List ℕ). copied (record_at a.e) 16 l a.second.now)
-    (record_is t (passes t c.requires.0).long a.k c-side-word.result c-ending.result c-late-ending.result c-late-ending2.result c-late-ending3.result c-size.result c-side-word.ensures c-ending.ensures c-late-ending.ensures c-late-ending2.ensures c-late-ending3.ensures c-size.ensures)
+    c.put_record.ensures ∙ ap (λ (l : List ℕ). copied (record_at a.e) 16 l a.second.now)
+    (record_is t (passes t c.requires.0).long a.k c.from-side.result c.ending-own.result c.late_ending-other.result c.late_ending-word.result c.late_ending-newline.result c.size-busy.result c.from-side.ensures c.ending-own.ensures c.late_ending-other.ensures c.late_ending-word.ensures c.late_ending-newline.ensures c.size-busy.ensures)

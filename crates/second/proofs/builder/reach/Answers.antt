@@ -13,8 +13,8 @@ pub bounds-words-2 : goal.bounds-words-2
 bounds-words-2 c =
     omega (arith, (passes c.args.words.now c.requires).long)
 
-pub held_after-held-requires : goal.held_after-held-requires
-held_after-held-requires c =
+pub held_after-requires : goal.held_after-requires
+held_after-requires c =
     c.requires
 
 pub pending_after-requires : goal.pending_after-requires
@@ -23,12 +23,6 @@ pending_after-requires c =
 
 pub returns : goal.returns
 returns c =
-    let c-side-of = c.side_of-last in
-    let c-below = c.below-among in
-    let c-step = c.step-after in
-    let c-full = c.full in
-    let c-held-after = c.held_after-held in
-    let c-pending-after = c.pending_after in
     let a = c.args in
     let t = a.words.now in
-    reach-is t (passes t c.requires).long a.k a.e a.byte c-side-of.result c-side-of.ensures c-below.result c-step.result.live (c-below.ensures ∙ ap (λ (s : List ℕ). kept_below s (positions_of t)) c-full.ensures) c-step.ensures.live c-held-after.result c-held-after.ensures c-pending-after.result c-pending-after.ensures
+    reach-is t (passes t c.requires).long a.k a.e a.byte c.side_of-last.result c.side_of-last.ensures c.below-among.result c.step-after.result.live (c.below-among.ensures ∙ ap (λ (s : List ℕ). kept_below s (positions_of t)) c.full.ensures) c.step-after.ensures.live c.held_after.result c.held_after.ensures c.pending_after.result c.pending_after.ensures

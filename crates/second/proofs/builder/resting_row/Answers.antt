@@ -11,28 +11,20 @@ use Rattle.second.proofs.builder.resting_row.Goals as goal
 
 pub loop-e-init : goal.loop-e-init
 loop-e-init c =
-    (omega arith, first-none (rests c.args.second.now c.args.side))
+    first-none (rests c.args.second.now c.args.side)
 
 pub at_rest-requires : goal.at_rest-requires
 at_rest-requires c = (omega arith, omega arith)
 
 pub returns-then-at_rest : goal.returns-then-at_rest
 returns-then-at_rest c =
-    let c-loop = c.loop-e in
-    let c-loop-test = c.loop-e-test in
-    let c-at-rest = c.at_rest in
-    let c-if1 = c.if-at_rest in
-    resting-some c.args.second.now c.args.count c.args.side c-loop.e c-loop-test.true (first_found (rests c.args.second.now c.args.side) c-loop.e c.args.count c-loop-test.true c-loop.invariant.1 (sym c-at-rest.ensures ∙ c-if1.true))
+    resting-some c.args.second.now c.args.count c.args.side c.loop-e.e (omega arith) (first_found (rests c.args.second.now c.args.side) c.loop-e.e c.args.count (omega arith) c.loop-e.invariant (sym c.at_rest.ensures ∙ c.if-at_rest.true))
 
 pub loop-e-preserved : goal.loop-e-preserved
 loop-e-preserved c =
-    let c-loop = c.loop-e in
-    let c-at-rest = c.at_rest in
-    let c-if1 = c.if-at_rest in
-    (omega arith, first-none-more (rests c.args.second.now c.args.side) c-loop.e c-loop.invariant.1 (sym c-at-rest.ensures ∙ c-if1.false))
+    first-none-more (rests c.args.second.now c.args.side) c.loop-e.e c.loop-e.invariant (sym c.at_rest.ensures ∙ c.if-at_rest.false)
 
 pub returns : goal.returns
 returns c =
-    let c-loop = c.loop-e in
-    let done : c-loop.e ≡ c.args.count = omega arith in
-    resting-none c.args.second.now c.args.count c.args.side (ap (λ (n : ℕ). first_of n (rests c.args.second.now c.args.side)) (sym done) ∙ c-loop.invariant.1 ∙ done)
+    let done : c.loop-e.e ≡ c.args.count = omega arith in
+    resting-none c.args.second.now c.args.count c.args.side (ap (λ (n : ℕ). first_of n (rests c.args.second.now c.args.side)) (sym done) ∙ c.loop-e.invariant ∙ done)

@@ -4,6 +4,4 @@ use Rattle.second.proofs.builder.start_entry.Goals as goal
 
 pub returns : goal.returns
 returns c =
-    let c-empty = c.empty-live in
-    let c-empty2 = c.empty-held in
-    λ i. record { live = c-empty.ensures i; held = c-empty2.ensures i; pending = 0; last = Other }
+    λ i. record { live = c.empty.ensures i; held = c.empty-2.ensures i; pending = 0; last = Other }

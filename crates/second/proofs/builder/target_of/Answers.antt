@@ -21,14 +21,11 @@ needs_old-requires c =
 
 pub returns-then-needs_old : goal.returns-then-needs_old
 returns-then-needs_old c =
-    let c-needs-old = c.needs_old in
-    let c-key-at = c.key_at-k in
-    let c-if1 = c.if-needs_old in
     let a = c.args in
     let w = automaton a.words.now in
     let b = a.second.now in
-    let asks = c-needs-old.ensures ∙ ap (λ (k : Key). needs_old w (a.n / 256) k (a.n % 256)) c-key-at.ensures in
-    target-old w b a.count a.n (sym asks ∙ c-if1.true)
+    let asks = c.needs_old.ensures ∙ ap (λ (k : Key). needs_old w (a.n / 256) k (a.n % 256)) c.key_at-k.ensures in
+    target-old w b a.count a.n (sym asks ∙ c.if-needs_old.true)
 
 pub reach-requires : goal.reach-requires
 reach-requires c =
@@ -44,75 +41,46 @@ place-next-requires c =
 
 pub returns-then-count-next : goal.returns-then-count-next
 returns-then-count-next c =
-    let c-needs-old = c.needs_old in
-    let c-key-at = c.key_at-k in
-    let c-place = c.place-next in
-    let c-reach = c.reach in
-    let c-without-starts = c.without_starts in
-    let c-if1 = c.if-needs_old in
-    let c-if2 = c.if-count-next in
     let a = c.args in
     let w = automaton a.words.now in
     let b = a.second.now in
-    let asks = c-needs-old.ensures ∙ ap (λ (k : Key). needs_old w (a.n / 256) k (a.n % 256)) c-key-at.ensures in
-    let where-is : c-place.result ≡ place_in w b a.count a.n = c-place.ensures ∙ ap (λ (k : Key). first_of a.count (has_key b k))
-    (leads-to w (a.n / 256) (a.n % 256) (key_in b (a.n / 256)) c-key-at.result c-key-at.ensures c-reach.result c-reach.ensures c-without-starts.result c-without-starts.ensures) in
-    target_none w b a.count a.n (sym asks ∙ c-if1.false) c-place.result where-is c-if2.true
+    let asks = c.needs_old.ensures ∙ ap (λ (k : Key). needs_old w (a.n / 256) k (a.n % 256)) c.key_at-k.ensures in
+    let where-is : c.place-next.result ≡ place_in w b a.count a.n = c.place-next.ensures ∙ ap (λ (k : Key). first_of a.count (has_key b k))
+    (leads-to w (a.n / 256) (a.n % 256) (key_in b (a.n / 256)) c.key_at-k.result c.key_at-k.ensures c.reach.result c.reach.ensures c.without_starts.result c.without_starts.ensures) in
+    target_none w b a.count a.n (sym asks ∙ c.if-needs_old.false) c.place-next.result where-is c.if-count-next.true
 
 pub overflow_mul-row : goal.overflow_mul-row
 overflow_mul-row c =
-    let c-if2 = c.if-count-next in
-    omega (arith, c.requires.2, c-if2.false)
+    omega (arith, c.requires.2, c.if-count-next.false)
 
 pub overflow_add-row : goal.overflow_add-row
 overflow_add-row c =
-    let c-if2 = c.if-count-next in
-    omega (arith, c.requires.2, c-if2.false)
+    omega (arith, c.requires.2, c.if-count-next.false)
 
 pub is_quiet-requires : goal.is_quiet-requires
 is_quiet-requires c =
-    let c-if2 = c.if-count-next in
-    (c.requires.1, omega (arith, c.requires.2, c.requires.3), omega (arith, c.requires.2, c-if2.false))
+    (c.requires.1, omega (arith, c.requires.2, c.requires.3), omega (arith, c.requires.2, c.if-count-next.false))
 
 pub overflow_add-result : goal.overflow_add-result
 overflow_add-result c =
-    let c-if2 = c.if-count-next in
-    omega (arith, c.requires.2, c-if2.false)
+    omega (arith, c.requires.2, c.if-count-next.false)
 
 pub returns-then-is_quiet : goal.returns-then-is_quiet
 returns-then-is_quiet c =
-    let c-needs-old = c.needs_old in
-    let c-key-at = c.key_at-k in
-    let c-place = c.place-next in
-    let c-reach = c.reach in
-    let c-without-starts = c.without_starts in
-    let c-if1 = c.if-needs_old in
-    let c-if2 = c.if-count-next in
-    let c-is-quiet = c.is_quiet in
-    let c-if3 = c.if-is_quiet in
     let a = c.args in
     let w = automaton a.words.now in
     let b = a.second.now in
-    let asks = c-needs-old.ensures ∙ ap (λ (k : Key). needs_old w (a.n / 256) k (a.n % 256)) c-key-at.ensures in
-    let where-is : c-place.result ≡ place_in w b a.count a.n = c-place.ensures ∙ ap (λ (k : Key). first_of a.count (has_key b k))
-    (leads-to w (a.n / 256) (a.n % 256) (key_in b (a.n / 256)) c-key-at.result c-key-at.ensures c-reach.result c-reach.ensures c-without-starts.result c-without-starts.ensures) in
-    sym (add-zero (row_at c-place.result)) ∙ target-some w b a.count a.n (sym asks ∙ c-if1.false) c-place.result where-is (omega (arith, c-if2.false)) _ (sym c-is-quiet.ensures ∙ c-if3.true)
+    let asks = c.needs_old.ensures ∙ ap (λ (k : Key). needs_old w (a.n / 256) k (a.n % 256)) c.key_at-k.ensures in
+    let where-is : c.place-next.result ≡ place_in w b a.count a.n = c.place-next.ensures ∙ ap (λ (k : Key). first_of a.count (has_key b k))
+    (leads-to w (a.n / 256) (a.n % 256) (key_in b (a.n / 256)) c.key_at-k.result c.key_at-k.ensures c.reach.result c.reach.ensures c.without_starts.result c.without_starts.ensures) in
+    sym (add-zero (row_at c.place-next.result)) ∙ target-some w b a.count a.n (sym asks ∙ c.if-needs_old.false) c.place-next.result where-is (omega (arith, c.if-count-next.false)) _ (sym c.is_quiet.ensures ∙ c.if-is_quiet.true)
 
 pub returns-else-is_quiet : goal.returns-else-is_quiet
 returns-else-is_quiet c =
-    let c-needs-old = c.needs_old in
-    let c-key-at = c.key_at-k in
-    let c-place = c.place-next in
-    let c-reach = c.reach in
-    let c-without-starts = c.without_starts in
-    let c-if1 = c.if-needs_old in
-    let c-if2 = c.if-count-next in
-    let c-is-quiet = c.is_quiet in
-    let c-if3 = c.if-is_quiet in
     let a = c.args in
     let w = automaton a.words.now in
     let b = a.second.now in
-    let asks = c-needs-old.ensures ∙ ap (λ (k : Key). needs_old w (a.n / 256) k (a.n % 256)) c-key-at.ensures in
-    let where-is : c-place.result ≡ place_in w b a.count a.n = c-place.ensures ∙ ap (λ (k : Key). first_of a.count (has_key b k))
-    (leads-to w (a.n / 256) (a.n % 256) (key_in b (a.n / 256)) c-key-at.result c-key-at.ensures c-reach.result c-reach.ensures c-without-starts.result c-without-starts.ensures) in
-    target-some w b a.count a.n (sym asks ∙ c-if1.false) c-place.result where-is (omega (arith, c-if2.false)) _ (sym c-is-quiet.ensures ∙ c-if3.false)
+    let asks = c.needs_old.ensures ∙ ap (λ (k : Key). needs_old w (a.n / 256) k (a.n % 256)) c.key_at-k.ensures in
+    let where-is : c.place-next.result ≡ place_in w b a.count a.n = c.place-next.ensures ∙ ap (λ (k : Key). first_of a.count (has_key b k))
+    (leads-to w (a.n / 256) (a.n % 256) (key_in b (a.n / 256)) c.key_at-k.result c.key_at-k.ensures c.reach.result c.reach.ensures c.without_starts.result c.without_starts.ensures) in
+    target-some w b a.count a.n (sym asks ∙ c.if-needs_old.false) c.place-next.result where-is (omega (arith, c.if-count-next.false)) _ (sym c.is_quiet.ensures ∙ c.if-is_quiet.false)

@@ -15,13 +15,12 @@ use Rattle.second.proofs.builder.visit.Goals as goal
 
 pub returns-then-count-e : goal.returns-then-count-e
 returns-then-count-e c =
-    let c-if1 = c.if-count-e in
     let a = c.args in
     let w = automaton a.words.now in
     let b = a.second.now in
     let g = grows w b a.count a.n in
     let more = copied (record_at a.count) 16 (record_of w (key_after w b a.count a.n)) b in
-    let none : g ≡ false = asked-out w b a.count a.n (omega (arith, c-if1.true)) in
+    let none : g ≡ false = asked-out w b a.count a.n (omega (arith, c.if-count-e.true)) in
     record {
       count = number-if-not g (a.count + 1) a.count none;
       words = words-if-not g more b none;
@@ -29,8 +28,7 @@ returns-then-count-e c =
 
 pub key_at-requires : goal.key_at-requires
 key_at-requires c =
-    let c-if1 = c.if-count-e in
-    (c.requires.1, omega (arith, c-if1.false, c.requires.2))
+    (c.requires.1, omega (arith, c.if-count-e.false, c.requires.2))
 
 pub reach-requires : goal.reach-requires
 reach-requires c =
@@ -46,21 +44,15 @@ place-requires c =
 
 pub returns-then-place-count : goal.returns-then-place-count
 returns-then-place-count c =
-    let c-without-starts = c.without_starts-k in
-    let c-key-at = c.key_at in
-    let c-reach = c.reach in
-    let c-place = c.place in
-    let c-if1 = c.if-count-e in
-    let c-if2 = c.if-place-count in
     let a = c.args in
     let w = automaton a.words.now in
     let b = a.second.now in
     let g = grows w b a.count a.n in
     let more = copied (record_at a.count) 16 (record_of w (key_after w b a.count a.n)) b in
-    let key : c-without-starts.result ≡ key_after w b a.count a.n = leads-to w (a.n / 256) (a.n % 256) (key_in b (a.n / 256)) c-key-at.result c-key-at.ensures c-reach.result c-reach.ensures c-without-starts.result c-without-starts.ensures in
-    let where-is : c-place.result ≡ place_in w b a.count a.n = c-place.ensures ∙ ap (λ (k : Key). first_of a.count (has_key b k)) key in
-    let inside : a.n / 256 < a.count = omega (arith, c-if1.false) in
-    let none : g ≡ false = asked-known w b a.count a.n inside (omega (arith, where-is, c-if2.true)) in
+    let key : c.without_starts-k.result ≡ key_after w b a.count a.n = leads-to w (a.n / 256) (a.n % 256) (key_in b (a.n / 256)) c.key_at.result c.key_at.ensures c.reach.result c.reach.ensures c.without_starts-k.result c.without_starts-k.ensures in
+    let where-is : c.place.result ≡ place_in w b a.count a.n = c.place.ensures ∙ ap (λ (k : Key). first_of a.count (has_key b k)) key in
+    let inside : a.n / 256 < a.count = omega (arith, c.if-count-e.false) in
+    let none : g ≡ false = asked-known w b a.count a.n inside (omega (arith, where-is, c.if-place-count.true)) in
     record {
       count = number-if-not g (a.count + 1) a.count none;
       words = words-if-not g more b none;
@@ -68,21 +60,15 @@ returns-then-place-count c =
 
 pub returns-then-count-ge-MAX_ENTRIES : goal.returns-then-count-ge-MAX_ENTRIES
 returns-then-count-ge-MAX_ENTRIES c =
-    let c-without-starts = c.without_starts-k in
-    let c-key-at = c.key_at in
-    let c-reach = c.reach in
-    let c-place = c.place in
-    let c-if1 = c.if-count-e in
-    let c-if3 = c.if-count-ge-MAX_ENTRIES in
     let a = c.args in
     let w = automaton a.words.now in
     let b = a.second.now in
     let g = grows w b a.count a.n in
     let more = copied (record_at a.count) 16 (record_of w (key_after w b a.count a.n)) b in
-    let key : c-without-starts.result ≡ key_after w b a.count a.n = leads-to w (a.n / 256) (a.n % 256) (key_in b (a.n / 256)) c-key-at.result c-key-at.ensures c-reach.result c-reach.ensures c-without-starts.result c-without-starts.ensures in
-    let where-is : c-place.result ≡ place_in w b a.count a.n = c-place.ensures ∙ ap (λ (k : Key). first_of a.count (has_key b k)) key in
-    let inside : a.n / 256 < a.count = omega (arith, c-if1.false) in
-    let none : g ≡ false = asked-full w b a.count a.n inside (omega (arith, c-if3.true)) in
+    let key : c.without_starts-k.result ≡ key_after w b a.count a.n = leads-to w (a.n / 256) (a.n % 256) (key_in b (a.n / 256)) c.key_at.result c.key_at.ensures c.reach.result c.reach.ensures c.without_starts-k.result c.without_starts-k.ensures in
+    let where-is : c.place.result ≡ place_in w b a.count a.n = c.place.ensures ∙ ap (λ (k : Key). first_of a.count (has_key b k)) key in
+    let inside : a.n / 256 < a.count = omega (arith, c.if-count-e.false) in
+    let none : g ≡ false = asked-full w b a.count a.n inside (omega (arith, c.if-count-ge-MAX_ENTRIES.true)) in
     record {
       count = number-if-not g (a.count + 1) a.count none;
       words = words-if-not g more b none;
@@ -90,29 +76,20 @@ returns-then-count-ge-MAX_ENTRIES c =
 
 pub put_entry-requires : goal.put_entry-requires
 put_entry-requires c =
-    let c-if3 = c.if-count-ge-MAX_ENTRIES in
-    (c.requires.0, c.requires.1, omega (arith, c-if3.false))
+    (c.requires.0, c.requires.1, omega (arith, c.if-count-ge-MAX_ENTRIES.false))
 
 pub returns : goal.returns
 returns c =
-    let c-without-starts = c.without_starts-k in
-    let c-key-at = c.key_at in
-    let c-reach = c.reach in
-    let c-place = c.place in
-    let c-if1 = c.if-count-e in
-    let c-if2 = c.if-place-count in
-    let c-if3 = c.if-count-ge-MAX_ENTRIES in
-    let c-put-entry = c.put_entry in
     let a = c.args in
     let w = automaton a.words.now in
     let b = a.second.now in
     let g = grows w b a.count a.n in
     let more = copied (record_at a.count) 16 (record_of w (key_after w b a.count a.n)) b in
-    let key : c-without-starts.result ≡ key_after w b a.count a.n = leads-to w (a.n / 256) (a.n % 256) (key_in b (a.n / 256)) c-key-at.result c-key-at.ensures c-reach.result c-reach.ensures c-without-starts.result c-without-starts.ensures in
-    let where-is : c-place.result ≡ place_in w b a.count a.n = c-place.ensures ∙ ap (λ (k : Key). first_of a.count (has_key b k)) key in
-    let inside : a.n / 256 < a.count = omega (arith, c-if1.false) in
-    let new : g ≡ true = asked-new w b a.count a.n inside (omega (arith, where-is, c-if2.false)) (omega (arith, c-if3.false)) in
+    let key : c.without_starts-k.result ≡ key_after w b a.count a.n = leads-to w (a.n / 256) (a.n % 256) (key_in b (a.n / 256)) c.key_at.result c.key_at.ensures c.reach.result c.reach.ensures c.without_starts-k.result c.without_starts-k.ensures in
+    let where-is : c.place.result ≡ place_in w b a.count a.n = c.place.ensures ∙ ap (λ (k : Key). first_of a.count (has_key b k)) key in
+    let inside : a.n / 256 < a.count = omega (arith, c.if-count-e.false) in
+    let new : g ≡ true = asked-new w b a.count a.n inside (omega (arith, where-is, c.if-place-count.false)) (omega (arith, c.if-count-ge-MAX_ENTRIES.false)) in
     record {
       count = number-if g (a.count + 1) a.count new;
-      words = c-put-entry.ensures ∙ ap (λ (k : Key). copied (record_at a.count) 16 (record_of w k) b) key ∙ words-if g more b new;
+      words = c.put_entry.ensures ∙ ap (λ (k : Key). copied (record_at a.count) 16 (record_of w k) b) key ∙ words-if g more b new;
     }

@@ -6,8 +6,4 @@ use Rattle.second.proofs.builder.without_starts.Goals as goal
 
 pub returns : goal.returns
 returns c =
-    let c-keepers = c.keepers in
-    let c-complement = c.complement-others in
-    let c-intersection = c.intersection-lives in
-    let c-intersection2 = c.intersection-holds in
-    startless-is c.args.words.now (passes c.args.words.now c.requires).long c-keepers.result c-keepers.ensures c.args.k c-complement.result c-intersection.result c-intersection2.result c-complement.ensures c-intersection.ensures c-intersection2.ensures
+    startless-is c.args.words.now (passes c.args.words.now c.requires).long c.keepers.result c.keepers.ensures c.args.k c.complement-others.result c.intersection.result c.intersection-2.result c.complement-others.ensures c.intersection.ensures c.intersection-2.ensures

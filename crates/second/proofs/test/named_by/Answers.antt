@@ -15,15 +15,11 @@ use Rattle.second.proofs.test.named_by.Goals as goal
 pub returns : goal.returns
 unfolding named_by side_word
 returns c =
-    let c-union = c.union-set in
-    let c-words-at = c.words_at-live in
-    let c-words-at2 = c.words_at-held in
-    let c-size = c.size in
     let c₀ = c.args.second.now in
     let e = c.args.e in
     let other = ap (λ (j : ℕ). get_or c₀ j 0) (sym (add-zero (record_at e + 11))) in
     λ i. record {
-      set = (c-union.ensures ∙ ap₂ union_of c-words-at.ensures c-words-at2.ensures) i;
+      set = (c.union-set.ensures ∙ ap₂ union_of c.words_at-live.ensures c.words_at-held.ensures) i;
       rules = bit_or (bit_or (entry_pending c₀ e) (entry_own c₀ e)) (bit_or (bit_or (other i) (entry_late c₀ e Word)) (entry_late c₀ e Newline));
-      counted = eqb (entry_busy c₀ e) ((c-size.ensures ∙ ap size_of c-words-at.ensures) i);
+      counted = eqb (entry_busy c₀ e) ((c.size.ensures ∙ ap size_of c.words_at-live.ensures) i);
     }

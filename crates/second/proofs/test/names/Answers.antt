@@ -10,27 +10,20 @@ use Rattle.second.proofs.test.names.Goals as goal
 
 pub loop-e-init : goal.loop-e-init
 loop-e-init c =
-    let c-empty = c.empty-none in
-    (omega arith, (λ i. record { set = c-empty.ensures i; rules = 0; counted = true }) ∙ named_none c.args.second.now)
+    (λ i. record { set = c.empty.ensures i; rules = 0; counted = true }) ∙ named_none c.args.second.now
 
 pub named_by-more-requires : goal.named_by-more-requires
 named_by-more-requires c = (omega arith, omega arith)
 
 pub loop-e-preserved : goal.loop-e-preserved
 loop-e-preserved c =
-    let c-loop = c.loop-e in
-    let c-union = c.union-set in
-    let c-named-by = c.named_by-more in
-    let l = c-loop in
+    let l = c.loop-e in
     let c₀ = c.args.second.now in
-    let set = c-union.ensures in (
-      omega arith,
-      (λ i. record { set = set i; rules = bit_or l.all.rules c-named-by.result.rules; counted = l.all.counted && c-named-by.result.counted })
-          ∙ ap₂ joined l.invariant.1 c-named-by.ensures ∙ named_more c₀ l.e,
-    )
+    let set = c.union.ensures in
+    (λ i. record { set = set i; rules = bit_or l.all.rules c.named_by-more.result.rules; counted = l.all.counted && c.named_by-more.result.counted })
+    ∙ ap₂ joined l.invariant c.named_by-more.ensures ∙ named_more c₀ l.e
 
 pub returns : goal.returns
 returns c =
-    let c-loop = c.loop-e in
-    let done : c-loop.e ≡ c.args.entries = omega arith in
-    c-loop.invariant.1 ∙ ap (named_by_all c.args.second.now) done
+    let done : c.loop-e.e ≡ c.args.entries = omega arith in
+    c.loop-e.invariant ∙ ap (named_by_all c.args.second.now) done

@@ -17,15 +17,13 @@ overflow_add-gap c = first_fits c.args.gap c.requires.1
 
 pub row-requires : goal.row-requires
 row-requires c =
-    let c-start = c in
-    first-inside c-start.args.gap c-start.requires.1 (length c-start.args.words.now) c-start.requires.0
+    first-inside c.args.gap c.requires.1 (length c.args.words.now) c.requires.0
 
 pub returns-then-gap-opens : goal.returns-then-gap-opens
 returns-then-gap-opens c =
-    let c-start = c in
-    let a = c-start.args in
+    let a = c.args in
     c.row.ensures
-    ∙ first-row a.words.now a.gap a.byte c-start.requires.1
+    ∙ first-row a.words.now a.gap a.byte c.requires.1
     (ap (λ (b : Bool). leb inner_gaps a.gap || b) (sym c.opens.ensures) ∙ c.if-gap-opens.true)
 
 pub returns-else-gap-opens : goal.returns-else-gap-opens

@@ -16,62 +16,40 @@ use Rattle.steps.proofs.line.line_step.Goals as goal
 
 pub returns-then-words-lt-TABLE_WORDS : goal.returns-then-words-lt-TABLE_WORDS
 returns-then-words-lt-TABLE_WORDS c =
-    let c-start = c in
-    let c-empty = c.empty in
-    let c-if1 = c.if-words-lt-TABLE_WORDS in
-    let a = c-start.args in
+    let a = c.args in
     let t = a.words.now in
-    c-empty.ensures ∙ sym (set-off t (stepped (automaton t) true a.before a.after a.positions a.live a.taken a.byte) c-if1.true)
+    c.empty.ensures ∙ sym (set-off t (stepped (automaton t) true a.before a.after a.positions a.live a.taken a.byte) c.if-words-lt-TABLE_WORDS.true)
 
 pub firsts-first-requires : goal.firsts-first-requires
 firsts-first-requires c =
-    let c-if1 = c.if-words-lt-TABLE_WORDS in
-    let c-first-gap = c.first_gap in
-    let c-start = c in
-    let a = c-start.args in
-    (c-if1.false, subst (λ (g : ℕ). g < first_gaps) (sym c-first-gap.ensures) (first_gap-first true a.taken a.before a.after))
+    let a = c.args in
+    (c.if-words-lt-TABLE_WORDS.false, subst (λ (g : ℕ). g < first_gaps) (sym c.first_gap.ensures) (first_gap-first true a.taken a.before a.after))
 
 -- the rows of the gap are inside the table
 pub overflow_mul-rows : goal.overflow_mul-rows
 overflow_mul-rows c =
-    let c-gap-of = c.gap_of in
-    let c-start = c in
-    let a = c-start.args in
-    follow-offset-fits c-gap-of.result (subst (λ (g : ℕ). g < follow_gaps) (sym c-gap-of.ensures) (gap_of-follow true a.before a.after))
+    let a = c.args in
+    follow-offset-fits c.gap_of.result (subst (λ (g : ℕ). g < follow_gaps) (sym c.gap_of.ensures) (gap_of-follow true a.before a.after))
 
 pub overflow_add-rows : goal.overflow_add-rows
 overflow_add-rows c =
-    let c-gap-of = c.gap_of in
-    let c-start = c in
-    let a = c-start.args in
-    follow-fits c-gap-of.result (subst (λ (g : ℕ). g < follow_gaps) (sym c-gap-of.ensures) (gap_of-follow true a.before a.after))
+    let a = c.args in
+    follow-fits c.gap_of.result (subst (λ (g : ℕ). g < follow_gaps) (sym c.gap_of.ensures) (gap_of-follow true a.before a.after))
 
 pub line_walk-reached-requires : goal.line_walk-reached-requires
 line_walk-reached-requires c =
-    let c-gap-of = c.gap_of in
-    let c-if1 = c.if-words-lt-TABLE_WORDS in
-    let c-start = c in
-    let a = c-start.args in
-    (c-if1.false, follow-inside c-gap-of.result (subst (λ (g : ℕ). g < follow_gaps) (sym c-gap-of.ensures) (gap_of-follow true a.before a.after)))
+    let a = c.args in
+    (c.if-words-lt-TABLE_WORDS.false, follow-inside c.gap_of.result (subst (λ (g : ℕ). g < follow_gaps) (sym c.gap_of.ensures) (gap_of-follow true a.before a.after)))
 
 pub returns : goal.returns
 returns c =
-    let c-start = c in
-    let c-if1 = c.if-words-lt-TABLE_WORDS in
-    let c-first-gap = c.first_gap in
-    let c-firsts = c.firsts-first in
-    let c-gap-of = c.gap_of in
-    let c-walk = c.line_walk-reached in
-    let c-takers = c.takers in
-    let c-intersection = c.intersection in
-    let c-below = c.below in
-    let a = c-start.args in
+    let a = c.args in
     let t = a.words.now in
     let w = automaton t in
-    let first = c-firsts.ensures ∙ ap (λ (g : ℕ). set_of (starts w g a.byte)) c-first-gap.ensures in
-    let met = c-intersection.ensures ∙ ap₂ intersection_of c-walk.ensures (c-takers.ensures ∙ set_on_lem t (set_of (w.takes a.byte)) c-if1.false) in
-    c-below.ensures ∙ ap (λ (s : List ℕ). kept_below s a.positions) met
+    let first = c.firsts-first.ensures ∙ ap (λ (g : ℕ). set_of (starts w g a.byte)) c.first_gap.ensures in
+    let met = c.intersection.ensures ∙ ap₂ intersection_of c.line_walk-reached.ensures (c.takers.ensures ∙ set_on_lem t (set_of (w.takes a.byte)) c.if-words-lt-TABLE_WORDS.false) in
+    c.below.ensures ∙ ap (λ (s : List ℕ). kept_below s a.positions) met
     ∙ ap (λ (s : List ℕ). kept_below s a.positions)
-    (met-words t true a.before a.after a.live a.taken c-firsts.result _ a.byte first (ap follow_rows c-gap-of.ensures))
+    (met-words t true a.before a.after a.live a.taken c.firsts-first.result _ a.byte first (ap follow_rows c.gap_of.ensures))
     ∙ stepped-below w true a.before a.after a.positions a.live a.taken a.byte
-    ∙ sym (set_on_lem t (stepped w true a.before a.after a.positions a.live a.taken a.byte) c-if1.false)
+    ∙ sym (set_on_lem t (stepped w true a.before a.after a.positions a.live a.taken a.byte) c.if-words-lt-TABLE_WORDS.false)

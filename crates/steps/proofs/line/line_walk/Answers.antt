@@ -25,21 +25,16 @@ turn t rows live set from i own h e next f =
 pub loop-i-init : goal.loop-i-init
 loop-i-init c =
     let a = c.args in
-    (omega arith, reached-none a.words.now a.rows a.live a.from (words-good a.from _ c.well_formed.1.0))
-
-pub walk_word-walked-requires : goal.walk_word-walked-requires
-walk_word-walked-requires c = (omega arith, omega arith, omega arith)
+    reached-none a.words.now a.rows a.live a.from (words-good a.from _ c.well_formed.1.0)
 
 pub loop-i-preserved : goal.loop-i-preserved
 loop-i-preserved c =
     let l = c.loop-i in
-    let start = c in
-    let a = start.args in
-    (omega arith, turn a.words.now a.rows a.live l.set a.from l.i (words-good a.live _ start.well_formed.0) (omega arith) l.invariant.1 c.walk_word-walked.result.set c.walk_word-walked.ensures.1)
+    let a = c.args in
+    turn a.words.now a.rows a.live l.set a.from l.i (words-good a.live _ c.well_formed.0) (omega arith) l.invariant c.walk_word-walked.result.set c.walk_word-walked.ensures.1
 
 pub returns : goal.returns
 returns c =
-    let l = c.loop-i in
     let a = c.args in
-    let e : l.i * 64 ≡ 256 = omega arith in
-    l.invariant.1 ∙ ap (reached a.words.now a.rows a.live (has a.from)) e
+    let e : c.loop-i.i * 64 ≡ 256 = omega arith in
+    c.loop-i.invariant ∙ ap (reached a.words.now a.rows a.live (has a.from)) e

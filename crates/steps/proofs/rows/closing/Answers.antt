@@ -14,34 +14,22 @@ use Rattle.steps.proofs.rows.closing.Goals as goal
 
 pub returns-then-words-lt-TABLE_WORDS : goal.returns-then-words-lt-TABLE_WORDS
 returns-then-words-lt-TABLE_WORDS c =
-    let c-start = c in
-    let c-if1 = c.if-words-lt-TABLE_WORDS in
-    let a = c-start.args in
+    let a = c.args in
     let w = automaton a.words.now in
-    sym (number-off a.words.now (rules_where w (ends_newly w (at_the_end a.before) (union_of a.live a.held) unsettled a.live)) c-if1.true)
+    sym (number-off a.words.now (rules_where w (ends_newly w (at_the_end a.before) (union_of a.live a.held) unsettled a.live)) c.if-words-lt-TABLE_WORDS.true)
 
 pub ending_at-at_end-requires : goal.ending_at-at_end-requires
 ending_at-at_end-requires c =
-    let c-start = c in
-    let c-if1 = c.if-words-lt-TABLE_WORDS in
-    let c-at-end = c.at_end in
-    (c-if1.false, subst (λ (g : ℕ). g < last_gaps) (sym c-at-end.ensures) (at_end-last c-start.args.before))
+    (c.if-words-lt-TABLE_WORDS.false, subst (λ (g : ℕ). g < last_gaps) (sym c.at_end.ensures) (at_end-last c.args.before))
 
 pub ending_at-settled-requires : goal.ending_at-settled-requires
 ending_at-settled-requires c =
-    let c-if1 = c.if-words-lt-TABLE_WORDS in
-    (c-if1.false, lit< tt)
+    (c.if-words-lt-TABLE_WORDS.false, lit< tt)
 
 pub returns : goal.returns
 returns c =
-    let c-start = c in
-    let c-if1 = c.if-words-lt-TABLE_WORDS in
-    let c-at-end = c.at_end in
-    let c-union = c.union in
-    let c-ending-at = c.ending_at-at_end in
-    let c-ending-at2 = c.ending_at-settled in
-    let a = c-start.args in
+    let a = c.args in
     let w = automaton a.words.now in
-    newly-word w (at_the_end a.before) (union_of a.live a.held) unsettled a.live c-ending-at.result c-ending-at2.result
-    (c-ending-at.ensures ∙ ap₂ (λ (g : ℕ) (s : List ℕ). rules_where w (ends w g s)) c-at-end.ensures c-union.ensures) c-ending-at2.ensures
-    ∙ sym (number-on a.words.now (rules_where w (ends_newly w (at_the_end a.before) (union_of a.live a.held) unsettled a.live)) c-if1.false)
+    newly-word w (at_the_end a.before) (union_of a.live a.held) unsettled a.live c.ending_at-at_end.result c.ending_at-settled.result
+    (c.ending_at-at_end.ensures ∙ ap₂ (λ (g : ℕ) (s : List ℕ). rules_where w (ends w g s)) c.at_end.ensures c.union.ensures) c.ending_at-settled.ensures
+    ∙ sym (number-on a.words.now (rules_where w (ends_newly w (at_the_end a.before) (union_of a.live a.held) unsettled a.live)) c.if-words-lt-TABLE_WORDS.false)

@@ -10,20 +10,14 @@ use Rattle.steps.proofs.rows.ending.Goals as goal
 
 pub returns-then-words-lt-TABLE_WORDS : goal.returns-then-words-lt-TABLE_WORDS
 returns-then-words-lt-TABLE_WORDS c =
-    let c-start = c in
-    let c-if1 = c.if-words-lt-TABLE_WORDS in
-    let w = automaton c-start.args.words.now in
-    sym (number-off c-start.args.words.now (rules_where w (ends w unsettled c-start.args.live)) c-if1.true)
+    let w = automaton c.args.words.now in
+    sym (number-off c.args.words.now (rules_where w (ends w unsettled c.args.live)) c.if-words-lt-TABLE_WORDS.true)
 
 pub ending_at-requires : goal.ending_at-requires
 ending_at-requires c =
-    let c-if1 = c.if-words-lt-TABLE_WORDS in
-    (c-if1.false, lit< tt)
+    (c.if-words-lt-TABLE_WORDS.false, lit< tt)
 
 pub returns : goal.returns
 returns c =
-    let c-start = c in
-    let c-ending-at = c.ending_at in
-    let c-if1 = c.if-words-lt-TABLE_WORDS in
-    let w = automaton c-start.args.words.now in
-    c-ending-at.ensures ∙ sym (number-on c-start.args.words.now (rules_where w (ends w unsettled c-start.args.live)) c-if1.false)
+    let w = automaton c.args.words.now in
+    c.ending_at.ensures ∙ sym (number-on c.args.words.now (rules_where w (ends w unsettled c.args.live)) c.if-words-lt-TABLE_WORDS.false)

@@ -16,5 +16,4 @@ row-requires c = last-inside c.args.gap c.requires.1 (length c.args.words.now) c
 
 pub returns : goal.returns
 returns c =
-    let c-start = c in
-    c.row.ensures ∙ last_set c-start.args.words.now c-start.args.gap c-start.requires.1
+    c.row.ensures ∙ last_set c.args.words.now c.args.gap c.requires.1

@@ -32,12 +32,11 @@ ending_at-settled-requires c = (c.if-words-lt-TABLE_WORDS.false, lit< tt)
 
 pub returns : goal.returns
 returns c =
-    let enough = c in
-    let a = enough.args in
+    let a = c.args in
     let w = automaton a.words.now in
     let late = c.intersection-late in
     newly-word w (between a.before a.after) (late_in w a.live) unsettled a.live c.ending_at-known.result c.ending_at-settled.result
     (c.ending_at-known.ensures
     ∙ ap₂ (λ (g : ℕ) (s : List ℕ). rules_where w (ends w g s)) c.between.ensures (late.ensures ∙ ap (intersection_of a.live) c.late_row.ensures))
     c.ending_at-settled.ensures
-    ∙ sym (number-on a.words.now (rules_where w (ends_newly w (between a.before a.after) (late_in w a.live) unsettled a.live)) enough.if-words-lt-TABLE_WORDS.false)
+    ∙ sym (number-on a.words.now (rules_where w (ends_newly w (between a.before a.after) (late_in w a.live) unsettled a.live)) c.if-words-lt-TABLE_WORDS.false)

@@ -14,37 +14,23 @@ use Rattle.steps.proofs.rows.line_ending.Goals as goal
 
 pub returns-then-words-lt-TABLE_WORDS : goal.returns-then-words-lt-TABLE_WORDS
 returns-then-words-lt-TABLE_WORDS c =
-    let c-start = c in
-    let c-if1 = c.if-words-lt-TABLE_WORDS in
-    let a = c-start.args in
+    let a = c.args in
     let w = automaton a.words.now in
-    sym (number-off a.words.now (rules_where w (ends_newly w (before_last a.before) a.live (between a.before Newline) a.live)) c-if1.true)
+    sym (number-off a.words.now (rules_where w (ends_newly w (before_last a.before) a.live (between a.before Newline) a.live)) c.if-words-lt-TABLE_WORDS.true)
 
 pub ending_at-at_line-requires : goal.ending_at-at_line-requires
 ending_at-at_line-requires c =
-    let c-start = c in
-    let c-if1 = c.if-words-lt-TABLE_WORDS in
-    let c-before-last = c.before_last in
-    (c-if1.false, subst (λ (g : ℕ). g < last_gaps) (sym c-before-last.ensures) (lt_trans (before_last-follow c-start.args.before) (lit< tt)))
+    (c.if-words-lt-TABLE_WORDS.false, subst (λ (g : ℕ). g < last_gaps) (sym c.before_last.ensures) (lt_trans (before_last-follow c.args.before) (lit< tt)))
 
 pub ending_at-at_newline-requires : goal.ending_at-at_newline-requires
 ending_at-at_newline-requires c =
-    let c-start = c in
-    let c-if1 = c.if-words-lt-TABLE_WORDS in
-    let c-between = c.between in
-    (c-if1.false, subst (λ (g : ℕ). g < last_gaps) (sym c-between.ensures) (lt_trans (between-inner c-start.args.before Newline) (lit< tt)))
+    (c.if-words-lt-TABLE_WORDS.false, subst (λ (g : ℕ). g < last_gaps) (sym c.between.ensures) (lt_trans (between-inner c.args.before Newline) (lit< tt)))
 
 pub returns : goal.returns
 returns c =
-    let c-start = c in
-    let c-if1 = c.if-words-lt-TABLE_WORDS in
-    let c-before-last = c.before.before.before.before_last in
-    let c-ending-at = c.ending_at-at_line in
-    let c-between = c.between in
-    let c-ending-at2 = c.ending_at-at_newline in
-    let a = c-start.args in
+    let a = c.args in
     let w = automaton a.words.now in
-    newly-word w (before_last a.before) a.live (between a.before Newline) a.live c-ending-at.result c-ending-at2.result
-    (c-ending-at.ensures ∙ ap (λ (g : ℕ). rules_where w (ends w g a.live)) c-before-last.ensures)
-    (c-ending-at2.ensures ∙ ap (λ (g : ℕ). rules_where w (ends w g a.live)) c-between.ensures)
-    ∙ sym (number-on a.words.now (rules_where w (ends_newly w (before_last a.before) a.live (between a.before Newline) a.live)) c-if1.false)
+    newly-word w (before_last a.before) a.live (between a.before Newline) a.live c.ending_at-at_line.result c.ending_at-at_newline.result
+    (c.ending_at-at_line.ensures ∙ ap (λ (g : ℕ). rules_where w (ends w g a.live)) c.before_last.ensures)
+    (c.ending_at-at_newline.ensures ∙ ap (λ (g : ℕ). rules_where w (ends w g a.live)) c.between.ensures)
+    ∙ sym (number-on a.words.now (rules_where w (ends_newly w (before_last a.before) a.live (between a.before Newline) a.live)) c.if-words-lt-TABLE_WORDS.false)

@@ -5,7 +5,7 @@ use native.Mathlib.Omega.{arith}
 use lib.Bits.{bit_and}
 use lib.ListN.{get_or}
 use lib.Pow.{pow_pos}
-use Rattle.sets.proofs.Digits.{shl_one}
+use Rattle.sets.proofs.Bits.{shl_one}
 use Rattle.table.specs.Layout.{rules_of}
 use Rattle.steps.proofs.TableSets.{marked-below, marked_all}
 use Rattle.steps.proofs.rows.marked.Goals as goal

@@ -1,15 +1,10 @@
--- `steps::rows::owner_word` meets its contract: each turn asks the lowest digit that is left and
--- clears it, so that after n turns the owners of the first n are collected, and as long as a digit
--- is left there are turns to come.
-use mathlib.Core.Path.{◌≡◌}
-use Prim.Native.Nat.{◌-◌, ◌≤◌}
-use lib.Count.{ones}
-use Rattle.steps.specs.Walk.{left}
+-- `steps::rows::owner_word` meets its contract: what the turns to come collect with what is found so
+-- far is what all turns collect.
+use Rattle.std.proofs.Common.{◌≡◌}
+use Rattle.std.specs.Int.Count.{ones}
 use Rattle.steps.specs.Invariants.{collected}
 use Rattle.steps.proofs.rows.owner_word.Given as goal
 
-abbrev pub invariant-loop-word : goal.invariant-loop-word
-invariant-loop-word l = (l.turns ≤ ones l.initial.word) × (l.word ≡ left l.initial.word l.turns) × (l.found ≡ collected l.words l.rules l.initial.word l.base l.initial.found l.turns)
-
-abbrev pub decreases-loop-word : goal.decreases-loop-word
-decreases-loop-word l = ones l.initial.word - l.turns
+abbrev pub invariant-loop-k : goal.invariant-loop-k
+invariant-loop-k l =
+    collected l.words l.rules l.word l.base l.initial.found (ones l.word) ≡ collected l.words l.rules l.k-iterator.0 l.base l.found (ones l.k-iterator.0)

@@ -4,6 +4,5 @@ use Rattle.steps.proofs.rows.row.Goals as goal
 
 pub returns : goal.returns
 returns c =
-    let c-start = c in
     let c-shared-slice-known = c.type_inv.words in
-    row_words c-start.args.words.now c-start.args.at (λ i. c-shared-slice-known i)
+    row_words c.args.words.now c.args.at (λ i. c-shared-slice-known i)

@@ -4,7 +4,7 @@ use mathlib.Core.Path.{ap}
 use native.Mathlib.Omega.{arith}
 use lib.Bits.{bit_or}
 use borrow.Author.Tests.{lt-ltb, le-ltb}
-use Rattle.sets.proofs.Digits.{shl_one}
+use Rattle.sets.proofs.Bits.{shl_one}
 use Rattle.steps.specs.Invariants.{with_owner}
 use Rattle.steps.proofs.rows.with_owner.Goals as goal
 

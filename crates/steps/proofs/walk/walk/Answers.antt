@@ -19,72 +19,51 @@ bounds-live-0 c = lit< tt
 
 pub walk_word-a-requires : goal.walk_word-a-requires
 walk_word-a-requires c =
-    let c-start = c in
-    (c-start.requires.0, lit≤ tt, c-start.requires.1)
+    (c.requires.0, lit≤ tt, c.requires.1)
 
 pub bounds-live-1 : goal.bounds-live-1
 bounds-live-1 c = lit< tt
 
 pub walk_word-b-requires : goal.walk_word-b-requires
 walk_word-b-requires c =
-    let c-start = c in
-    (c-start.requires.0, lit≤ tt, c-start.requires.1)
+    (c.requires.0, lit≤ tt, c.requires.1)
 
 pub bounds-live-2 : goal.bounds-live-2
 bounds-live-2 c = lit< tt
 
 pub walk_word-c-requires : goal.walk_word-c-requires
 walk_word-c-requires c =
-    let c-start = c in
-    (c-start.requires.0, lit≤ tt, c-start.requires.1)
+    (c.requires.0, lit≤ tt, c.requires.1)
 
 pub bounds-live-3 : goal.bounds-live-3
 bounds-live-3 c = lit< tt
 
 pub walk_word-d-requires : goal.walk_word-d-requires
 walk_word-d-requires c =
-    let c-start = c in
-    (c-start.requires.0, lit≤ tt, c-start.requires.1)
+    (c.requires.0, lit≤ tt, c.requires.1)
 
 pub overflow_add-result : goal.overflow_add-result
 overflow_add-result c =
-    let c-start = c in
-    let c-walk-word = c.walk_word-a in
-    let c-walk-word2 = c.walk_word-b in
-    let own = words-good c-start.args.live _ c-start.well_formed.0 in
-    two-turns c-walk-word.result.turns c-walk-word2.result.turns (turns own 0 (lit< tt) c-walk-word.ensures.0) (turns own 1 (lit< tt) c-walk-word2.ensures.0)
+    let own = words-good c.args.live _ c.well_formed.0 in
+    two-turns c.walk_word-a.result.turns c.walk_word-b.result.turns (turns own 0 (lit< tt) c.walk_word-a.ensures.0) (turns own 1 (lit< tt) c.walk_word-b.ensures.0)
 
 pub overflow_add-result-2 : goal.overflow_add-result-2
 overflow_add-result-2 c =
-    let c-start = c in
-    let c-walk-word = c.walk_word-a in
-    let c-walk-word2 = c.walk_word-b in
-    let c-walk-word3 = c.walk_word-c in
-    let own = words-good c-start.args.live _ c-start.well_formed.0 in
-    three-turns c-walk-word.result.turns c-walk-word2.result.turns c-walk-word3.result.turns (turns own 0 (lit< tt) c-walk-word.ensures.0) (turns own 1 (lit< tt) c-walk-word2.ensures.0) (turns own 2 (lit< tt) c-walk-word3.ensures.0)
+    let own = words-good c.args.live _ c.well_formed.0 in
+    three-turns c.walk_word-a.result.turns c.walk_word-b.result.turns c.walk_word-c.result.turns (turns own 0 (lit< tt) c.walk_word-a.ensures.0) (turns own 1 (lit< tt) c.walk_word-b.ensures.0) (turns own 2 (lit< tt) c.walk_word-c.ensures.0)
 
 pub overflow_add-result-3 : goal.overflow_add-result-3
 overflow_add-result-3 c =
-    let c-start = c in
-    let c-walk-word = c.walk_word-a in
-    let c-walk-word2 = c.walk_word-b in
-    let c-walk-word3 = c.walk_word-c in
-    let c-walk-word4 = c.walk_word-d in
-    let own = words-good c-start.args.live _ c-start.well_formed.0 in
-    four-turns c-walk-word.result.turns c-walk-word2.result.turns c-walk-word3.result.turns c-walk-word4.result.turns (turns own 0 (lit< tt) c-walk-word.ensures.0) (turns own 1 (lit< tt) c-walk-word2.ensures.0) (turns own 2 (lit< tt) c-walk-word3.ensures.0) (turns own 3 (lit< tt) c-walk-word4.ensures.0)
+    let own = words-good c.args.live _ c.well_formed.0 in
+    four-turns c.walk_word-a.result.turns c.walk_word-b.result.turns c.walk_word-c.result.turns c.walk_word-d.result.turns (turns own 0 (lit< tt) c.walk_word-a.ensures.0) (turns own 1 (lit< tt) c.walk_word-b.ensures.0) (turns own 2 (lit< tt) c.walk_word-c.ensures.0) (turns own 3 (lit< tt) c.walk_word-d.ensures.0)
 
 pub returns : goal.returns
 returns c =
-    let c-start = c in
-    let c-walk-word = c.walk_word-a in
-    let c-walk-word2 = c.walk_word-b in
-    let c-walk-word3 = c.walk_word-c in
-    let c-walk-word4 = c.walk_word-d in
-    let live = c-start.args.live in
-    let from = c-start.args.from in
-    let own = words-good live _ c-start.well_formed.0 in record {
-      turns = turns-all live own c-walk-word.result.turns c-walk-word2.result.turns c-walk-word3.result.turns c-walk-word4.result.turns
-          c-walk-word.ensures.0 c-walk-word2.ensures.0 c-walk-word3.ensures.0 c-walk-word4.ensures.0;
-      set = walked_all c-start.args.words.now c-start.args.rows live from c-walk-word.result.set c-walk-word2.result.set c-walk-word3.result.set c-walk-word4.result.set own (words-good from _ c-start.well_formed.1.0)
-          c-walk-word.ensures.1 c-walk-word2.ensures.1 c-walk-word3.ensures.1 c-walk-word4.ensures.1;
+    let live = c.args.live in
+    let from = c.args.from in
+    let own = words-good live _ c.well_formed.0 in record {
+      turns = turns-all live own c.walk_word-a.result.turns c.walk_word-b.result.turns c.walk_word-c.result.turns c.walk_word-d.result.turns
+          c.walk_word-a.ensures.0 c.walk_word-b.ensures.0 c.walk_word-c.ensures.0 c.walk_word-d.ensures.0;
+      set = walked_all c.args.words.now c.args.rows live from c.walk_word-a.result.set c.walk_word-b.result.set c.walk_word-c.result.set c.walk_word-d.result.set own (words-good from _ c.well_formed.1.0)
+          c.walk_word-a.ensures.1 c.walk_word-b.ensures.1 c.walk_word-c.ensures.1 c.walk_word-d.ensures.1;
     }

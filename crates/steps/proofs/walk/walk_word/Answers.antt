@@ -1,146 +1,29 @@
--- `steps::walk::walk_word` meets its contract: each turn asks the lowest digit that is left and
--- clears it, so that after n turns the set is joined with what follows the first n, and as long as
--- a digit is left there are turns to come.
-use mathlib.Core.Path.{◌≡◌, refl, sym, ap, ap₂, ◌∙◌, subst}
-use mathlib.Core.List.{List}
-use Prim.Native.Nat.{ℕ, ◌+◌, ◌*◌, ◌-◌, ◌^◌, ◌<◌, ◌≤◌, zero-le}
-use native.Mathlib.Nat.{le_refl}
-use native.Mathlib.Numerals.{add-one}
+-- `steps::walk::walk_word` meets its contract: a turn joins the row of its position.
+use Rattle.std.proofs.Common.{ap, sym, ◌∙◌}
 use native.Mathlib.Omega.{arith}
-use lib.Bits.{bit_and}
-use lib.Count.{ones, count_trailing_zeros}
-use lib.ListN.{length}
-use mir.Syntax.{w32, w64}
-use mir.Val.{Fits}
-use Rattle.sets.specs.Set.{set_of, union_of}
-use Rattle.table.specs.Layout.{table_words, row_has}
-use Rattle.steps.specs.Walk.{left}
+use Rattle.std.specs.Int.Count.{ones}
+use Rattle.sets.specs.Set.{union_of}
 use Rattle.steps.specs.Invariants.{joined}
-use Rattle.steps.proofs.Asked.{goes_on, ends_with, few}
-use Rattle.steps.proofs.Bounds.{up, less-left}
+use Rattle.steps.proofs.Asked.{few}
+use Rattle.steps.proofs.Ahead.{one-less, none-ahead, joined-once, joined-end}
 use Rattle.steps.proofs.walk.walk_word.Goals as goal
 
-pub loop-word-init : goal.loop-word-init
-unfolding left joined
-loop-word-init c = (zero-le, refl, refl)
-
--- a digit is left: there is a turn to come, and it asks one of the 64
-turn : (word n l : ℕ) → word < 2 ^ 64 → n ≤ ones word → l ≡ left word n → ¬ (l ≡ 0) → (n < ones word) × (count_trailing_zeros 64 l < 64)
-turn word n l fits h e some =
-    let t = goes_on word fits n h (λ z. some (e ∙ z)) in
-    (t.0, subst (λ (x : ℕ). count_trailing_zeros 64 x < 64) (sym e) t.1)
-
-left-turn : (word n l : ℕ) → l ≡ left word n → bit_and l (l - 1) ≡ left word (n + 1)
-unfolding left
-left-turn word n l e = ap (λ (x : ℕ). bit_and x (x - 1)) e ∙ ap (left word) (sym (add-one n))
-
-joined-turn : (t from set : List ℕ) (rows word base n l : ℕ) → l ≡ left word n → set ≡ joined t rows word base from n
-    → union_of set (set_of (row_has t (rows + (base + count_trailing_zeros 64 l) * 4))) ≡ joined t rows word base from (n + 1)
-unfolding joined
-joined-turn t from set rows word base n l e h =
-    ap₂ (λ (s : List ℕ) (x : ℕ). union_of s (set_of (row_has t (rows + (base + count_trailing_zeros 64 x) * 4)))) h e
-    ∙ ap (joined t rows word base from) (sym (add-one n))
-
--- the position asked, and the place of what follows it
-module _ (base z : ℕ) (h : base ≤ 192) (l : z < 64) where
-  position-fits : Fits w64 (base + z)
-  position-fits = record { fits = omega arith }
-
-  row-words-fit : Fits w64 ((base + z) * 4)
-  row-words-fit = record { fits = omega arith }
-
-  row_fits : (rows : ℕ) → rows ≤ 14336 → Fits w64 (rows + (base + z) * 4)
-  row_fits rows g = record { fits = omega arith }
-
-  row_inside : (rows n : ℕ) → rows ≤ 14336 → table_words ≤ n → rows + (base + z) * 4 + 4 ≤ n
-  row_inside rows n g m = omega arith
-
-digit-fits : (z : ℕ) → z < 64 → Fits w64 z
-digit-fits z h = record { fits = omega arith }
-
-positive : (n : ℕ) → ¬ (n ≡ 0) → 1 ≤ n
-positive n h = omega arith
-
-turns_fit : (n m : ℕ) → n ≤ m → m ≤ 64 → Fits w32 (n + 1)
-turns_fit n m h l = record { fits = omega arith }
-
-pub loop-word-preserved : goal.loop-word-preserved
-loop-word-preserved c =
-    let c-start = c in
-    let c-loop = c.loop-word in
-    let c-loop-test = c.loop-word-test in
-    let c-union = c.union-more in
-    let c-row = c.row-after in
-    let a = c-start.args in
-    let l = c-loop in
-    let w = a.words.now in
-    let t = turn c-start.args.word c-loop.turns c-loop.word c-start.ranges.word.fits c-loop.invariant.0 c-loop.invariant.1 c-loop-test.true in (
-      up l.turns (ones a.word) t.0,
-      left-turn a.word l.turns l.word l.invariant.1,
-      c-union.ensures ∙ ap (union_of l.set) c-row.ensures
-          ∙ joined-turn w a.set l.set a.rows a.word a.base l.turns l.word l.invariant.1 l.invariant.2,
-    )
-
-pub overflow_cast-p : goal.overflow_cast-p
-overflow_cast-p c =
-    let c-loop = c.loop-word in
-    let c-start = c in
-    let c-loop-test = c.loop-word-test in
-    digit-fits (count_trailing_zeros 64 c-loop.word) (turn c-start.args.word c-loop.turns c-loop.word c-start.ranges.word.fits c-loop.invariant.0 c-loop.invariant.1 c-loop-test.true).1
-
-pub overflow_add-p : goal.overflow_add-p
-overflow_add-p c =
-    let c-start = c in
-    let c-loop = c.loop-word in
-    let c-loop-test = c.loop-word-test in
-    position-fits c-start.args.base (count_trailing_zeros 64 c-loop.word) c-start.requires.1 (turn c-start.args.word c-loop.turns c-loop.word c-start.ranges.word.fits c-loop.invariant.0 c-loop.invariant.1 c-loop-test.true).1
-
-pub overflow_mul-p : goal.overflow_mul-p
-overflow_mul-p c =
-    let c-start = c in
-    let c-loop = c.loop-word in
-    let c-loop-test = c.loop-word-test in
-    row-words-fit c-start.args.base (count_trailing_zeros 64 c-loop.word) c-start.requires.1 (turn c-start.args.word c-loop.turns c-loop.word c-start.ranges.word.fits c-loop.invariant.0 c-loop.invariant.1 c-loop-test.true).1
-
-pub overflow_add-rows : goal.overflow_add-rows
-overflow_add-rows c =
-    let c-start = c in
-    let c-loop = c.loop-word in
-    let c-loop-test = c.loop-word-test in
-    row_fits c-start.args.base (count_trailing_zeros 64 c-loop.word) c-start.requires.1 (turn c-start.args.word c-loop.turns c-loop.word c-start.ranges.word.fits c-loop.invariant.0 c-loop.invariant.1 c-loop-test.true).1 c-start.args.rows c-start.requires.2
-
-pub row-after-requires : goal.row-after-requires
-row-after-requires c =
-    let c-start = c in
-    let c-loop = c.loop-word in
-    let c-loop-test = c.loop-word-test in
-    row_inside c-start.args.base (count_trailing_zeros 64 c-loop.word) c-start.requires.1 (turn c-start.args.word c-loop.turns c-loop.word c-start.ranges.word.fits c-loop.invariant.0 c-loop.invariant.1 c-loop-test.true).1 c-start.args.rows (length c-start.args.words.now) c-start.requires.2 c-start.requires.0
-
-pub overflow_sub-word : goal.overflow_sub-word
-overflow_sub-word c =
-    let c-loop = c.loop-word in
-    let c-loop-test = c.loop-word-test in
-    positive c-loop.word c-loop-test.true
-
 pub overflow_add-turns : goal.overflow_add-turns
-overflow_add-turns c =
-    let c-loop = c.loop-word in
-    let c-start = c in
-    turns_fit c-loop.turns (ones c-start.args.word) c-loop.invariant.0 (few c-start.args.word c-start.ranges.word.fits)
+overflow_add-turns c = record { fits = omega (arith, c.loop-k.invariant.0, few c.args.word c.ranges.word.fits) }
 
-pub loop-word-smaller : goal.loop-word-smaller
-loop-word-smaller c =
-    let c-start = c in
-    let c-loop = c.loop-word in
-    let c-loop-test = c.loop-word-test in
-    less-left (ones c-start.args.word) c-loop.turns c-loop.turns (le_refl c-loop.turns) (turn c-start.args.word c-loop.turns c-loop.word c-start.ranges.word.fits c-loop.invariant.0 c-loop.invariant.1 c-loop-test.true).0
+pub loop-k-preserved : goal.loop-k-preserved
+loop-k-preserved c =
+    let a = c.args in
+    let l = c.loop-k in (
+      omega (arith, one-less c.in-Some.ensures.steps, l.invariant.0),
+      l.invariant.1 ∙ joined-once a.words.now a.rows a.base l.set c.in-Some.ensures.steps
+          ∙ ap (λ set. joined a.words.now a.rows c.next.new.self.0 a.base set (ones c.next.new.self.0)) (sym (c.union-more.ensures ∙ ap (union_of l.set) c.row.ensures)),
+    )
 
 pub returns : goal.returns
 returns c =
-    let c-start = c in
-    let c-loop = c.loop-word in
-    let c-loop-test = c.loop-word-test in
-    let a = c-start.args in
-    let l = c-loop in
-    let all : l.turns ≡ ones a.word = ends_with a.word c-start.ranges.word.fits l.turns l.invariant.0 (sym l.invariant.1 ∙ c-loop-test.false) in
-    (all, l.invariant.2 ∙ ap (joined a.words.now a.rows a.word a.base a.set) all)
+    let a = c.args in
+    let l = c.loop-k in (
+      omega (arith, none-ahead c.in-None.ensures.steps.0, l.invariant.0),
+      sym (l.invariant.1 ∙ joined-end a.words.now a.rows a.base l.set c.in-None.ensures.steps.0),
+    )

@@ -1,15 +1,11 @@
--- `steps::walk::walk_word` meets its contract: each turn asks the lowest digit that is left and
--- clears it, so that after n turns the set is joined with what follows the first n, and as long as
--- a digit is left there are turns to come.
-use mathlib.Core.Path.{◌≡◌}
-use Prim.Native.Nat.{◌-◌, ◌≤◌}
-use lib.Count.{ones}
-use Rattle.steps.specs.Walk.{left}
+-- `steps::walk::walk_word` meets its contract: what the turns to come join to the set so far is what
+-- all turns join, and they are as many as digits are left.
+use Rattle.std.proofs.Common.{◌≡◌, ◌+◌}
+use Rattle.std.specs.Int.Count.{ones}
 use Rattle.steps.specs.Invariants.{joined}
 use Rattle.steps.proofs.walk.walk_word.Given as goal
 
-abbrev pub invariant-loop-word : goal.invariant-loop-word
-invariant-loop-word l = (l.turns ≤ ones l.initial.word) × (l.word ≡ left l.initial.word l.turns) × (l.set ≡ joined l.words l.rows l.initial.word l.base l.initial.set l.turns)
-
-abbrev pub decreases-loop-word : goal.decreases-loop-word
-decreases-loop-word l = ones l.initial.word - l.turns
+abbrev pub invariant-loop-k : goal.invariant-loop-k
+invariant-loop-k l =
+    (l.turns + ones l.k-iterator.0 ≡ ones l.word)
+    × (joined l.words l.rows l.word l.base l.initial.set (ones l.word) ≡ joined l.words l.rows l.k-iterator.0 l.base l.set (ones l.k-iterator.0))

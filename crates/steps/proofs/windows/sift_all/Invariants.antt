@@ -3,8 +3,5 @@ use Rattle.table.specs.Layout.{windowed_of}
 use Rattle.steps.proofs.Sifting.{SiftLeft, inside}
 use Rattle.steps.proofs.windows.sift_all.Given as goal
 
-abbrev pub invariant-loop-left : goal.invariant-loop-left
-invariant-loop-left l = SiftLeft (windowed_of l.words) (inside l.words l.end) l.rules l.left l.found
-
-abbrev pub decreases-loop-left : goal.decreases-loop-left
-decreases-loop-left l = l.left
+abbrev pub invariant-loop-a : goal.invariant-loop-a
+invariant-loop-a l = SiftLeft (windowed_of l.words) (inside l.words l.end) l.rules l.a-iterator.0 l.found

@@ -2,7 +2,7 @@
 use lib.ListN.{length}
 use Rattle.table.proofs.Test.{passes}
 use Rattle.stream.proofs.Bounds.{sum_fits}
-use Rattle.stream.proofs.Answers.{advanced}
+use Rattle.stream.proofs.Answers.{advanced, left-fits}
 use Rattle.stream.proofs.Stream.advance.Goals as goal
 
 pub run-r-requires : goal.run-r-requires
@@ -19,3 +19,6 @@ overflow_add-taken c =
 
 pub returns : goal.returns
 returns c = advanced c.run-r.ensures c.waiting_after-waits.ensures
+
+pub overflow_sub-result : goal.overflow_sub-result
+overflow_sub-result c = left-fits c.run-r.ensures c.waiting_after-waits.ensures

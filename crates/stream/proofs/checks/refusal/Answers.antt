@@ -53,19 +53,19 @@ returns-then-s-len c =
     let state = sym c.is_valid.ensures ∙ c.if-not-is_valid.false in
     refused-long t a.s a.len a.space table state c.if-s.false (omega (arith, c.if-s-len.true))
 
-pub overflow_mul-rules : goal.overflow_mul-rules
-overflow_mul-rules c =
+pub overflow_mul-words : goal.overflow_mul-words
+overflow_mul-words c =
     let t = c.args.words.now in
     twice-fits (rules_of t) (passes t (sym c.is_table.ensures ∙ c.if-not-is_table.false)).rules
 
-pub returns-then-space-rules : goal.returns-then-space-rules
-returns-then-space-rules c =
+pub returns-then-space-words : goal.returns-then-space-words
+returns-then-space-words c =
     let a = c.args in
     let t = a.words.now in
     let table = sym c.is_table.ensures ∙ c.if-not-is_table.false in
     let state = sym c.is_valid.ensures ∙ c.if-not-is_valid.false in
     let short : a.s.taken + a.len ≤ stream_limit = omega (arith, c.if-s-len.false, (fitting (automaton t) a.s (valid-parts (automaton t) a.s state).0).limit) in
-    refused-space t a.s a.len a.space table state c.if-s.false short c.if-space-rules.true
+    refused-space t a.s a.len a.space table state c.if-s.false short c.if-space-words.true
 
 pub returns : goal.returns
 returns c =
@@ -74,4 +74,4 @@ returns c =
     let table = sym c.is_table.ensures ∙ c.if-not-is_table.false in
     let state = sym c.is_valid.ensures ∙ c.if-not-is_valid.false in
     let short : a.s.taken + a.len ≤ stream_limit = omega (arith, c.if-s-len.false, (fitting (automaton t) a.s (valid-parts (automaton t) a.s state).0).limit) in
-    not-refused t a.s a.len a.space table state c.if-s.false short c.if-space-rules.false
+    not-refused t a.s a.len a.space table state c.if-s.false short c.if-space-words.false

@@ -33,12 +33,12 @@ overflow_add-due c =
     (few c.due.ensures (count-le 64 (λ k. on a.late k && not (on a.reported k))))
     (few c.due-2.ensures (count-le 64 (λ k. on a.own k && not (on marks k))))
 
-pub returns-then-least-due : goal.returns-then-least-due
-returns-then-least-due c =
+pub returns-then-min-due : goal.returns-then-min-due
+returns-then-min-due c =
     let a = c.args in
     let t = a.words.now in
     let w = automaton t in
-    delivered-full (over (due-two w a.late a.own a.reported (given w a.before) (given w (suc a.before)) c.ranges.reported.fits (rules-few t (passes t c.requires.0).rules) c.requires.2 c.requires.3 a.singles c.requires.1 c.due.ensures c.due-2.ensures) c.least.ensures c.if-least-due.true)
+    delivered-full (over (due-two w a.late a.own a.reported (given w a.before) (given w (suc a.before)) c.ranges.reported.fits (rules-few t (passes t c.requires.0).rules) c.requires.2 c.requires.3 a.singles c.requires.1 c.due.ensures c.due-2.ensures) c.min.ensures c.if-min-due.true)
 
 pub overflow_add-before : goal.overflow_add-before
 overflow_add-before c = record { fits = c.requires.4 }
@@ -49,11 +49,11 @@ write_two-run-requires c =
     let t = a.words.now in
     let w = automaton t in
     let p = c.requires in
-    (p.0, p.1, p.2, p.3, within (due-two w a.late a.own a.reported (given w a.before) (given w (a.before + 1)) c.ranges.reported.fits (rules-few t (passes t c.requires.0).rules) c.requires.2 c.requires.3 a.singles c.requires.1 c.due.ensures c.due-2.ensures) c.least.ensures c.if-least-due.false)
+    (p.0, p.1, p.2, p.3, within (due-two w a.late a.own a.reported (given w a.before) (given w (a.before + 1)) c.ranges.reported.fits (rules-few t (passes t c.requires.0).rules) c.requires.2 c.requires.3 a.singles c.requires.1 c.due.ensures c.due-2.ensures) c.min.ensures c.if-min-due.false)
 
 pub returns : goal.returns
 returns c =
     let a = c.args in
     let t = a.words.now in
     let w = automaton t in
-    delivered-runs (within (due-two w a.late a.own a.reported (given w a.before) (given w (suc a.before)) c.ranges.reported.fits (rules-few t (passes t c.requires.0).rules) c.requires.2 c.requires.3 a.singles c.requires.1 c.due.ensures c.due-2.ensures) c.least.ensures c.if-least-due.false) (rw (add-one a.before) at c.write_two-run.ensures)
+    delivered-runs (within (due-two w a.late a.own a.reported (given w a.before) (given w (suc a.before)) c.ranges.reported.fits (rules-few t (passes t c.requires.0).rules) c.requires.2 c.requires.3 a.singles c.requires.1 c.due.ensures c.due-2.ensures) c.min.ensures c.if-min-due.false) (rw (add-one a.before) at c.write_two-run.ensures)

@@ -50,15 +50,15 @@ passed t block live taken from end to at w empty few e f g none =
     (empty-is live w (sym e ∙ not-false empty both.0))
     (positive (taken + from) both.1) none)
 
-pub over_eights-at-requires : goal.over_eights-at-requires
-over_eights-at-requires c =
+pub over_eights-start-requires : goal.over_eights-start-requires
+over_eights-start-requires c =
     let a = c.args in (
       from_end a.from c.payable-end.result (length a.block.now) a.units c.requires.0 c.payable-end.ensures,
       short-end c.payable-end.result (length a.block.now) (a.from + a.units) c.payable-end.ensures,
     )
 
 pub loop-at-init : goal.loop-at-init
-loop-at-init c = c.over_eights-at.ensures
+loop-at-init c = c.over_eights-start.ensures
 
 pub bounds-block-at : goal.bounds-block-at
 bounds-block-at c =
@@ -84,4 +84,8 @@ loop-at-preserved c =
 pub returns : goal.returns
 returns c =
     let a = c.args in
-    passed a.words.now a.block.now a.live a.taken a.from c.payable-end.result (min (length a.block.now) (a.from + a.units)) c.loop-at.at (words-good a.live _ c.well_formed.0) c.is_empty.result _ c.is_empty.ensures c.if-is_empty-taken.false c.payable-end.ensures c.loop-at.invariant
+    let l = c.loop-at in
+    let b = a.block.now in
+    let end : l.at ≡ c.payable-end.result = omega (arith, l.invariant.inside, c.loop-at-test.false) in
+    passed a.words.now b a.live a.taken a.from c.payable-end.result (min (length b) (a.from + a.units)) c.payable-end.result (words-good a.live _ c.well_formed.0) c.is_empty.result _ c.is_empty.ensures c.if-is_empty-taken.false c.payable-end.ensures
+    (subst (NoOpener (automaton a.words.now) b a.from c.payable-end.result) end l.invariant)

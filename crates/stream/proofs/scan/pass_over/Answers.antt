@@ -9,8 +9,8 @@ use Rattle.stream.proofs.scan.pass_over.Goals as goal
 pub ahead-to-requires : goal.ahead-to-requires
 ahead-to-requires c = c.requires
 
-pub passed_side-last_side-requires : goal.passed_side-last_side-requires
-passed_side-last_side-requires c =
+pub passed_side-side-requires : goal.passed_side-side-requires
+passed_side-side-requires c =
     let n = length c.args.block.now in
     let paid = c.args.z.at + c.args.z.left in
     le_trans c.ahead-to.ensures.inside (short-end (min n paid) n paid refl)
@@ -33,13 +33,12 @@ returns c =
       skipped = came.ahead-to.ensures;
       is = λ i. record {
         live = z.live;
-        before = c.passed-last_live.ensures i;
+        before = c.passed-before.ensures i;
         reported = z.reported;
-        side = c.passed_side-last_side.ensures i;
+        side = c.passed_side-side.ensures i;
         waits = z.waits;
         at = to;
         count = z.count;
         left = z.left - (to - z.at);
-        stopped = z.stopped;
       };
     }

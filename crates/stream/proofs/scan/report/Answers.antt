@@ -8,6 +8,7 @@ use native.Mathlib.Numerals.{add-one}
 use Rattle.sets.specs.Set.{on, has, any, union_of}
 use Rattle.kinds.specs.declared.Side.{Side}
 use Rattle.table.specs.Layout.{max_positions}
+use Rattle.table.specs.Table.{is_table}
 use Rattle.table.specs.Gaps.{between, unsettled}
 use Rattle.table.specs.Automaton.{Automaton, automaton}
 use Rattle.table.proofs.Test.{passes}
@@ -91,8 +92,8 @@ own-found : (t next : List ℕ) (offset own : ℕ) → own ≡ rules_where (auto
     → own ≡ rules_where (automaton t) (windowed (automaton t) (ends (automaton t) unsettled next) (suc offset))
 own-found t next offset own e = e ∙ ap (λ (n : ℕ). rules_where (automaton t) (windowed (automaton t) (ends (automaton t) unsettled next) n)) (add-one offset)
 
-pub deliver-r-requires : goal.deliver-r-requires
-deliver-r-requires c =
+pub deliver-run-requires : goal.deliver-run-requires
+deliver-run-requires c =
     let a = c.args in
     let t = a.words.now in
     let lent = lists a.ids.now a.offsets.now in
@@ -106,17 +107,27 @@ deliver-r-requires c =
       c.requires.3,
     )
 
-pub returns : goal.returns
-returns c =
-    let r = c.deliver-r in
+-- what each arm hands on
+module _ (t live next : List ℕ) (old new : Side) (marks offset : ℕ) (l : Lists) (long : is_table t ≡ true) (late own : ℕ)
+    (late_is : late ≡ rules_where (automaton t) (late-test (automaton t) live next old new marks offset l))
+    (own_is : own ≡ rules_where (automaton t) (windowed (automaton t) (ends (automaton t) unsettled next) (offset + 1))) where
+  given-by : {full : Bool} {reports marks' : ℕ} {l' : Lists} → Delivered (automaton t) (on late) (on own) marks (given (automaton t) offset) (given (automaton t) (suc offset)) l full reports marks' l'
+      → Delivered (automaton t) (late-test (automaton t) live next old new marks offset l) (own-test (automaton t) live next old new marks offset l) marks (given (automaton t) offset) (given (automaton t) (suc offset)) l full reports marks' l'
+  given-by {full} {reports} {marks'} {l'} d =
+      looked (automaton t) live next old new marks offset l (rules-few t (passes t long).rules) late own late_is (own-found t next offset own own_is) full reports marks' l' d
+
+pub returns-in-Some : goal.returns-in-Some
+returns-in-Some c =
     let a = c.args in
-    let t = a.words.now in
-    let lent = lists a.ids.now a.offsets.now in
-    let few = rules-few t (passes t c.requires.0).rules in
-    let late = c.late_rules in
-    let own = own-found t a.next a.offset c.own_rules.result c.own_rules.ensures in
     record {
-      waits = c.meets-2.ensures ∙ ap (λ (s : List ℕ). any max_positions (λ q. has a.next q && has s q)) c.requires.1.late_is;
-      reports = looked (automaton t) a.live a.next a.old a.new a.reported a.offset lent few late.result c.own_rules.result late.ensures own
-          r.result.full r.result.reports r.result.reported (lists r.new.ids r.new.offsets) r.ensures;
+      waits = c.meets-waits.ensures ∙ ap (λ (s : List ℕ). any max_positions (λ q. has a.next q && has s q)) c.requires.1.late_is;
+      reports = given-by a.words.now a.live a.next a.old a.new a.reported a.offset (lists a.ids.now a.offsets.now) c.requires.0 c.late_rules.result c.own_rules.result c.late_rules.ensures c.own_rules.ensures c.in-Some.ensures;
+    }
+
+pub returns-in-None : goal.returns-in-None
+returns-in-None c =
+    let a = c.args in
+    record {
+      waits = c.meets-waits.ensures ∙ ap (λ (s : List ℕ). any max_positions (λ q. has a.next q && has s q)) c.requires.1.late_is;
+      reports = given-by a.words.now a.live a.next a.old a.new a.reported a.offset (lists a.ids.now a.offsets.now) c.requires.0 c.late_rules.result c.own_rules.result c.late_rules.ensures c.own_rules.ensures c.in-None.ensures;
     }

@@ -35,13 +35,11 @@ stepping t live old new among next taken x is side h e =
 pub returns-then-block-at : goal.returns-then-block-at
 returns-then-block-at c =
     let a = c.args in
-    offered-end (automaton a.words.now) a.taken a.block.now a.z (lists a.ids.now a.offsets.now) c.stop.result c.stop.ensures c.if-block-at.true
+    offered-end (automaton a.words.now) a.taken a.block.now a.z (lists a.ids.now a.offsets.now) c.if-block-at.true
 
 pub overflow_add-offset : goal.overflow_add-offset
 overflow_add-offset c =
-    let inside = c in
-    let start = c in
-    sum_fits start.args.taken start.args.z.at (length start.args.block.now) start.requires.4 (le_of_lt inside.if-block-at.false)
+    sum_fits c.args.taken c.args.z.at (length c.args.block.now) c.requires.4 (le_of_lt c.if-block-at.false)
 
 pub bounds-block-at : goal.bounds-block-at
 bounds-block-at c = c.if-block-at.false
@@ -54,54 +52,44 @@ overflow_add-cost c = omega (arith, c.ranges)
 
 pub returns-then-z-cost : goal.returns-then-z-cost
 returns-then-z-cost c =
-    let step = c in
-    let start = c in
-    let a = start.args in
+    let a = c.args in
     let t = a.words.now in
-    offered-unpaid (automaton t) a.taken a.block.now a.z (lists a.ids.now a.offsets.now) c.stop-then-z-cost.result c.stop-then-z-cost.ensures
-    step.step-after.result.turns (step.step-after.ensures.turns ∙ number-on t (size_of a.z.live) (passes t start.requires.0).long) c.if-z-cost.true
+    offered-unpaid (automaton t) a.taken a.block.now a.z (lists a.ids.now a.offsets.now)
+    c.step-after.result.turns (c.step-after.ensures.turns ∙ number-on t (size_of a.z.live) (passes t c.requires.0).long) c.if-z-cost.true
 
 pub offset_bounds-ids-count : goal.offset_bounds-ids-count
 offset_bounds-ids-count c =
-    let start = c in
-    ids_fit start.args.z.count (length start.args.ids.now) (length start.args.offsets.now) start.requires.3 start.well_formed.1.1.1.1.1.0.1
+    ids_fit c.args.z.count (length c.args.ids.now) (length c.args.offsets.now) c.requires.3 c.well_formed.1.1.1.1.1.0.1
 
 pub slice_bounds-report-count : goal.slice_bounds-report-count
 slice_bounds-report-count c =
-    let start = c in
-    enough-left start.args.z.count (length start.args.ids.now) (length start.args.offsets.now) start.requires.3
+    enough-left c.args.z.count (length c.args.ids.now) (length c.args.offsets.now) c.requires.3
 
 pub slice_bounds-report-start : goal.slice_bounds-report-start
 slice_bounds-report-start c =
-    let start = c in
-    enough-left start.args.z.count (length start.args.ids.now) (length start.args.offsets.now) start.requires.3
+    enough-left c.args.z.count (length c.args.ids.now) (length c.args.offsets.now) c.requires.3
 
 pub slice_bounds-report-end : goal.slice_bounds-report-end
 slice_bounds-report-end c = le_refl (length c.args.ids.now)
 
 pub offset_bounds-offsets-count : goal.offset_bounds-offsets-count
 offset_bounds-offsets-count c =
-    let start = c in
-    offsets_fit start.args.z.count (length start.args.ids.now) (length start.args.offsets.now) start.requires.3 start.well_formed.1.1.1.1.1.1.0.1
+    offsets_fit c.args.z.count (length c.args.ids.now) (length c.args.offsets.now) c.requires.3 c.well_formed.1.1.1.1.1.1.0.1
 
 pub slice_bounds-report-count-2 : goal.slice_bounds-report-count-2
 slice_bounds-report-count-2 c =
-    let start = c in
-    enough-right start.args.z.count (length start.args.ids.now) (length start.args.offsets.now) start.requires.3
+    enough-right c.args.z.count (length c.args.ids.now) (length c.args.offsets.now) c.requires.3
 
 pub slice_bounds-report-start-2 : goal.slice_bounds-report-start-2
 slice_bounds-report-start-2 c =
-    let start = c in
-    enough-right start.args.z.count (length start.args.ids.now) (length start.args.offsets.now) start.requires.3
+    enough-right c.args.z.count (length c.args.ids.now) (length c.args.offsets.now) c.requires.3
 
 pub slice_bounds-report-end-2 : goal.slice_bounds-report-end-2
 slice_bounds-report-end-2 c = le_refl (length c.args.offsets.now)
 
 pub report-r-requires : goal.report-r-requires
 report-r-requires c =
-    let start = c in
-    let inside = c in
-    (start.requires.0, start.requires.1, start.requires.2, next_small start.args.taken start.args.z.at (length start.args.block.now) start.requires.4 inside.if-block-at.false)
+    (c.requires.0, c.requires.1, c.requires.2, next_small c.args.taken c.args.z.at (length c.args.block.now) c.requires.4 c.if-block-at.false)
 
 pub returns-then-r : goal.returns-then-r
 returns-then-r c =
@@ -119,7 +107,7 @@ returns-then-r c =
       wait = c.report-r.ensures.waits;
       delivered = c.report-r.ensures.reports;
     } in
-    offered-full told c.stop-then-r.result c.stop-then-r.ensures c.if-r.true
+    offered-full told c.if-r.true
 
 pub overflow_add-result : goal.overflow_add-result
 overflow_add-result c =

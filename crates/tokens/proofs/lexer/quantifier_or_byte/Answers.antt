@@ -1,37 +1,20 @@
 -- `tokens::lexer::quantifier_or_byte` meets its contract: a quantifier stands at the place or not.
 -- What it takes stands in the pattern, so no sum wraps.
-use native.Mathlib.Omega.{arith}
+use Rattle.std.proofs.Common.{◌∙◌, sym, arith, Some}
+use Rattle.tokens.specs.Answer.{quantifier}
 use Rattle.tokens.proofs.Lexemes.{form-fits, quantifier-is}
 use Rattle.tokens.proofs.lexer.quantifier_or_byte.Goals as goal
 
-pub overflow_add-mark : goal.overflow_add-mark
-overflow_add-mark c =
-    let args = c.args in
-    let s = args.s.now in
-    let at = args.at in
-    let form-at = c.form_at-q in
-    omega (arith, form-fits s at form-at.result form-at.ensures)
+pub overflow_add-at : goal.overflow_add-at
+overflow_add-at c = omega (arith, form-fits c.args.s.now c.args.at (quantifier (Some c.in-Some.q)) c.in-Some.ensures)
 
 pub marked_form-requires : goal.marked_form-requires
-marked_form-requires c =
-    let args = c.args in
-    let s = args.s.now in
-    let at = args.at in
-    let form-at = c.form_at-q in
-    omega (arith, form-fits s at form-at.result form-at.ensures)
+marked_form-requires c = omega (arith, form-fits c.args.s.now c.args.at (quantifier (Some c.in-Some.q)) c.in-Some.ensures)
 
-pub returns-then-is : goal.returns-then-is
-returns-then-is c =
-    let args = c.args in
-    let form-at = c.form_at-q in
-    let if1 = c.if-is in
-    let s = args.s.now in
-    let at = args.at in
-    let peek = c.peek in
-    rw (← form-at.ensures, if1.true, quantifier-is s at form-at.result form-at.ensures peek.result peek.ensures)
+pub returns-in-Some : goal.returns-in-Some
+returns-in-Some c =
     c.marked_form.ensures
+    ∙ sym (rw (← c.in-Some.ensures) (quantifier-is c.args.s.now c.args.at (quantifier (Some c.in-Some.q)) c.in-Some.ensures c.peek.result c.peek.ensures))
 
-pub returns : goal.returns
-returns c =
-    let form-at = c.form_at-q in
-    rw (← form-at.ensures, c.if-is.false) c.plain.ensures
+pub returns-in-None : goal.returns-in-None
+returns-in-None c = rw (← c.in-None.ensures) c.plain.ensures

@@ -1,42 +1,19 @@
--- `tokens::option::comment` meets its contract. The invariant: no `)` stands before i.
-use mathlib.Core.Path.{sym, ◌∙◌}
-use Prim.Native.Nat.{◌-◌}
-use native.Mathlib.Omega.{arith}
-use Rattle.tokens.proofs.Letters.{before-end, before-close, before_more, comment-closed, comment_open}
+-- `tokens::option::comment` meets its contract: a `)` stands after the opening, or none.
+use Rattle.std.proofs.Common.{◌∙◌, ap, sym, arith, List, ℕ, length, drop, ◌+◌}
+use Rattle.tokens.specs.Option.{plain, comment_of}
+use Rattle.tokens.specs.Lexeme.{Unclosed}
+use Rattle.tokens.proofs.Letters.{close-inside, comment-closed, comment-open}
 use Rattle.tokens.proofs.option.comment.Goals as goal
 
-pub loop-i-init : goal.loop-i-init
-loop-i-init c = (omega arith, c.requires, omega arith)
+pub overflow_add-end : goal.overflow_add-end
+overflow_add-end c = omega (arith, (close-inside c.rest-text.result.now c.in-Some.end (sym c.in-Some.ensures)).1)
 
-pub returns-then-s-i-eq41 : goal.returns-then-s-i-eq41
-returns-then-s-i-eq41 c =
-    let args = c.args in
-    let s = args.s.now in
-    let at = args.at in
-    let loop = c.loop-i in
+pub returns-in-Some : goal.returns-in-Some
+returns-in-Some c =
     c.plain.ensures
-    ∙ sym
-    (comment-closed s args.options at (loop.i - at) (omega (
-      arith,
-      loop.invariant.2,
-      before-close s loop.i
-          c.loop-i-test.true c.if-s-i-eq41.true,
-    )) (omega arith))
+    ∙ sym (ap (comment_of c.args.options) (sym c.rest-text.ensures) ∙ comment-closed c.rest-text.result.now c.args.options c.in-Some.end (sym c.in-Some.ensures))
 
-pub loop-i-preserved : goal.loop-i-preserved
-loop-i-preserved c =
-    let args = c.args in
-    let s = args.s.now in
-    let loop = c.loop-i in
-    (omega arith, omega arith, omega (arith, loop.invariant.2, before_more s loop.i c.loop-i-test.true c.if-s-i-eq41.false))
-
-pub returns : goal.returns
-returns c =
-    let args = c.args in
-    let s = args.s.now in
-    let at = args.at in
-    let loop = c.loop-i in
-    c.plain-2.ensures
-    ∙ sym
-    (comment_open s args.options at (loop.i - at) (omega (arith, loop.invariant.2, before-end s loop.i c.loop-i-test.false))
-    (omega arith))
+pub returns-in-None : goal.returns-in-None
+returns-in-None c =
+    c.plain-in-None.ensures
+    ∙ sym (ap (comment_of c.args.options) (sym c.rest-text.ensures) ∙ comment-open c.rest-text.result.now c.args.options (sym c.in-None.ensures))

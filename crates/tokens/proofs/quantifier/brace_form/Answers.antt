@@ -1,135 +1,84 @@
 -- `tokens::quantifier::brace_form` meets its contract: the definition, read at the two numbers and
 -- the bytes after them, goes by the tests of the code. The digits stand within the pattern, so no
 -- sum wraps.
-use mathlib.Core.Path.{◌≡◌}
-use mathlib.Core.Bool.{true, false}
-use mathlib.Core.List.{List}
-use Prim.Native.Nat.{ℕ, ◌+◌, ◌-◌, ◌≤◌}
-use native.Mathlib.Omega.{arith}
-use lib.ListN.{length, drop}
-use Rattle.atoms.specs.Number.{numeral_of}
-use Rattle.atoms.specs.declared.Numeral.{Numeral}
+use Rattle.std.proofs.Common.{◌≡◌, ◌∙◌, ap, refl, sym, arith, List, ℕ, ◌+◌, ◌-◌, ◌≤◌, length, drop, Some, None}
+use Rattle.atoms.specs.Number.{Numeral, numeral_of}
+use Rattle.atoms.specs.Answer.{numeral}
 use Rattle.atoms.proofs.Digits.{numeral-fits}
-use Rattle.tokens.proofs.Forms.{braces-one, braces-two}
+use Rattle.tokens.specs.Quantifier.{bounded}
+use Rattle.tokens.proofs.Forms.{braces-closed, braces-other, braces-unclosed, braces-pair}
 use Rattle.tokens.proofs.quantifier.brace_form.Goals as goal
 
 -- the digits of the first number stand in the pattern, and those of the second after them
-first_fits : (s : List ℕ) (at : ℕ) (a : Numeral) → a ≡ numeral_of 10 (drop at s) → a.size ≤ length s - at
-first_fits s at a e = numeral-fits 10 s at a e
-
-both-fit : (s : List ℕ) (at : ℕ) (a b : Numeral) → at ≤ length s → a ≡ numeral_of 10 (drop at s) → b ≡ numeral_of 10 (drop (at + a.size + 1) s) → a.size + b.size ≤ length s
-both-fit s at a b h e f = omega (arith, first_fits s at a e, numeral-fits 10 s (at + a.size + 1) b f)
+both-fit : (s : List ℕ) (at : ℕ) (a b : Numeral) → at ≤ length s → a ≡ numeral_of 10 (drop at s) → b ≡ numeral_of 10 (drop (at + a.size + 1) s) → a.size + b.size ≤ length s - at
+both-fit s at a b h e f = omega (arith, numeral-fits 10 s at a e, numeral-fits 10 s (at + a.size + 1) b f)
 
 pub overflow_add-comma : goal.overflow_add-comma
-overflow_add-comma c = omega (arith, first_fits c.args.s.now c.args.at c.decimal_at-a.result c.decimal_at-a.ensures)
-
-pub overflow_add-digits : goal.overflow_add-digits
-overflow_add-digits c = omega (arith, first_fits c.args.s.now c.args.at c.decimal_at-a.result c.decimal_at-a.ensures)
-
-pub returns-then-from : goal.returns-then-from
-returns-then-from c =
-    let args = c.args in
-    let a = c.decimal_at-a in
-    let s = args.s.now in
-    let at = args.at in
-    let p = c.peek-c in
-    let from : a.result.some ≡ true = c.if-from.true in
-    rw (braces-one s at a.result p.result a.ensures p.ensures c.if-c-eq125.true, from) c.bounded_form.ensures
-
-pub returns-then-c-eq125 : goal.returns-then-c-eq125
-returns-then-c-eq125 c =
-    let args = c.args in
-    let a = c.decimal_at-a in
-    let s = args.s.now in
-    let at = args.at in
-    let p = c.peek-c in
-    let from : a.result.some ≡ false = c.if-from.false in
-    rw (braces-one s at a.result p.result a.ensures p.ensures c.if-c-eq125.true, from) c.no_form.ensures
-
-pub overflow_add-comma-2 : goal.overflow_add-comma-2
-overflow_add-comma-2 c = omega (arith, first_fits c.args.s.now c.args.at c.decimal_at-a.result c.decimal_at-a.ensures)
+overflow_add-comma c = omega (arith, numeral-fits 10 c.args.s.now c.args.at (numeral c.decimal_at-a.result) c.decimal_at-a.ensures)
 
 pub overflow_add-size : goal.overflow_add-size
-overflow_add-size c = omega (arith, both-fit c.args.s.now c.args.at c.decimal_at-a.result c.decimal_at-b.result c.requires c.decimal_at-a.ensures c.decimal_at-b.ensures)
+overflow_add-size c = omega (
+  arith,
+  both-fit c.args.s.now c.args.at (numeral c.decimal_at-a.result) (numeral c.decimal_at-b.result) c.requires c.decimal_at-a.ensures
+      c.decimal_at-b.ensures,
+)
 
-pub overflow_add-size-2 : goal.overflow_add-size-2
-overflow_add-size-2 c = omega (arith, both-fit c.args.s.now c.args.at c.decimal_at-a.result c.decimal_at-b.result c.requires c.decimal_at-a.ensures c.decimal_at-b.ensures)
+pub overflow_add-size-in-44 : goal.overflow_add-size-in-44
+overflow_add-size-in-44 c = omega (
+  arith,
+  both-fit c.args.s.now c.args.at (numeral c.decimal_at-a.result) (numeral c.decimal_at-b.result) c.requires c.decimal_at-a.ensures
+      c.decimal_at-b.ensures,
+)
 
-pub overflow_add-more : goal.overflow_add-more
-overflow_add-more c = omega (arith, both-fit c.args.s.now c.args.at c.decimal_at-a.result c.decimal_at-b.result c.requires c.decimal_at-a.ensures c.decimal_at-b.ensures)
+pub overflow_add-b : goal.overflow_add-b
+overflow_add-b c = omega (
+  arith,
+  both-fit c.args.s.now c.args.at (numeral c.decimal_at-a.result) (numeral c.decimal_at-b.result) c.requires c.decimal_at-a.ensures
+      c.decimal_at-b.ensures,
+)
 
-pub overflow_add-comma-3 : goal.overflow_add-comma-3
-overflow_add-comma-3 c = omega (arith, first_fits c.args.s.now c.args.at c.decimal_at-a.result c.decimal_at-a.ensures, both-fit c.args.s.now c.args.at c.decimal_at-a.result c.decimal_at-b.result c.requires c.decimal_at-a.ensures c.decimal_at-b.ensures)
+pub overflow_add-comma-in-44-2 : goal.overflow_add-comma-in-44-2
+overflow_add-comma-in-44-2 c = omega (
+  arith,
+  both-fit c.args.s.now c.args.at (numeral c.decimal_at-a.result) (numeral c.decimal_at-b.result) c.requires c.decimal_at-a.ensures
+      c.decimal_at-b.ensures,
+)
 
-pub returns-then-to : goal.returns-then-to
-returns-then-to c =
-    let args = c.args in
-    let s = args.s.now in
-    let at = args.at in
-    let a = c.decimal_at-a in
-    let p = c.peek-c in
-    let b = c.decimal_at-b in
-    let q = c.peek in
-    let if1 = c.if-c-eq125 in
-    rw (
-      braces-two s at a.result p.result a.ensures p.ensures b.result q.result b.ensures q.ensures if1.false,
-      c.if-c-peek.true,
-      c.if-to.true,
-    )
-    c.bounded_form-then-to.ensures
+pub returns-in-Some : goal.returns-in-Some
+returns-in-Some c =
+    c.bounded_form.ensures
+    ∙ sym (braces-closed c.args.s.now c.args.at c.decimal_at-a.result c.peek.result c.decimal_at-a.ensures c.peek.ensures (Some c.in-Some.n) c.in-Some.is c.in-125.is)
 
-pub returns-then-from-2 : goal.returns-then-from-2
-returns-then-from-2 c =
-    let args = c.args in
-    let a = c.decimal_at-a in
-    let s = args.s.now in
-    let at = args.at in
-    let p = c.peek-c in
-    let b = c.decimal_at-b in
-    let q = c.peek in
-    let if1 = c.if-c-eq125 in
-    let if3 = c.if-c-peek in
-    let from : a.result.some ≡ true = c.if-from-2.true in
-    rw (
-      braces-two s at a.result p.result a.ensures p.ensures b.result q.result b.ensures q.ensures if1.false,
-      if3.true,
-      c.if-to.false,
-      from,
-    )
+pub returns-in-None : goal.returns-in-None
+returns-in-None c =
+    sym (braces-closed c.args.s.now c.args.at c.decimal_at-a.result c.peek.result c.decimal_at-a.ensures c.peek.ensures None c.in-None.is c.in-125.is)
+
+pub returns-then-peek-ne125 : goal.returns-then-peek-ne125
+returns-then-peek-ne125 c =
+    sym (braces-unclosed c.args.s.now c.args.at c.decimal_at-a.result c.peek.result c.decimal_at-a.ensures c.peek.ensures
+    c.decimal_at-b.result c.peek-in-44.result c.decimal_at-b.ensures c.peek-in-44.ensures c.in-44.is c.if-peek-ne125.true)
+
+pub returns-in_default-Some : goal.returns-in_default-Some
+returns-in_default-Some c =
+    c.bounded_form-in_default-Some.ensures
+    ∙ ap (λ (lo : ℕ). bounded (3 + (c.decimal_at-a.result.size + c.decimal_at-b.result.size)) lo c.in_default-Some.hi) c.unwrap_or.ensures
+    ∙ sym (braces-pair c.args.s.now c.args.at c.decimal_at-a.result c.peek.result c.decimal_at-a.ensures c.peek.ensures
+    c.decimal_at-b.result c.peek-in-44.result c.decimal_at-b.ensures c.peek-in-44.ensures c.in-44.is
+    c.decimal_at-a.result.value (Some c.in_default-Some.hi) refl c.in_default-Some.is-1 c.if-peek-ne125.false)
+
+pub returns-in-Some-None : goal.returns-in-Some-None
+returns-in-Some-None c =
     c.open_form.ensures
+    ∙ sym (braces-pair c.args.s.now c.args.at c.decimal_at-a.result c.peek.result c.decimal_at-a.ensures c.peek.ensures
+    c.decimal_at-b.result c.peek-in-44.result c.decimal_at-b.ensures c.peek-in-44.ensures c.in-44.is
+    (Some c.in-Some-None.lo) None c.in-Some-None.is-0 c.in-Some-None.is-1 c.if-peek-ne125.false)
 
-pub returns-then-c-peek : goal.returns-then-c-peek
-returns-then-c-peek c =
-    let args = c.args in
-    let a = c.decimal_at-a in
-    let s = args.s.now in
-    let at = args.at in
-    let p = c.peek-c in
-    let b = c.decimal_at-b in
-    let q = c.peek in
-    let if1 = c.if-c-eq125 in
-    let if3 = c.if-c-peek in
-    let from : a.result.some ≡ false = c.if-from-2.false in
-    rw (
-      braces-two s at a.result p.result a.ensures p.ensures b.result q.result b.ensures q.ensures if1.false,
-      if3.true,
-      c.if-to.false,
-      from,
-    )
-    c.no_form-then-c-peek.ensures
+pub returns-in-None-None : goal.returns-in-None-None
+returns-in-None-None c =
+    sym (braces-pair c.args.s.now c.args.at c.decimal_at-a.result c.peek.result c.decimal_at-a.ensures c.peek.ensures
+    c.decimal_at-b.result c.peek-in-44.result c.decimal_at-b.ensures c.peek-in-44.ensures c.in-44.is
+    None None c.in-None-None.is-0 c.in-None-None.is-1 c.if-peek-ne125.false)
 
-pub returns : goal.returns
-returns c =
-    let args = c.args in
-    let s = args.s.now in
-    let at = args.at in
-    let a = c.decimal_at-a in
-    let p = c.peek-c in
-    let b = c.decimal_at-b in
-    let q = c.peek in
-    let if1 = c.if-c-eq125 in
-    rw (
-      braces-two s at a.result p.result a.ensures p.ensures b.result q.result b.ensures q.ensures if1.false,
-      c.if-c-peek.false,
-    )
-    c.no_form-2.ensures
+pub returns-in_default : goal.returns-in_default
+returns-in_default c =
+    sym (braces-other c.args.s.now c.args.at c.decimal_at-a.result c.peek.result c.decimal_at-a.ensures c.peek.ensures (λ e. omega arith) (λ e. omega arith))

@@ -65,4 +65,4 @@ returns-in_default c =
       ne_eqb _ _ other.0.0.1,
       ne_eqb _ _ other.0.1,
       ne_eqb _ _ other.1,
-    ) c.no_form.ensures
+    )

@@ -13,7 +13,7 @@ none n = list-is n (replicate n 0) (λ q. 0) (zeros-length n) (λ q lt. zeros-at
 pub returns : goal.returns
 unfolding opened
 returns c =
-    let is = c.open-r.ensures in
+    let is = c.open-opened.ensures in
     λ i. record {
       number = (is i).number;
       traced = record { stream = (is i).stream; starts = record { live = none 256 i; held = none 256 i; pairs = none 64 i } };

@@ -7,8 +7,8 @@ use Rattle.traced.proofs.Bounds.{pass_fits}
 use Rattle.traced.proofs.Passing.{passed}
 use Rattle.traced.proofs.pass.pass_over.Goals as goal
 
-pub passed_side-last-requires : goal.passed_side-last-requires
-passed_side-last-requires c = let e = (c.pass_end-to.ensures.inside c.requires.0).unopened.inside in omega (arith, e)
+pub passed_side-requires : goal.passed_side-requires
+passed_side-requires c = let e = (c.pass_end-to.ensures.inside c.requires.0).unopened.inside in omega (arith, e)
 
 pub overflow_sub-passed : goal.overflow_sub-passed
 overflow_sub-passed c = (c.pass_end-to.ensures.inside c.requires.0).unopened.rises
@@ -31,10 +31,10 @@ returns c =
     (λ i. record {
       stream = record {
         live = y.stream.live;
-        held = c.passed_set-held.ensures i;
+        held = c.passed_set.ensures i;
         reported = y.stream.reported;
-        pending = c.passed_pairs-pending.ensures i;
-        last = c.passed_side-last.ensures i;
+        pending = c.passed_pairs.ensures i;
+        last = c.passed_side.ensures i;
         taken = y.stream.taken + (to - y.at);
         rules = y.stream.rules;
         positions = y.stream.positions;
@@ -45,5 +45,4 @@ returns c =
       left = y.left - (to - y.at);
       some = y.some;
       waits = y.waits;
-      stopped = y.stopped;
     })

@@ -21,7 +21,7 @@ use Rattle.stream.proofs.Accepting.{pending-rules}
 use Rattle.stream.proofs.Runs.{alone}
 use Rattle.traced.specs.Byte.{end_long}
 use Rattle.traced.specs.Calls.{lists, space}
-use Rattle.traced.specs.Invariants.{state_of}
+use Rattle.traced.specs.Invariants.{state_by}
 use Rattle.traced.proofs.Delivering.{starts-small}
 use Rattle.traced.proofs.Closing.{end-under, closing-room, ended}
 use Rattle.traced.proofs.reports.write_closing.Goals as goal
@@ -40,24 +40,24 @@ pub write_two-run-requires : goal.write_two-run-requires
 write_two-run-requires c =
     let a = c.args in
     let s = a.s in
+    let state = state_by s a.kept.now in
     let t = a.words.now in
     let w = automaton t in
     let p = c.requires in
     let long = (passes t p.0).long in
     let few = rules-few t (passes t p.0).rules in
-    let state = state_of s a.live.now a.held.now a.pairs.now in
-    let counts = long_in w s.live a.live.now s.taken in
-    let waits = long_in w s.held a.held.now s.taken in
+    let counts = long_in w s.live state.starts.live s.taken in
+    let waits = long_in w s.held state.starts.held s.taken in
     let found-is : c.in_window-found.result ≡ rules_where w (end_long w state) =
     window-is t (ends-late w s.last counts waits) s.taken long
     (c.closing.ensures ∙ number-on t (rules_where w (ends-late w s.last c.long_in-counts.result c.long_in-waits.result)) long
     ∙ ap₂ (λ (l h : List ℕ). rules_where w (ends-late w s.last l h)) (c.long_in-counts.ensures ∙ set_on_lem t counts long) (c.long_in-waits.ensures ∙ set_on_lem t waits long)) c.in_window-found.ensures in
     let small : s.pending < 2 ^ 64 = search rules in
     let kept-is : c.in_window-held_pairs.result ≡ rules_where w (held_test w s) =
-    window-is t (on s.pending) c.before_last-earlier.result long (pending-rules w s p.1 small) c.in_window-held_pairs.ensures
-    ∙ ap (λ (e : ℕ). rules_where w (windowed w (on s.pending) e)) c.before_last-earlier.ensures in
+    window-is t (on s.pending) c.saturating_sub-earlier.result long (pending-rules w s p.1 small) c.in_window-held_pairs.ensures
+    ∙ ap (λ (e : ℕ). rules_where w (windowed w (on s.pending) e)) c.saturating_sub-earlier.ensures in
     let flags : c.leftmosts-leftmost.result ≡ rules_where w w.leftmost = c.leftmosts-leftmost.ensures ∙ number-on t (rules_where w w.leftmost) long in
-    let before = c.before_last-earlier in (
+    let before = c.saturating_sub-earlier in (
       p.0,
       record { single_is = c.singles.ensures ∙ number-on t (rules_where w (single w)) long; leftmost_is = flags; first_small = p.2 },
       p.3,
@@ -72,23 +72,23 @@ pub returns : goal.returns
 returns c =
     let a = c.args in
     let s = a.s in
+    let state = state_by s a.kept.now in
     let t = a.words.now in
     let w = automaton t in
     let p = c.requires in
     let long = (passes t p.0).long in
     let few = rules-few t (passes t p.0).rules in
-    let state = state_of s a.live.now a.held.now a.pairs.now in
-    let counts = long_in w s.live a.live.now s.taken in
-    let waits = long_in w s.held a.held.now s.taken in
+    let counts = long_in w s.live state.starts.live s.taken in
+    let waits = long_in w s.held state.starts.held s.taken in
     let found-is : c.in_window-found.result ≡ rules_where w (end_long w state) =
     window-is t (ends-late w s.last counts waits) s.taken long
     (c.closing.ensures ∙ number-on t (rules_where w (ends-late w s.last c.long_in-counts.result c.long_in-waits.result)) long
     ∙ ap₂ (λ (l h : List ℕ). rules_where w (ends-late w s.last l h)) (c.long_in-counts.ensures ∙ set_on_lem t counts long) (c.long_in-waits.ensures ∙ set_on_lem t waits long)) c.in_window-found.ensures in
     let small : s.pending < 2 ^ 64 = search rules in
     let kept-is : c.in_window-held_pairs.result ≡ rules_where w (held_test w s) =
-    window-is t (on s.pending) c.before_last-earlier.result long (pending-rules w s p.1 small) c.in_window-held_pairs.ensures
-    ∙ ap (λ (e : ℕ). rules_where w (windowed w (on s.pending) e)) c.before_last-earlier.ensures in
+    window-is t (on s.pending) c.saturating_sub-earlier.result long (pending-rules w s p.1 small) c.in_window-held_pairs.ensures
+    ∙ ap (λ (e : ℕ). rules_where w (windowed w (on s.pending) e)) c.saturating_sub-earlier.ensures in
     let flags : c.leftmosts-leftmost.result ≡ rules_where w w.leftmost = c.leftmosts-leftmost.ensures ∙ number-on t (rules_where w w.leftmost) long in
-    let before = c.before_last-earlier in
+    let before = c.saturating_sub-earlier in
     ended w few state c.in_window-held_pairs.result c.in_window-found.result c.leftmosts-leftmost.result kept-is found-is flags
     before.result before.ensures c.end_starts-ends.result c.end_starts-ends.ensures c.write_two-run.ensures

@@ -1,6 +1,6 @@
 -- `traced::scan::carry_waiting` meets its contract: nothing keeps a start before the byte nor after
 -- it, or the starts are stepped.
-use mathlib.Core.Path.{◌≡◌, sym, ap, ap₂, ◌∙◌}
+use mathlib.Core.Path.{◌≡◌, refl, sym, ap, ap₂, ◌∙◌}
 use mathlib.Core.Bool.{Bool, true, false, not, ◌||◌}
 use mathlib.Core.List.{List}
 use Prim.Native.Nat.{ℕ}
@@ -40,15 +40,16 @@ returns-then-not-some-more c =
     let t = a.words.now in
     let both = neither a.some (not c.is_empty.result || not (eqb (bit_and a.waiting.pending a.gates.leftmost) 0)) c.if-not-some-more.true-raw in
     let was = c.requires.4 both.0 in
-    let all = none t s a.live.now a.byte a.waiting.pending a.gates.leftmost c.intersection-reached.result c.is_empty.result (c.intersection-reached.ensures ∙ ap₂ intersection_of c.requires.2 c.requires.1.keepers_are) c.is_empty.ensures c.requires.3 c.requires.1.leftmost_is both.1 in
+    let all = none t s a.kept.now.live a.byte a.waiting.pending a.gates.leftmost c.intersection-reached.result c.is_empty.result (c.intersection-reached.ensures ∙ ap₂ intersection_of c.requires.2 c.requires.1.keepers_are) c.is_empty.ensures c.requires.3 c.requires.1.leftmost_is both.1 in
     record {
+      live = refl;
       held = was.0 ∙ sym all.0;
       pairs = was.1 ∙ sym all.1;
       none = λ e. was;
     }
 
-pub starts_of-kept-requires : goal.starts_of-kept-requires
-starts_of-kept-requires c = (passes c.args.words.now c.requires.0).long
+pub starts_of-paired-requires : goal.starts_of-paired-requires
+starts_of-paired-requires c = (passes c.args.words.now c.requires.0).long
 
 pub returns : goal.returns
 returns c =
@@ -58,14 +59,15 @@ returns c =
     let w = automaton t in
     let reached = (c.intersection-reached.ensures ∙ ap₂ intersection_of c.requires.2 c.requires.1.keepers_are) in
     let held = c.step_starts-stepped.ensures
-    ∙ sym (list_on_lem t max_positions (stepped_starts w true s.last c.side_of.result c.intersection-was.result a.live.now c.intersection-reached.result s.taken) (passes t c.requires.0).long)
-    ∙ (λ i. stepped_starts w true s.last (c.side_of.ensures i) ((c.intersection-was.ensures ∙ ap (intersection_of s.live) c.requires.1.keepers_are) i) a.live.now (reached i) s.taken) in
-    let pairs = pairs-are w s a.live.now a.byte a.waiting.pending a.gates.leftmost c.requires.3 c.requires.1.leftmost_is c.starts_of-kept.result
-    (subst (λ (g : ℕ). RuleStarts (bit_and a.waiting.pending a.gates.leftmost) (start_at w g s.live a.live.now s.taken) c.starts_of-kept.result) c.before_last.ensures c.starts_of-kept.ensures) in
+    ∙ sym (list_on_lem t max_positions (stepped_starts w true s.last c.side_of.result c.intersection-was.result a.kept.now.live c.intersection-reached.result s.taken) (passes t c.requires.0).long)
+    ∙ (λ i. stepped_starts w true s.last (c.side_of.ensures i) ((c.intersection-was.ensures ∙ ap (intersection_of s.live) c.requires.1.keepers_are) i) a.kept.now.live (reached i) s.taken) in
+    let pairs = pairs-are w s a.kept.now.live a.byte a.waiting.pending a.gates.leftmost c.requires.3 c.requires.1.leftmost_is c.starts_of-paired.result
+    (subst (λ (g : ℕ). RuleStarts (bit_and a.waiting.pending a.gates.leftmost) (start_at w g s.live a.kept.now.live s.taken) c.starts_of-paired.result) c.before_last.ensures c.starts_of-paired.ensures) in
     record {
+      live = refl;
       held = held;
       pairs = pairs;
       none = λ e.
-          let all = none t s a.live.now a.byte a.waiting.pending a.gates.leftmost c.intersection-reached.result c.is_empty.result reached c.is_empty.ensures c.requires.3 c.requires.1.leftmost_is e in
+          let all = none t s a.kept.now.live a.byte a.waiting.pending a.gates.leftmost c.intersection-reached.result c.is_empty.result reached c.is_empty.ensures c.requires.3 c.requires.1.leftmost_is e in
           (held ∙ all.0, pairs ∙ all.1);
     }

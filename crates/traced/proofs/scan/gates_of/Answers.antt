@@ -14,28 +14,18 @@ use Rattle.traced.proofs.scan.gates_of.Goals as goal
 
 pub bounds-words-2 : goal.bounds-words-2
 bounds-words-2 c =
-    let c-start = c in
-    positions-word (length c-start.args.words.now) c-start.requires
+    positions-word (length c.args.words.now) c.requires
 
 pub returns : goal.returns
 returns c =
-    let c-leftmosts = c.leftmosts in
-    let c-singles = c.singles in
-    let c-keepers = c.keepers-keepers in
-    let c-lates = c.lates-late in
-    let c-lasts = c.lasts-last in
-    let c-below = c.below-positions in
-    let back = c in
-    let c-full = back.full in
-    let c-start = back.before.before.before in
-    let t = c-start.args.words.now in
+    let t = c.args.words.now in
     let w = automaton t in
-    let long = c-start.requires in
+    let long = c.requires in
     record {
-      last_is = c-lasts.ensures ∙ set_on_lem t (lasts_of w) long;
-      late_is = c-lates.ensures ∙ set_on_lem t (lates_of w) long;
-      keepers_are = c-keepers.ensures ∙ set_on_lem t (keepers_of w) long;
-      positions_is = c-below.ensures ∙ ap (λ (s : List ℕ). kept_below s (positions_of t)) c-full.ensures;
-      single_is = c-singles.ensures ∙ number-on t (rules_where w (single w)) long;
-      leftmost_is = c-leftmosts.ensures ∙ number-on t (rules_where w w.leftmost) long;
+      last_is = c.lasts.ensures ∙ set_on_lem t (lasts_of w) long;
+      late_is = c.lates.ensures ∙ set_on_lem t (lates_of w) long;
+      keepers_are = c.keepers.ensures ∙ set_on_lem t (keepers_of w) long;
+      positions_is = c.below.ensures ∙ ap (λ (s : List ℕ). kept_below s (positions_of t)) c.full.ensures;
+      single_is = c.singles.ensures ∙ number-on t (rules_where w (single w)) long;
+      leftmost_is = c.leftmosts.ensures ∙ number-on t (rules_where w w.leftmost) long;
     }

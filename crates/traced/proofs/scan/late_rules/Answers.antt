@@ -32,27 +32,20 @@ late-none w s live x late is e =
 
 pub returns-then-meets : goal.returns-then-meets
 returns-then-meets c =
-    let c-late-ending = c.late_ending in
-    let c-side-of = c.side_of in
-    let c-long-in = c.long_in-counts in
-    let back = c in
-    let c-start = back.before.before.before in
-    let a = c-start.args in
+    let a = c.args in
     let s = a.s in
     let t = a.words.now in
     let w = automaton t in
-    let long = (passes t c-start.requires.0).long in
+    let long = (passes t c.requires.0).long in
     let counts = long_in w s.live a.live.now s.taken in
+    let here = c.long_in-counts in
     window-is t (ends_newly w (between s.last (side_of a.byte)) (late_in w counts) unsettled counts) s.taken long
-    (c-late-ending.ensures
-    ∙ number-on t (rules_where w (ends_newly w (between s.last c-side-of.result) (late_in w c-long-in.result) unsettled c-long-in.result)) long
-    ∙ ap₂ (λ (y : Side) (l : List ℕ). rules_where w (ends_newly w (between s.last y) (late_in w l) unsettled l)) c-side-of.ensures (c-long-in.ensures ∙ set_on_lem t counts long))
+    (c.late_ending.ensures
+    ∙ number-on t (rules_where w (ends_newly w (between s.last c.side_of.result) (late_in w here.result) unsettled here.result)) long
+    ∙ ap₂ (λ (y : Side) (l : List ℕ). rules_where w (ends_newly w (between s.last y) (late_in w l) unsettled l)) c.side_of.ensures (here.ensures ∙ set_on_lem t counts long))
     c.in_window.ensures
 
 pub returns-else-meets : goal.returns-else-meets
 returns-else-meets c =
-    let c-if1 = c.if-meets in
-    let c-meets = c.meets in
-    let c-start = c in
-    let a = c-start.args in
-    late-none (automaton a.words.now) a.s a.live.now a.byte a.gates.late c-start.requires.1.late_is (sym c-meets.ensures ∙ c-if1.false)
+    let a = c.args in
+    late-none (automaton a.words.now) a.s a.live.now a.byte a.gates.late c.requires.1.late_is (sym c.meets.ensures ∙ c.if-meets.false)

@@ -18,7 +18,7 @@ use Rattle.traced.proofs.scan.left_waiting.Goals as goal
 
 pub returns-then-byte-ne-NEWLINE : goal.returns-then-byte-ne-NEWLINE
 returns-then-byte-ne-NEWLINE c =
-    let c-empty = c.empty-held in
+    let c-empty = c.empty in
     let c-if1 = c.if-byte-ne-NEWLINE in
     let c-start = c in
     let a = c-start.args in

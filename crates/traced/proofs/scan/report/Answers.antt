@@ -1,7 +1,7 @@
 -- `traced::scan::report` meets its contract: the reports do not fit, or the late run is written,
 -- the starts are carried along, and the byte's own run is written.
 use mathlib.Core.Path.{◌≡◌, refl, sym, ap, subst, ◌∙◌}
-use mathlib.Core.Bool.{false, not, ◌&&◌}
+use mathlib.Core.Bool.{not, ◌&&◌}
 use mathlib.Core.List.{List}
 use Prim.Native.Nat.{ℕ, suc, ◌+◌, ◌^◌, ◌<◌, ◌≤◌}
 use native.Mathlib.Numerals.{add-one}
@@ -21,12 +21,15 @@ use Rattle.traced.specs.declared.Starts.{Starts}
 use Rattle.traced.specs.declared.Traced.{Traced}
 use Rattle.traced.specs.Byte.{Report, given, own_start, next_starts}
 use Rattle.traced.specs.Calls.{Lists, lists}
-use Rattle.traced.specs.Invariants.{state_of, Wrote}
-use Rattle.traced.proofs.Delivering.{late-alone, own_alone, due-is, late-room, own_room, gone, delivered-full, delivered-gone}
+use Rattle.traced.specs.Invariants.{state_by, Wrote}
+use Rattle.traced.proofs.Delivering.{late-alone, own_alone, due-is, late-room, own_room, gone}
 use Rattle.traced.proofs.scan.report.Goals as goal
 
 within : {n m room space : ℕ} → n ≡ m → room ≡ space → n ≤ room → m ≤ space
 within e f h = omega arith
+
+beyond : {n m room space : ℕ} → n ≡ m → room ≡ space → room < n → space < m
+beyond e f h = omega arith
 
 pub late_rules-late-requires : goal.late_rules-late-requires
 late_rules-late-requires c = (c.requires.0.table, c.requires.0.gates_are)
@@ -42,7 +45,7 @@ returns-then-too_many c =
     let t = a.words.now in
     let w = automaton t in
     let b = c.requires in
-    let state = state_of a.s a.live.now a.held.now a.pairs.now in
+    let state = state_by a.s a.kept.now in
     let lent = lists a.ids.now a.offsets.now a.starts.now a.relatives.now in
     let few = rules-few t (passes t b.0.table).rules in
     let late = c.late_rules-late in
@@ -52,8 +55,7 @@ returns-then-too_many c =
     let counted = due-is w few state a.byte late.result own.result late.ensures own.ensures small a.gates.single b.0.gates_are.single_is refl refl in
     record {
       spare = refl;
-      reports = delivered-full due-now c.shortest-space.result counted c.shortest-space.ensures
-          (ltb-true c.shortest-space.result due-now (sym c.too_many.ensures ∙ c.if-too_many.true)) 0 a.s.reported a.some a.waits;
+      reports = (beyond counted c.shortest-space.ensures (ltb-true c.shortest-space.result due-now (sym c.too_many.ensures ∙ c.if-too_many.true)), refl, refl);
     }
 
 small_one : (n : ℕ) → n + 1 < 2 ^ 63 → n < 2 ^ 63
@@ -65,7 +67,7 @@ late_run-one-requires c =
     let t = a.words.now in
     let w = automaton t in
     let b = c.requires in
-    let state = state_of a.s a.live.now a.held.now a.pairs.now in
+    let state = state_by a.s a.kept.now in
     let lent = lists a.ids.now a.offsets.now a.starts.now a.relatives.now in
     let few = rules-few t (passes t b.0.table).rules in
     let late = c.late_rules-late in
@@ -82,8 +84,8 @@ late_run-one-requires c =
       late-room w few state a.byte late.result own.result late.ensures own.ensures lent room,
     )
 
-pub carry-kept-requires : goal.carry-kept-requires
-carry-kept-requires c = (c.requires.0, c.requires.3)
+pub carry-more-requires : goal.carry-more-requires
+carry-more-requires c = (c.requires.0, c.requires.3)
 
 pub overflow_add-s : goal.overflow_add-s
 overflow_add-s c = omega (arith, c.requires.2)
@@ -113,7 +115,7 @@ own_run-two-requires c =
     let t = a.words.now in
     let w = automaton t in
     let b = c.requires in
-    let state = state_of a.s a.live.now a.held.now a.pairs.now in
+    let state = state_by a.s a.kept.now in
     let lent = lists a.ids.now a.offsets.now a.starts.now a.relatives.now in
     let few = rules-few t (passes t b.0.table).rules in
     let late = c.late_rules-late in
@@ -128,7 +130,7 @@ own_run-two-requires c =
       b.1,
       b.2,
       own_alone w few state a.byte late.result own.result late.ensures own.ensures,
-      own-fits w state a.next a.byte own.result b.0.next_is one.result.next one.result.reported _ _ (ap (λ (u : Starts). u.live) c.carry-kept.ensures.starts.starts_are)
+      own-fits w state a.next a.byte own.result b.0.next_is one.result.next one.result.reported _ _ (ap (λ (u : Starts). u.live) c.carry-more.ensures.starts.starts_are)
           (own_room w few state a.byte late.result own.result late.ensures own.ensures room one.ensures),
     )
 
@@ -138,7 +140,7 @@ returns c =
     let t = a.words.now in
     let w = automaton t in
     let b = c.requires in
-    let state = state_of a.s a.live.now a.held.now a.pairs.now in
+    let state = state_by a.s a.kept.now in
     let lent = lists a.ids.now a.offsets.now a.starts.now a.relatives.now in
     let few = rules-few t (passes t b.0.table).rules in
     let late = c.late_rules-late in
@@ -148,8 +150,10 @@ returns c =
     let counted = due-is w few state a.byte late.result own.result late.ensures own.ensures small a.gates.single b.0.gates_are.single_is refl refl in
     let room = within counted c.shortest-space.ensures (ltb-false c.shortest-space.result due-now (sym c.too_many.ensures ∙ c.if-too_many.false)) in
     record {
-      spare = c.carry-kept.ensures.spare;
-      reports = delivered-gone false refl room
-          (gone w few state a.byte late.result own.result late.ensures own.ensures room c.late_run-one.ensures
-          (own-wrote w state a.next a.byte own.result b.0.next_is _ (ap (λ (u : Starts). u.live) c.carry-kept.ensures.starts.starts_are) c.own_run-two.ensures) c.carry-kept.ensures.starts);
+      spare = c.carry-more.ensures.spare;
+      reports = (
+        room,
+        gone w few state a.byte late.result own.result late.ensures own.ensures room c.late_run-one.ensures
+            (own-wrote w state a.next a.byte own.result b.0.next_is _ (ap (λ (u : Starts). u.live) c.carry-more.ensures.starts.starts_are) c.own_run-two.ensures) c.carry-more.ensures.starts,
+      );
     }

@@ -1,5 +1,5 @@
 -- `traced::scan::run` meets its contract: each turn passes over the bytes that change nothing and
--- offers one more (`Turned`).
+-- offers one more.
 use mathlib.Core.Path.{◌≡◌, sym, ◌∙◌}
 use mathlib.Core.Bool.{not, ◌||◌}
 use mathlib.Core.List.{List}
@@ -13,11 +13,11 @@ use Rattle.traced.specs.declared.Starts.{Starts}
 use Rattle.traced.specs.declared.Traced.{Traced}
 use Rattle.traced.specs.declared.scan.Turn.{Turn}
 use Rattle.traced.specs.Calls.{Lists, lists}
-use Rattle.traced.specs.Invariants.{state_of, Running}
+use Rattle.traced.specs.Invariants.{state_by, Running}
 use Rattle.traced.proofs.Lists.{filled-inside}
 use Rattle.traced.proofs.Carrying.{empty-if, none-if}
 use Rattle.traced.proofs.Passing.{running-over, pass-rises}
-use Rattle.traced.proofs.Taking.{turned-start, turned, turn-less, ran, taken-now}
+use Rattle.traced.proofs.Taking.{running-start, turned, turn-less, ran, taken-now}
 use Rattle.traced.proofs.scan.run.Goals as goal
 
 -- a stream within its limit
@@ -27,12 +27,12 @@ within now taken at n e h l = omega arith
 small : (taken n : ℕ) → taken + n ≤ stream_limit → taken < 2 ^ 63
 small taken n h = omega arith
 
-pub loop-going-init : goal.loop-going-init
-loop-going-init c =
+pub bytes-init : goal.bytes-init
+bytes-init c =
     let a = c.args in
     let live = c.is_empty in
     let held = c.is_empty-2 in (
-      turned-start (automaton a.words.now) (state_of a.s a.live.now a.held.now a.pairs.now) a.allowance a.block.now
+      running-start (automaton a.words.now) (state_by a.s a.kept.now) a.allowance a.block.now
           (lists a.ids.now a.offsets.now a.starts.now a.relatives.now)
           (not live.result) (not held.result || not (eqb a.s.pending 0))
           (λ e. sym live.ensures ∙ empty-if live.result e)
@@ -45,36 +45,34 @@ limit : (w : Automaton) (z : Traced) (allowance : ℕ) (block : List ℕ) (lent 
     → Running w z allowance block lent y k l → y.stream.taken + (length block - y.at) ≤ stream_limit
 limit w z allowance block lent h {y} r = within y.stream.taken z.stream.taken y.at (length block) (taken-now r) r.inside h
 
-pub pass_over-over-requires : goal.pass_over-over-requires
-pass_over-over-requires c =
+pub pass_over-y-requires : goal.pass_over-y-requires
+pass_over-y-requires c =
     let a = c.args in
-    let r = c.loop-going.invariant.0.running in
-    (r.inside, limit (automaton a.words.now) (state_of a.s a.live.now a.held.now a.pairs.now) a.allowance a.block.now (lists a.ids.now a.offsets.now a.starts.now a.relatives.now) c.requires.2 r)
+    let r = c.bytes.invariant.0 in
+    (r.inside, limit (automaton a.words.now) (state_by a.s a.kept.now) a.allowance a.block.now (lists a.ids.now a.offsets.now a.starts.now a.relatives.now) c.requires.2 r)
 
-pub take_byte-next-requires : goal.take_byte-next-requires
-take_byte-next-requires c =
+pub take_byte-requires : goal.take_byte-requires
+take_byte-requires c =
     let a = c.args in
     let p = c.requires in
-    let r = running-over c.loop-going.invariant.0.running c.pass_over-over.ensures in (
+    let r = running-over c.bytes.invariant.0 c.pass_over-y.ensures in (
       p.0,
       p.1,
       filled-inside r.filled,
       small a.s.taken (length a.block.now) p.2,
-      limit (automaton a.words.now) (state_of a.s a.live.now a.held.now a.pairs.now) a.allowance a.block.now (lists a.ids.now a.offsets.now a.starts.now a.relatives.now) p.2 r,
+      limit (automaton a.words.now) (state_by a.s a.kept.now) a.allowance a.block.now (lists a.ids.now a.offsets.now a.starts.now a.relatives.now) p.2 r,
       r.live_none,
       r.wait_none,
       r.only,
-      c.loop-going.invariant.1,
+      c.bytes.invariant.1,
     )
 
-pub loop-going-smaller : goal.loop-going-smaller
-loop-going-smaller c =
-    let l = c.loop-going in
-    turn-less (running-over c.loop-going.invariant.0.running c.pass_over-over.ensures) c.take_byte-next.ensures.turn l.going c.loop-going-test.true l.y.at (pass-rises c.pass_over-over.ensures)
+pub bytes-smaller : goal.bytes-smaller
+bytes-smaller c = turn-less c.in-Some.ensures.turn c.bytes.y.at (pass-rises c.pass_over-y.ensures)
 
-pub loop-going-preserved : goal.loop-going-preserved
-loop-going-preserved c =
-    (turned (running-over c.loop-going.invariant.0.running c.pass_over-over.ensures) c.take_byte-next.ensures.turn, c.take_byte-next.ensures.spare ∙ c.loop-going.invariant.1)
+pub bytes-preserved : goal.bytes-preserved
+bytes-preserved c =
+    (turned (running-over c.bytes.invariant.0 c.pass_over-y.ensures) c.in-Some.ensures.turn, c.in-Some.ensures.spare ∙ c.bytes.invariant.1)
 
-pub returns : goal.returns
-returns c = ran c.loop-going-test.false c.loop-going.invariant.0
+pub returns-in-None : goal.returns-in-None
+returns-in-None c = ran (running-over c.bytes.invariant.0 c.pass_over-y.ensures) c.in-None.ensures.turn

@@ -15,7 +15,7 @@ use Rattle.steps.specs.Step.{set_on, stepped}
 use Rattle.steps.proofs.Steps.{stepped-among}
 use Rattle.steps.proofs.TableSets.{set_on_lem, number-on}
 use Rattle.traced.specs.Calls.{lists}
-use Rattle.traced.specs.Invariants.{state_of}
+use Rattle.traced.specs.Invariants.{state_by}
 use Rattle.traced.proofs.Bounds.{block-short, places-fit-4, places-fit-8, count_fits, next_small, next_fits, at-fits}
 use Rattle.traced.proofs.Lists.{enough-ids, enough-offsets, enough-starts, enough-relatives}
 use Rattle.traced.proofs.Taking.{offered-end, offered-unpaid, offered-full, offered-taken, enough-reports}
@@ -37,11 +37,11 @@ returns-then-block-at c =
     let a = c.args in
     let s = a.y.stream in
     let w = automaton a.words.now in
-    let state = state_of s a.live.now a.held.now a.pairs.now in
+    let state = state_by s a.kept.now in
     let lent = lists a.ids.now a.offsets.now a.starts.now a.relatives.now in
     record {
       spare = refl;
-      turn = offered-end w state a.first a.block.now a.y lent c.stop.result c.stop.ensures c.if-block-at.true;
+      turn = offered-end w state a.first a.block.now a.y lent c.if-block-at.true;
     }
 
 pub bounds-block-at : goal.bounds-block-at
@@ -52,11 +52,11 @@ returns-then-y-cost c =
     let a = c.args in
     let s = a.y.stream in
     let w = automaton a.words.now in
-    let state = state_of s a.live.now a.held.now a.pairs.now in
+    let state = state_by s a.kept.now in
     let lent = lists a.ids.now a.offsets.now a.starts.now a.relatives.now in
     record {
       spare = refl;
-      turn = offered-unpaid w state a.first a.block.now a.y lent c.stop-then-y-cost.result c.stop-then-y-cost.ensures
+      turn = offered-unpaid w state a.first a.block.now a.y lent
           c.step-after.result.turns (c.step-after.ensures.turns ∙ number-on a.words.now (size_of s.live) (passes a.words.now c.requires.0).long) c.if-y-cost.true;
     }
 
@@ -64,7 +64,7 @@ pub left_waiting-waiting-requires : goal.left_waiting-waiting-requires
 left_waiting-waiting-requires c = (passes c.args.words.now c.requires.0).long
 
 pub offset_bounds-ids-count : goal.offset_bounds-ids-count
-offset_bounds-ids-count c = places-fit-4 c.args.y.count (length c.args.ids.now) (enough-ids (lists c.args.ids.now c.args.offsets.now c.args.starts.now c.args.relatives.now) c.requires.2) c.well_formed.1.1.1.1.1.1.1.1.1.0.1
+offset_bounds-ids-count c = places-fit-4 c.args.y.count (length c.args.ids.now) (enough-ids (lists c.args.ids.now c.args.offsets.now c.args.starts.now c.args.relatives.now) c.requires.2) c.well_formed.1.1.1.1.1.1.1.0.1
 
 pub slice_bounds-report-count : goal.slice_bounds-report-count
 slice_bounds-report-count c = enough-ids (lists c.args.ids.now c.args.offsets.now c.args.starts.now c.args.relatives.now) c.requires.2
@@ -76,7 +76,7 @@ pub slice_bounds-report-end : goal.slice_bounds-report-end
 slice_bounds-report-end c = le_refl (length c.args.ids.now)
 
 pub offset_bounds-offsets-count : goal.offset_bounds-offsets-count
-offset_bounds-offsets-count c = places-fit-8 c.args.y.count (length c.args.offsets.now) (enough-offsets (lists c.args.ids.now c.args.offsets.now c.args.starts.now c.args.relatives.now) c.requires.2) c.well_formed.1.1.1.1.1.1.1.1.1.1.0.1
+offset_bounds-offsets-count c = places-fit-8 c.args.y.count (length c.args.offsets.now) (enough-offsets (lists c.args.ids.now c.args.offsets.now c.args.starts.now c.args.relatives.now) c.requires.2) c.well_formed.1.1.1.1.1.1.1.1.0.1
 
 pub slice_bounds-report-count-2 : goal.slice_bounds-report-count-2
 slice_bounds-report-count-2 c = enough-offsets (lists c.args.ids.now c.args.offsets.now c.args.starts.now c.args.relatives.now) c.requires.2
@@ -88,7 +88,7 @@ pub slice_bounds-report-end-2 : goal.slice_bounds-report-end-2
 slice_bounds-report-end-2 c = le_refl (length c.args.offsets.now)
 
 pub offset_bounds-starts-count : goal.offset_bounds-starts-count
-offset_bounds-starts-count c = places-fit-8 c.args.y.count (length c.args.starts.now) (enough-starts (lists c.args.ids.now c.args.offsets.now c.args.starts.now c.args.relatives.now) c.requires.2) c.well_formed.1.1.1.1.1.1.1.1.1.1.1.0.1
+offset_bounds-starts-count c = places-fit-8 c.args.y.count (length c.args.starts.now) (enough-starts (lists c.args.ids.now c.args.offsets.now c.args.starts.now c.args.relatives.now) c.requires.2) c.well_formed.1.1.1.1.1.1.1.1.1.0.1
 
 pub slice_bounds-report-count-3 : goal.slice_bounds-report-count-3
 slice_bounds-report-count-3 c = enough-starts (lists c.args.ids.now c.args.offsets.now c.args.starts.now c.args.relatives.now) c.requires.2
@@ -100,7 +100,7 @@ pub slice_bounds-report-end-3 : goal.slice_bounds-report-end-3
 slice_bounds-report-end-3 c = le_refl (length c.args.starts.now)
 
 pub offset_bounds-relatives-count : goal.offset_bounds-relatives-count
-offset_bounds-relatives-count c = places-fit-8 c.args.y.count (length c.args.relatives.now) (enough-relatives (lists c.args.ids.now c.args.offsets.now c.args.starts.now c.args.relatives.now) c.requires.2) c.well_formed.1.1.1.1.1.1.1.1.1.1.1.1.0.1
+offset_bounds-relatives-count c = places-fit-8 c.args.y.count (length c.args.relatives.now) (enough-relatives (lists c.args.ids.now c.args.offsets.now c.args.starts.now c.args.relatives.now) c.requires.2) c.well_formed.1.1.1.1.1.1.1.1.1.1.0.1
 
 pub slice_bounds-report-count-4 : goal.slice_bounds-report-count-4
 slice_bounds-report-count-4 c = enough-relatives (lists c.args.ids.now c.args.offsets.now c.args.starts.now c.args.relatives.now) c.requires.2
@@ -111,12 +111,12 @@ slice_bounds-report-start-4 c = enough-relatives (lists c.args.ids.now c.args.of
 pub slice_bounds-report-end-4 : goal.slice_bounds-report-end-4
 slice_bounds-report-end-4 c = le_refl (length c.args.relatives.now)
 
-pub report-r-requires : goal.report-r-requires
-report-r-requires c =
+pub report-requires : goal.report-requires
+report-requires c =
     let a = c.args in
     let s = a.y.stream in
     let w = automaton a.words.now in
-    let state = state_of s a.live.now a.held.now a.pairs.now in
+    let state = state_by s a.kept.now in
     let lent = lists a.ids.now a.offsets.now a.starts.now a.relatives.now in
     let p = c.requires in (
       record {
@@ -135,20 +135,17 @@ report-r-requires c =
       p.8,
     )
 
-pub returns-then-r : goal.returns-then-r
-returns-then-r c =
+pub returns-in_err-r : goal.returns-in_err-r
+returns-in_err-r c =
     let a = c.args in
-    let s = a.y.stream in
     let w = automaton a.words.now in
-    let state = state_of s a.live.now a.held.now a.pairs.now in
+    let state = state_by a.y.stream a.kept.now in
     let lent = lists a.ids.now a.offsets.now a.starts.now a.relatives.now in
-    let r = c.report-r in
-    record {
+    let r = c.in_err-r in
+    rw c.from_residual.ensures (record {
       spare = r.ensures.spare;
-      turn = offered-full w state a.first a.block.now a.y lent c.requires.2
-          r.result.full r.result.reports r.result.reported r.result.some r.result.waits _ _ r.ensures.reports
-          c.stop-then-r.result c.stop-then-r.ensures c.if-r.true;
-    }
+      turn = offered-full w state a.first a.block.now a.y lent c.requires.2 _ _ r.ensures.reports;
+    })
 
 -- the byte is taken
 pub overflow_add-result : goal.overflow_add-result
@@ -166,33 +163,31 @@ overflow_add-result-3 c =
     let a = c.args in
     let s = a.y.stream in
     let w = automaton a.words.now in
-    let state = state_of s a.live.now a.held.now a.pairs.now in
+    let state = state_by s a.kept.now in
     let lent = lists a.ids.now a.offsets.now a.starts.now a.relatives.now in
-    let r = c.report-r in
-    count_fits (a.y.count + r.result.reports) (length a.ids.now)
-    (enough-ids lent (enough-reports w state a.first a.block.now a.y lent c.requires.2
-    r.result.full r.result.reports r.result.reported r.result.some r.result.waits _ _ r.ensures.reports c.if-r.false))
-    c.well_formed.1.1.1.1.1.1.1.1.1.0.1
+    let r = c.in_ok-r in
+    count_fits (a.y.count + r.r.reports) (length a.ids.now)
+    (enough-ids lent (enough-reports w state a.first a.block.now a.y lent c.requires.2 _ _ r.r r.ensures.reports))
+    c.well_formed.1.1.1.1.1.1.1.0.1
 
 pub returns : goal.returns
 returns c =
     let a = c.args in
     let s = a.y.stream in
     let w = automaton a.words.now in
-    let state = state_of s a.live.now a.held.now a.pairs.now in
+    let state = state_by s a.kept.now in
     let lent = lists a.ids.now a.offsets.now a.starts.now a.relatives.now in
-    let r = c.report-r in
+    let r = c.in_ok-r in
     let next_is = stepping a.words.now s.live s.last c.side_of-new.result a.gates.positions c.step-after.result.live s.taken (get_or a.block.now a.y.at 0)
     c.requires.1.positions_is c.side_of-new.ensures (passes a.words.now c.requires.0).long c.step-after.ensures.live in
     record {
       spare = r.ensures.spare;
-      turn = offered-taken w state a.first a.block.now a.y lent c.requires.2
-          r.result.full r.result.reports r.result.reported r.result.some r.result.waits _ _ r.ensures.reports c.if-r.false
+      turn = offered-taken w state a.first a.block.now a.y lent c.requires.2 _ _ r.r r.ensures.reports
           c.if-block-at.false c.step-after.result.turns (c.step-after.ensures.turns ∙ number-on a.words.now (size_of s.live) (passes a.words.now c.requires.0).long) c.if-y-cost.false _
           (λ i. record {
             live = next_is i;
             held = c.left_waiting-waiting.ensures.held i;
-            reported = r.result.reported;
+            reported = r.r.reported;
             pending = c.left_waiting-waiting.ensures.pending i;
             last = c.side_of-new.ensures i;
             taken = s.taken + 1;

@@ -19,8 +19,8 @@ slice_bounds-add_line-start c = omega (arith, c.line_end-end.ensures, line-withi
 pub slice_bounds-add_line-end : goal.slice_bounds-add_line-end
 slice_bounds-add_line-end c = omega (arith, c.line_end-end.ensures, line-within c.args.text.now c.loop-from.from (omega arith))
 
-pub returns-then-not-said : goal.returns-then-not-said
-returns-then-not-said c = subst FromEmpty (sym c.add_line-added.ensures.words) (line_kept _ _ c.loop-from.invariant.table)
+pub returns-in_err-at : goal.returns-in_err-at
+returns-in_err-at c = subst FromEmpty (sym c.add_line-added.ensures.words) (line_kept _ _ c.loop-from.invariant.table)
 
 pub overflow_add-from : goal.overflow_add-from
 overflow_add-from c = omega (arith, c.line_end-end.ensures, line-within c.args.text.now c.loop-from.from (omega arith))
@@ -35,7 +35,7 @@ loop-from-preserved c =
       table = subst FromEmpty (sym c.add_line-added.ensures.words) (line_kept _ _ c.loop-from.invariant.table);
       within = omega (arith, c.line_end-end.ensures, l);
       counted = omega (arith, c.line_end-end.ensures, l);
-      room = c.say_answer-said.ensures;
+      room = c.in_ok-at.ensures;
     }
 
 pub flush-requires : goal.flush-requires

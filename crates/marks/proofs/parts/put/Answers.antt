@@ -1,6 +1,0 @@
--- `put` meets its contract: eight stores in a row.
-use native.Mathlib.Numerals.{towards_suc}
-use Rattle.marks.proofs.parts.put.Goals as goal
-
-pub returns : goal.returns
-returns c = simp towards_suc

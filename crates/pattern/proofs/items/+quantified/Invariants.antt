@@ -1,7 +1,0 @@
--- The measure is the unread length.
-use Prim.Native.Nat.{◌-◌}
-use lib.ListN.{length}
-use Rattle.pattern.proofs.items.+quantified.Given as goal
-
-abbrev pub decreases-quantified : goal.decreases-quantified
-decreases-quantified l = length l.s.now - l.at

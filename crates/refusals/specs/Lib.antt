@@ -1,0 +1,2 @@
+-- The reasons to refuse a call, by number.
+pub mod Refusal
