@@ -1,6 +1,6 @@
 // The functions for C and Rust on a stream with starts: its state is 591 words that the caller
 // owns, and a report is a slot of four lists. A crate by itself, so that the compiler sees one
-// caller of the loop here and one in watcher_c, whose names C gives, too. Tried as one generic
+// caller of the loop here and one in watcher_c; C gives the names of both. Tried as one generic
 // function with a closure that lends the lists: the proof knows nothing of lists that a closure
 // borrows and is not called with. Nothing is required of a caller but that its slices are what they
 // say.
