@@ -10,9 +10,6 @@ use lib.Dec.{eqb}
 use lib.ListN.{take}
 use Rattle.std.specs.List.{list_any}
 use Rattle.kinds.specs.Kind.{is_cntrl}
-use Rattle.refusals.specs.declared.Refusal.{Refusal}
-use Rattle.refusals.specs.Refusal.{number_of}
-use Rattle.refusals.proofs.Laws.{number-above}
 use Rattle.atoms.specs.Fault.{lower}
 use Rattle.atoms.specs.Raw.{any_raw, with_raw}
 
@@ -25,22 +22,14 @@ lower-none f = go (eqb f 0) refl
     go true e = sym (eqb-true f 0 e)
     go false e = refl
 
--- the lower of two reasons
-pub lower-first : (a b : Refusal) → number_of a ≤ number_of b → lower (number_of a) (number_of b) ≡ number_of a
+-- the lower of two faults that there are
+pub lower-first : (a b : ℕ) → (a ≡ 0 → ⊥) → (b ≡ 0 → ⊥) → a ≤ b → lower a b ≡ a
 unfolding lower
-lower-first a b h =
-    rw (
-      ne_eqb (number_of a) 0 (λ e. omega (arith, number-above a)),
-      ne_eqb (number_of b) 0 (λ e. omega (arith, number-above b)),
-    ) (omega arith)
+lower-first a b n m h = rw (ne_eqb a 0 n, ne_eqb b 0 m) (omega arith)
 
-pub lower-second : (a b : Refusal) → number_of b < number_of a → lower (number_of a) (number_of b) ≡ number_of b
+pub lower-second : (a b : ℕ) → (a ≡ 0 → ⊥) → (b ≡ 0 → ⊥) → b < a → lower a b ≡ b
 unfolding lower
-lower-second a b h =
-    rw (
-      ne_eqb (number_of a) 0 (λ e. omega (arith, number-above a)),
-      ne_eqb (number_of b) 0 (λ e. omega (arith, number-above b)),
-    ) (omega arith)
+lower-second a b n m h = rw (ne_eqb a 0 n, ne_eqb b 0 m) (omega arith)
 
 -- where the lower of two faults is none, neither is one
 pub lower-both : (f g : ℕ) → lower f g ≡ 0 → (f ≡ 0) × (g ≡ 0)

@@ -20,9 +20,17 @@ abbrev pub numeral : declared.Numeral.Numeral → Numeral
 numeral n = record { value = unwrap_or n.value 0; some = is_some n.value; size = n.size }
 
 -- what a part stands for: byte 0 where it is faulty
-abbrev pub atom_of : Result Atom Refusal → Atom
+abbrev pub atom_of : {F : Type 0} → Result Atom F → Atom
 atom_of (Ok a) = a
 atom_of (Err r) = Byte 0
 
-abbrev pub part : declared.Part.Part → Part
+-- the fault of a part by the numbers of faults, 0 where it is sound
+abbrev pub code_by : {F : Type 0} → (F → ℕ) → Result Atom F → ℕ
+code_by number (Ok a) = 0
+code_by number (Err f) = number f
+
+abbrev pub part_by : {F : Type 0} → (F → ℕ) → declared.Part.Part F → Part
+part_by number p = record { fault = code_by number p.atom; size = p.size; atom = atom_of p.atom }
+
+abbrev pub part : declared.Part.Part Refusal → Part
 part p = record { fault = code_of p.atom; size = p.size; atom = atom_of p.atom }

@@ -2,11 +2,11 @@
 // fault. Each function is given the place of the first byte that is left to read.
 ghost use Rattle.std.specs.Prelude.{◌≡◌, ◌≤◌, ◌<◌, length, drop};
 ghost use Rattle.kinds.specs.Kind.{is_alnum};
-ghost use Rattle.refusals.specs.Refusal.{number_of};
-ghost use Rattle.atoms.specs.Answer.{part};
+ghost use Rattle.atoms.specs.Answer.{part, part_by};
 ghost use Rattle.atoms.specs.Escape.{good, bad, braced_of, short_of, flipped64, raised, control_of};
 ghost use Rattle.atoms.specs.Escape.{type_of, named_of, placed_of, hex_of, octal_of, escape_of};
 
+use crate::fault::Numbered;
 use crate::number::{digit_at, numeral_at, peek};
 use crate::{Atom, Part};
 use kinds::Kind;
@@ -22,13 +22,13 @@ pub fn sound(size: usize, atom: Atom) -> Part
     }
 }
 
-// A faulty part.
-pub fn faulty(refusal: Refusal, size: usize) -> Part
-    ensures { part result ≡ bad (number_of refusal) size }
+// A faulty part, by the reason or by any number.
+pub fn faulty<F: Numbered>(fault: F, size: usize) -> Part<F>
+    ensures { part_by F.number result ≡ bad (F.number fault) size }
 {
     Part {
         size,
-        atom: Err(refusal),
+        atom: Err(fault),
     }
 }
 

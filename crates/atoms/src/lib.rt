@@ -14,7 +14,7 @@ ghost use Rattle.std.specs.Prelude.{◌≡◌, cond};
 ghost use Rattle.kinds.specs.Case.{case_closed};
 
 pub use escape::{escape_at, faulty, sound};
-pub use fault::lower;
+pub use fault::{Numbered, lower};
 use kinds::Kind;
 pub use number::{CAP, decimal_at, peek, rest};
 pub use quote::{gap_at, is_mark};
@@ -59,9 +59,9 @@ pub enum Atom {
 // An escape or a class member: the bytes it takes, and what it stands for or its lowest fault. A
 // part that is a bad escape has no end, and its size is 0.
 #[derive(Clone, Copy)]
-pub struct Part {
+pub struct Part<F = Refusal> {
     pub size: usize,
-    pub atom: Result<Atom, Refusal>,
+    pub atom: Result<Atom, F>,
 }
 
 // The marks `\Q` and `\E` at a place: the bytes they take, and whether a quote is open after them.

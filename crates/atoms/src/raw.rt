@@ -3,9 +3,8 @@ ghost use Rattle.std.specs.Prelude.{◌≡◌, take, drop};
 ghost use Rattle.std.specs.List.{list_any};
 ghost use Rattle.kinds.specs.Kind.{is_cntrl};
 ghost use Rattle.atoms.specs.Raw.{with_raw};
-ghost use Rattle.atoms.specs.Answer.{fault};
 
-use crate::fault::lower;
+use crate::fault::{Numbered, lower};
 use crate::number::rest;
 use kinds::Kind;
 use refusals::Refusal;
@@ -26,11 +25,11 @@ fn any_raw(s: &[u8], size: usize) -> bool
 
 // The fault of a token that takes so many bytes from a place on, where `besides` is its
 // fault but for that.
-pub fn with_raw(s: &[u8], at: usize, size: usize, besides: Option<Refusal>) -> Option<Refusal>
-    ensures { fault result ≡ with_raw (fault besides) size (drop at s.now) }
+pub fn with_raw<F: Numbered>(s: &[u8], at: usize, size: usize, besides: F) -> F
+    ensures { F.number result ≡ with_raw (F.number besides) size (drop at s.now) }
 {
     if any_raw(rest(s, at), size) {
-        return lower(besides, Some(Refusal::RawByte));
+        return lower(besides, F::of(Refusal::RawByte));
     }
     besides
 }

@@ -55,7 +55,7 @@ unfolding range_fault
 range-fault-is m n t u x y et eu ex ey = rw (← et, ← eu, ← ex, ← ey)
 
 -- the same of the code's ends
-pub range-fault-told : (m n : declaredPart.Part.Part) (t u a b : Bool) (x y : ℕ)
+pub range-fault-told : (m n : declaredPart.Part.Part Refusal) (t u a b : Bool) (x y : ℕ)
     → t ≡ is_type (atom_of m.atom) → u ≡ is_type (atom_of n.atom) → x ≡ byte_of (atom_of m.atom) → y ≡ byte_of (atom_of n.atom)
     → a ≡ is_ok m.atom → b ≡ is_ok n.atom
     → range_fault (part m) (part n) ≡ cond (t || u) 9 (cond (a && (b && ltb y x)) 9 0)

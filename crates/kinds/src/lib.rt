@@ -16,37 +16,37 @@ ghost use Rattle.kinds.specs.Side.{side_of, side_in, side_word};
 ghost use Rattle.kinds.specs.Invariants.{Ruled, bit_of, word_digits};
 
 // The bit of each kind in an entry of the table, in the order of specs/Kind.antt's list of kinds.
-const DIGIT: u32 = 1;
+pub const DIGIT: u32 = 1;
 
-const WORD: u32 = 2;
+pub const WORD: u32 = 2;
 
-const SPACE: u32 = 4;
+pub const SPACE: u32 = 4;
 
-const HORIZONTAL: u32 = 8;
+pub const HORIZONTAL: u32 = 8;
 
-const VERTICAL: u32 = 16;
+pub const VERTICAL: u32 = 16;
 
-const LOWER: u32 = 32;
+pub const LOWER: u32 = 32;
 
-const UPPER: u32 = 64;
+pub const UPPER: u32 = 64;
 
-const ALPHA: u32 = 128;
+pub const ALPHA: u32 = 128;
 
-const ALNUM: u32 = 256;
+pub const ALNUM: u32 = 256;
 
-const ASCII: u32 = 512;
+pub const ASCII: u32 = 512;
 
-const BLANK: u32 = 1024;
+pub const BLANK: u32 = 1024;
 
-const CNTRL: u32 = 2048;
+pub const CNTRL: u32 = 2048;
 
-const GRAPH: u32 = 4096;
+pub const GRAPH: u32 = 4096;
 
-const PRINT: u32 = 8192;
+pub const PRINT: u32 = 8192;
 
-const PUNCT: u32 = 16384;
+pub const PUNCT: u32 = 16384;
 
-const XDIGIT: u32 = 32768;
+pub const XDIGIT: u32 = 32768;
 
 // How far a lower-case letter stands above its upper-case one.
 const CASE_STEP: u8 = 32;

@@ -32,6 +32,58 @@ fn top(ends: &[u64], rows: usize) -> u64
     word(ends, rows - 1)
 }
 
+// Takes the byte at offset k, which the log has. All goes in by value or as a slice: what a caller
+// lends as an array has a length that the compiler knows here too.
+fn pass(
+    nodes: &[u64],
+    root: usize,
+    parts: &[u64],
+    rows: usize,
+    marks: &mut [u64; 256],
+    log: &[u8],
+    k: usize,
+    last: bool,
+) -> Ends
+    requires { (k < length log.now) × (rows < 512) }
+    ensures { Taking nodes.now root parts.now rows log.now k → Took (form_at nodes.now root) log.now k last marks.old marks.new result }
+{
+    let mut cores = [NONE; ROWS];
+    let mut ends = [NONE; ROWS];
+    let inner = gaps::inner(log, k, last);
+    moves::look(parts, rows, inner, marks, &mut cores, &mut ends);
+    let late = top(&ends, rows);
+    moves::step(
+        nodes, parts, rows, inner, log[k], marks, &cores, &ends, k as u64,
+    );
+    let outer = gaps::outer(log, k, last);
+    moves::look(parts, rows, outer, marks, &mut cores, &mut ends);
+    let own = top(&ends, rows);
+    Ends { late, own }
+}
+
+// Takes the byte at offset k; `last` says that the log is known to end with it. Nothing ends at a
+// byte that the log has not.
+pub fn take_byte(
+    nodes: &[u64],
+    root: usize,
+    parts: &[u64],
+    rows: usize,
+    marks: &mut [u64; 256],
+    log: &[u8],
+    k: usize,
+    last: bool,
+) -> Ends
+    ensures { Taking nodes.now root parts.now rows log.now k → Took (form_at nodes.now root) log.now k last marks.old marks.new result }
+{
+    if k >= log.len() {
+        return NOTHING;
+    }
+    if rows >= ROWS {
+        return NOTHING;
+    }
+    pass(nodes, root, parts, rows, marks, log, k, last)
+}
+
 // A rule that is written out: its nodes and their root, and its rows in words.
 #[derive(Clone, Copy)]
 pub struct Rule<'a> {
@@ -42,36 +94,12 @@ pub struct Rule<'a> {
 }
 
 impl<'a> Rule<'a> {
-    // Takes the byte at offset k, which the log has.
-    fn pass(&self, marks: &mut [u64; 256], log: &[u8], k: usize, last: bool) -> Ends
-        requires { (k < length log.now) × (self.now.rows < 512) }
-        ensures { Taking self.now.nodes.now self.now.root self.now.parts.now self.now.rows log.now k → Took (form_at self.now.nodes.now self.now.root) log.now k last marks.old marks.new result }
-    {
-        let mut cores = [NONE; ROWS];
-        let mut ends = [NONE; ROWS];
-        let inner = gaps::inner(log, k, last);
-        moves::look(self.parts, self.rows, inner, marks, &mut cores, &mut ends);
-        let late = top(&ends, self.rows);
-        moves::step(
-            self.nodes, self.parts, self.rows, inner, log[k], marks, &cores, &ends, k as u64,
-        );
-        let outer = gaps::outer(log, k, last);
-        moves::look(self.parts, self.rows, outer, marks, &mut cores, &mut ends);
-        let own = top(&ends, self.rows);
-        Ends { late, own }
-    }
-
-    // Takes the byte at offset k; `last` says that the log is known to end with it. Nothing ends at
-    // a byte that the log has not.
+    // The same of a rule in one value.
     pub fn take_byte(&self, marks: &mut [u64; 256], log: &[u8], k: usize, last: bool) -> Ends
         ensures { Taking self.now.nodes.now self.now.root self.now.parts.now self.now.rows log.now k → Took (form_at self.now.nodes.now self.now.root) log.now k last marks.old marks.new result }
     {
-        if k >= log.len() {
-            return NOTHING;
-        }
-        if self.rows >= ROWS {
-            return NOTHING;
-        }
-        self.pass(marks, log, k, last)
+        take_byte(
+            self.nodes, self.root, self.parts, self.rows, marks, log, k, last,
+        )
     }
 }

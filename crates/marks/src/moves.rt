@@ -44,14 +44,14 @@ fn core(parts: &[u64], j: usize, g: u64, marks: &[u64], ends: &[u64]) -> u64
     ensures { result ≡ core_word parts.now j g marks.now ends.now }
 {
     match parts::read(parts, j) {
-        Kind::Item { position, .. } => word(marks, position).min(NONE),
+        Kind::Item { position, .. } => starts::least(word(marks, position), NONE),
         Kind::Then {
             left,
             right,
             right_null,
             ..
         } => starts::passed(has(right_null, g), word(ends, left), word(ends, right)),
-        Kind::Or { left, right } => word(ends, left).min(word(ends, right)),
+        Kind::Or { left, right } => starts::least(word(ends, left), word(ends, right)),
     }
 }
 
@@ -81,7 +81,10 @@ fn entered(parts: &[u64], j: usize, g: u64, cores: &[u64], comes: &[u64]) -> u64
 {
     let i = j * 8;
     let come = starts::only(has(word(parts, i + parts::FRONT), g), word(comes, j));
-    come.min(starts::only(has(word(parts, i + parts::ROUND), g), word(cores, j)))
+    starts::least(
+        come,
+        starts::only(has(word(parts, i + parts::ROUND), g), word(cores, j)),
+    )
 }
 
 // Row j: an item takes the byte, another part hands what comes to its inside down to the rows of

@@ -57,22 +57,21 @@ pub(super) fn read(parts: &[u64], j: usize) -> Kind
     ensures { result ≡ kind_in parts.now j }
 {
     let i = j * 8;
-    let x = word(parts, i + 1);
-    let y = word(parts, i + 2);
-    let left = word(parts, i + 3) as usize;
-    let right = word(parts, i + 4) as usize;
     match word(parts, i) {
         ITEM => Kind::Item {
-            node: x as usize,
-            position: y as usize,
+            node: word(parts, i + 1) as usize,
+            position: word(parts, i + 2) as usize,
         },
         THEN => Kind::Then {
-            left,
-            right,
-            left_null: x,
-            right_null: y,
+            left: word(parts, i + 3) as usize,
+            right: word(parts, i + 4) as usize,
+            left_null: word(parts, i + 1),
+            right_null: word(parts, i + 2),
         },
-        _ => Kind::Or { left, right },
+        _ => Kind::Or {
+            left: word(parts, i + 3) as usize,
+            right: word(parts, i + 4) as usize,
+        },
     }
 }
 

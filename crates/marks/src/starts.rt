@@ -13,10 +13,17 @@ pub(super) fn only(b: bool, x: u64) -> u64
     if b { x } else { NONE }
 }
 
+// The smaller of two starts.
+pub(super) fn least(x: u64, y: u64) -> u64
+    ensures { result ≡ min x y }
+{
+    x.min(y)
+}
+
 // What is behind a part: what comes, if the part can be passed without a byte, and what can end in
 // it.
 pub(super) fn passed(null: bool, come: u64, ends: u64) -> u64
     ensures { result ≡ min (when null come) ends }
 {
-    only(null, come).min(ends)
+    least(only(null, come), ends)
 }

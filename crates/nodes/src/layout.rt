@@ -1,8 +1,8 @@
 // A node's word, as specs/Nodes.antt has it: what it says is a `Node`. Every crate that reads or
 // writes nodes does it here.
-ghost use Rattle.std.specs.Prelude.{◌≡◌, get_or};
+ghost use Rattle.std.specs.Prelude.{◌≡◌, ◌%◌, ◌^◌, get_or};
 ghost use Rattle.nodes.specs.Node.{named, node_in, word_of, InWord};
-ghost use Rattle.nodes.specs.Nodes.{assertion_of};
+ghost use Rattle.nodes.specs.Nodes.{word as word_by, assertion_of};
 
 // The assertions, in the order of their numbers: `^` and `\A`, `\z`, `$` and `\Z`, `^` and `$` in
 // line mode, `\b`, `\B`.
@@ -72,6 +72,17 @@ pub const LAST_ASSERTION: u64 = NO_WORD_EDGE;
 // The number of copies more that stands for any number.
 pub const ENDLESS: u64 = 65536;
 
+// How many words there are.
+const WORDS: u128 = 1 << 64;
+
+// The word of what a node is and its three numbers, as far as 64 digits go.
+fn joined(op: u64, x: u64, y: u64, z: u64) -> u64
+    ensures { result ≡ word_by op x y z % 2 ^ 64 }
+{
+    let sum = op as u128 + 8 * x as u128 + 65536 * y as u128 + 8589934592 * z as u128;
+    (sum % WORDS) as u64
+}
+
 impl Assertion {
     // The assertion of a number; every number above the last stands for the last.
     fn of_number(x: u64) -> Assertion
@@ -115,19 +126,20 @@ impl Node {
         }
     }
 
-    // The word that says it.
+    // The word that says it. Of numbers for which a word has no room, what lies above its 64 digits
+    // is cut off.
     pub fn word(self) -> u64
-        requires { InWord self }
-        ensures { result ≡ word_of self }
+        ensures is { result ≡ word_of self % 2 ^ 64 }
+        ensures whole { InWord self → result ≡ word_of self }
     {
         match self {
-            Node::Empty => 0,
-            Node::Item => ITEM,
-            Node::Assertion(assertion) => ASSERTION + 8 * assertion as u64,
-            Node::Then(x, y) => THEN + 8 * x as u64 + 65536 * y as u64,
-            Node::Or(x, y) => OR + 8 * x as u64 + 65536 * y as u64,
+            Node::Empty => joined(EMPTY, 0, 0, 0),
+            Node::Item => joined(ITEM, 0, 0, 0),
+            Node::Assertion(assertion) => joined(ASSERTION, assertion as u64, 0, 0),
+            Node::Then(x, y) => joined(THEN, x as u64, y as u64, 0),
+            Node::Or(x, y) => joined(OR, x as u64, y as u64, 0),
             Node::Repeat { child, least, more } => {
-                REPEAT + 8 * child as u64 + 65536 * least + 8589934592 * more.unwrap_or(ENDLESS)
+                joined(REPEAT, child as u64, least, more.unwrap_or(ENDLESS))
             }
         }
     }

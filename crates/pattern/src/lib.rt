@@ -79,20 +79,20 @@ fn read_all(pattern: &[u8], flags: u32) -> Result<Reading, Fault>
             place: parser.at,
         });
     }
-    let nodes = parser.tree.words;
-    if nullable(&nodes, root) {
+    if nullable(&parser.tree.words, root) {
         return Err(Fault {
             refusal: Refusal::EmptyMatch,
             place: length,
         });
     }
-    let positions = count(&nodes, root);
+    let positions = count(&parser.tree.words, root);
     if positions > 256 {
         return Err(Fault {
             refusal: Refusal::LargeRule,
             place: length,
         });
     }
+    let nodes = parser.tree.words;
     Ok(Reading {
         root,
         size: parser.tree.n,

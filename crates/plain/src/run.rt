@@ -6,7 +6,7 @@ ghost use Rattle.pattern.specs.Windows.{windows_of};
 ghost use Rattle.nodes.specs.Invariants.{form_at};
 ghost use Rattle.plain.specs.Invariants.{Asks, due, choice_of, Slots, Reported, Both, Delivered, Runs, Stands, Stepped, Closes, Closed, Ran};
 
-use marks::byte::Rule;
+use marks::byte::take_byte;
 use marks::parts::WORDS;
 use marks::starts::NONE;
 use marks::write_out;
@@ -95,10 +95,14 @@ pub(super) struct Taken {
     pub own: u64,
 }
 
-// A rule that is written out, the whole log, and what is wanted of the run.
+// A rule that is written out, by its nodes, their root and its rows in words, the whole log, and
+// what is wanted of the run. The words are an array, so that `take_byte` knows how many there are.
 #[derive(Clone, Copy)]
 struct Run<'a> {
-    rule: Rule<'a>,
+    nodes: &'a [u64],
+    root: usize,
+    parts: &'a [u64; WORDS],
+    rows: usize,
     log: &'a [u8],
     wanted: Wanted,
 }
@@ -113,10 +117,13 @@ impl<'a> Run<'a> {
         starts: &mut [u64],
         t: Taken,
     ) -> Taken
-        requires { Runs self.now.rule.nodes.now self.now.rule.root self.now.rule.parts.now self.now.rule.rows self.now.log.now (suc k) (lent offsets.old starts.old) × Stands (form_at self.now.rule.nodes.now self.now.rule.root) self.now.wanted self.now.log.now k marks.old t }
-        ensures { Stepped (form_at self.now.rule.nodes.now self.now.rule.root) self.now.wanted self.now.log.now k t (lent offsets.old starts.old) (lent offsets.new starts.new) marks.new result }
+        requires { Runs self.now.nodes.now self.now.root self.now.parts.now self.now.rows self.now.log.now (suc k) (lent offsets.old starts.old) × Stands (form_at self.now.nodes.now self.now.root) self.now.wanted self.now.log.now k marks.old t }
+        ensures { Stepped (form_at self.now.nodes.now self.now.root) self.now.wanted self.now.log.now k t (lent offsets.old starts.old) (lent offsets.new starts.new) marks.new result }
     {
-        let ends = self.rule.take_byte(marks, self.log, k, false);
+        let parts = self.parts;
+        let ends = take_byte(
+            self.nodes, self.root, parts, self.rows, marks, self.log, k, false,
+        );
         let new = !inside(self.wanted.bounds, t.own, k);
         let count = self.wanted.both(offsets, starts, t.count, new, k, ends.late, true, ends.own);
         Taken {
@@ -137,11 +144,14 @@ impl<'a> Run<'a> {
         own: u64,
         t: Taken,
     ) -> usize
-        requires { Runs self.now.rule.nodes.now self.now.rule.root self.now.rule.parts.now self.now.rule.rows self.now.log.now (suc k) (lent offsets.old starts.old) × Closes (form_at self.now.rule.nodes.now self.now.rule.root) self.now.wanted self.now.log.now k marks.old own t }
-        ensures { Closed (form_at self.now.rule.nodes.now self.now.rule.root) self.now.wanted self.now.log.now k t (lent offsets.old starts.old) result (lent offsets.new starts.new) }
+        requires { Runs self.now.nodes.now self.now.root self.now.parts.now self.now.rows self.now.log.now (suc k) (lent offsets.old starts.old) × Closes (form_at self.now.nodes.now self.now.root) self.now.wanted self.now.log.now k marks.old own t }
+        ensures { Closed (form_at self.now.nodes.now self.now.root) self.now.wanted self.now.log.now k t (lent offsets.old starts.old) result (lent offsets.new starts.new) }
     {
         let bounds = self.wanted.bounds;
-        let ends = self.rule.take_byte(marks, self.log, k, true);
+        let parts = self.parts;
+        let ends = take_byte(
+            self.nodes, self.root, parts, self.rows, marks, self.log, k, true,
+        );
         let first = !inside(bounds, own, k) & !inside(bounds, t.late, k);
         let second = !inside(bounds, t.own, k + 1);
         self.wanted.both(
@@ -157,8 +167,8 @@ impl<'a> Run<'a> {
         offsets: &mut [u64],
         starts: &mut [u64],
     ) -> Taken
-        requires { Runs self.now.rule.nodes.now self.now.rule.root self.now.rule.parts.now self.now.rule.rows self.now.log.now n (lent offsets.old starts.old) × (marks.old ≡ marks_at self.now.log.now (form_at self.now.rule.nodes.now self.now.rule.root) 0) }
-        ensures { Ran (form_at self.now.rule.nodes.now self.now.rule.root) self.now.wanted self.now.log.now n (lent offsets.old starts.old) (lent offsets.new starts.new) marks.new result }
+        requires { Runs self.now.nodes.now self.now.root self.now.parts.now self.now.rows self.now.log.now n (lent offsets.old starts.old) × (marks.old ≡ marks_at self.now.log.now (form_at self.now.nodes.now self.now.root) 0) }
+        ensures { Ran (form_at self.now.nodes.now self.now.root) self.now.wanted self.now.log.now n (lent offsets.old starts.old) (lent offsets.new starts.new) marks.new result }
     {
         let mut t = Taken {
             count: 0,
@@ -173,8 +183,8 @@ impl<'a> Run<'a> {
 
     // All of the log, and the closing, over the rows; how many reports.
     fn all(&self, offsets: &mut [u64], starts: &mut [u64]) -> usize
-        requires { Runs self.now.rule.nodes.now self.now.rule.root self.now.rule.parts.now self.now.rule.rows self.now.log.now (length self.now.log.now) (lent offsets.old starts.old) }
-        ensures { Delivered self.now.wanted (lent offsets.old starts.old) (lent offsets.new starts.new) result (closed (choice_of self.now.wanted) self.now.log.now (form_at self.now.rule.nodes.now self.now.rule.root) (length self.now.log.now)) }
+        requires { Runs self.now.nodes.now self.now.root self.now.parts.now self.now.rows self.now.log.now (length self.now.log.now) (lent offsets.old starts.old) }
+        ensures { Delivered self.now.wanted (lent offsets.old starts.old) (lent offsets.new starts.new) result (closed (choice_of self.now.wanted) self.now.log.now (form_at self.now.nodes.now self.now.root) (length self.now.log.now)) }
     {
         let n = self.log.len();
         if n == 0 {
@@ -202,12 +212,13 @@ pub(super) fn whole<'a>(
 {
     let mut parts = [0u64; WORDS];
     let rows = write_out::write_rule(nodes, root, &mut parts);
-    let rule = Rule {
+    let run = Run {
         nodes,
         root,
         parts: &parts,
         rows,
+        log,
+        wanted,
     };
-    let run = Run { rule, log, wanted };
     run.all(offsets, starts)
 }

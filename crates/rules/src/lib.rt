@@ -105,14 +105,8 @@ pub fn add_within(words: &mut [u64], id: u32, flags: u32, bounds: Bounds, patter
             place: pattern.len(),
         };
     }
-    let parts = automaton::build(
-        &nodes,
-        reading.root,
-        words[POSITIONS_AT] as usize,
-        write::holding(0),
-    );
     write::put_window(words, id, bounds);
-    write::add_rule(words, rule, &nodes, reading.root, &parts);
+    write::add_rule(words, rule, &nodes, reading.root);
     Added {
         number: 0,
         place: 0,

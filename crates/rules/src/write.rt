@@ -3,7 +3,7 @@
 // each makes, and `add_rule` makes the words of specs/Words.antt.
 ghost use Rattle.std.specs.Prelude.{◌≡◌, cond, ◌+◌, ◌*◌, ◌-◌, ◌≤◌, ◌<◌, eqb, ltb, length, count_by};
 ghost use Rattle.sets.specs.Set.{on, count};
-ghost use Rattle.table.specs.Layout.{table_words, max_rules, max_positions, rules_of, positions_of, first_at};
+ghost use Rattle.table.specs.Layout.{table_words, max_rules, max_positions, rules_of, positions_of, first_at, row_has};
 ghost use Rattle.table.specs.Invariants.{copied};
 ghost use Rattle.table.specs.Gaps.{first_gaps};
 ghost use Rattle.meaning.specs.Form.{write, positions};
@@ -41,7 +41,7 @@ const HOLDING: [u64; 17] = [
 ];
 
 // Those of one gap.
-pub(super) fn holding(gap: usize) -> u64
+fn holding(gap: usize) -> u64
     requires { gap < first_gaps }
     ensures { result ≡ holding_at gap }
 {
@@ -256,15 +256,38 @@ fn put_place(words: &mut [u64], rules: usize, span: Span, rule: Rule)
     put_keepers(words, span, rule.keeping);
 }
 
+// n words of src at `at`. One by one: of `copy_from_slice` the compiler would make a call of memmove
+// here, which whoever links the archive would have to bring.
+fn put_words(words: &mut [u64], at: usize, src: &[u64], n: usize)
+    requires { (at + n ≤ length words.old) × (n ≤ length src.now) }
+    ensures { words.new ≡ copied at n src.now words.old }
+{
+    for i in 0..n {
+        words[at + i] = src[i];
+    }
+}
+
 // Follow sets from `at` on: those of the old positions, and after them the new ones.
 fn put_follow(words: &mut [u64], at: usize, span: Span, follow: &[u64; 1024])
     requires { at + 1024 ≤ length words.old }
     ensures { words.new ≡ follow_put at span.n follow.now span.more words.old }
 {
     mask_rows(words, at, span.n, span.n);
-    let from = at + span.n * SET_WORDS;
-    let size = span.more * SET_WORDS;
-    words[from..from + size].copy_from_slice(&follow[..size]);
+    put_words(
+        words,
+        at + span.n * SET_WORDS,
+        follow,
+        span.more * SET_WORDS,
+    );
+}
+
+// Whether the set whose words stand at `at` has byte x. It asks the one word that says so: of a set
+// taken out of the rows the compiler would make a copy for each position and byte.
+fn takes_at(takes: &[u64; 1024], at: usize, x: u8) -> bool
+    requires { at + 4 ≤ 1024 }
+    ensures { result ≡ row_has takes.now at x }
+{
+    takes[at + x as usize / 64] >> (x % 64) & 1 == 1
 }
 
 // The new positions that take byte x.
@@ -273,7 +296,7 @@ fn takers_of(takes: &[u64; 1024], span: Span, x: u8) -> [u64; 4]
 {
     let mut s = sets::empty();
     for i in 0..span.more {
-        if sets::contains(table::row(takes, i * SET_WORDS), x) {
+        if takes_at(takes, i * SET_WORDS, x) {
             // By way of a name: the check covers no call whose array goes into a variable at once.
             let r = sets::insert(s, (span.n + i) as u8);
             s = r;
@@ -391,18 +414,22 @@ fn put_counts(words: &mut [u64], rules: u64, positions: u64)
 }
 
 // The table with one rule more, the tree of node `root`, whose positions come after those that the
-// table has. `parts` are its parts at the first gap.
-pub(super) fn add_rule(words: &mut [u64], rule: Rule, nodes: &[u64], root: usize, parts: &Parts)
-    requires { (table_words ≤ length words.old) × (rules_of words.old < max_rules) × (positions_of words.old + positions (write (tree_at nodes.now root)) ≤ max_positions) × (parts.now ≡ parts_at (tree_at nodes.now root) (positions_of words.old) 0) }
+// table has.
+pub(super) fn add_rule(words: &mut [u64], rule: Rule, nodes: &[u64], root: usize)
+    requires { (table_words ≤ length words.old) × (rules_of words.old < max_rules) × (positions_of words.old + positions (write (tree_at nodes.now root)) ≤ max_positions) }
     ensures { words.new ≡ added words.old rule.id rule.flags.bits rule.keeping (parts_at (tree_at nodes.now root) (positions_of words.old)) }
 {
     let rules = words[RULES_AT] as usize;
+    let n = words[POSITIONS_AT] as usize;
+    // Built here, not by the caller: there the compiler would clear the parts before the first
+    // check of an addition.
+    let parts = automaton::build(nodes, root, n, holding(0));
     let span = Span {
-        n: words[POSITIONS_AT] as usize,
+        n,
         more: parts.positions,
     };
     put_place(words, rules, span, rule);
-    put_gaps(words, span.n, nodes, root, parts);
+    put_gaps(words, n, nodes, root, &parts);
     put_takers(words, span, &parts.takes);
     put_openers(words);
     put_lates(words);

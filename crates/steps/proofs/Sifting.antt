@@ -79,7 +79,7 @@ module _ (asked : ℕ) (pass : ℕ → Bool) {all left found : ℕ} (inv : SiftL
   abbrev rest : ℕ
   rest = bit_and left (left - 1)
 
-  low : z < 64
+  pub low : z < 64
   low = digit left inv.small some
 
   there : on left z ≡ true

@@ -34,7 +34,7 @@ module _ (w : Automaton) (z : Traced) (first : ℕ) (block : List ℕ) (y : Turn
   x = get_or block y.at 0
 
   -- the loop stops, all as it was
-  offered-stop : (k : Starts) (l' : Lists) → k ≡ z.starts → l' ≡ l
+  pub offered-stop : (k : Starts) (l' : Lists) → k ≡ z.starts → l' ≡ l
       → (y.at < length block → (space l < y.count + length (byte_reports w z x)) ⊎ (y.left < suc (busy_of z.stream))) → Stops w z block y l k l'
   offered-stop k l' same lists over = record { over = over; starts_are = same; lists_are = lists }
 
@@ -62,7 +62,7 @@ module _ (w : Automaton) (z : Traced) (first : ℕ) (block : List ℕ) (y : Turn
       done : Gone w z x first (free y.count l) d.reports d.reported d.some d.waits k last
       done = h.1
 
-      enough : y.count + length (byte_reports w z x) ≤ space l
+      pub enough : y.count + length (byte_reports w z x) ≤ space l
       enough = in-space y.count (space (free y.count l)) (space l) (length (byte_reports w z x)) (free-space first l y.count room) h.0
         where
           in-space : (n f s m : ℕ) → n + f ≡ s → m ≤ f → n + m ≤ s

@@ -187,6 +187,7 @@ pub extern "C" fn watcher_close(
 
 // How many positions are live.
 #[unsafe(no_mangle)]
+#[tactic(auto, unfolding(states::specs::Call::busy_figure))]
 pub extern "C" fn watcher_busy(state: &[u64]) -> u32
     ensures { result ≡ busy_figure stream_form state.now }
 {

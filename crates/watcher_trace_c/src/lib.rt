@@ -98,6 +98,7 @@ pub extern "C" fn watcher_trace_close(
 
 // How many positions are live in a state with starts.
 #[unsafe(no_mangle)]
+#[tactic(auto, unfolding(states::specs::Call::busy_figure))]
 pub extern "C" fn watcher_trace_busy(state: &[u64]) -> u32
     ensures { result ≡ busy_figure traced_form state.now }
 {

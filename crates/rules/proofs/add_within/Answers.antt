@@ -14,12 +14,10 @@ use Rattle.nodes.specs.Nodes.{tree_at}
 use Rattle.pattern.specs.Read.{Answer, answered}
 use Rattle.pattern.specs.declared.bounds.Bounds.{Bounds}
 use Rattle.pattern.specs.Windows.{windows_of}
-use Rattle.automaton.specs.declared.Parts.{Parts}
-use Rattle.automaton.specs.Parts.{parts_of}
 use Rattle.rules.specs.Gaps.{parts_at}
 use Rattle.rules.specs.Words.{added}
 use Rattle.rules.specs.Add.{Addition, addition_in}
-use Rattle.rules.proofs.Answer.{early, unfit, passed-table, passed-few, unread, too_many, long-room, few-room, fits-room, same-positions, accepted}
+use Rattle.rules.proofs.Answer.{early, unfit, passed-table, passed-few, unread, too_many, long-room, few-room, fits-room, accepted}
 use Rattle.rules.proofs.add_within.Goals as goal
 
 -- what is added
@@ -69,12 +67,6 @@ returns-then-words-reading-gt-MAX_POSITIONS c =
     too_many a.words.now (new a.id a.flags a.bounds a.pattern.now) checked sized (answered (Ok c.in-Ok.reading)) c.in-Ok.ensures refl
     c.if-words-reading-gt-MAX_POSITIONS.true
 
-pub bounds-words-2-2 : goal.bounds-words-2-2
-bounds-words-2-2 c =
-    let a = c.args in
-    let p = passed-table a.words.now (new a.id a.flags a.bounds a.pattern.now) (sym c.if-fault-ne0.false ∙ c.first_fault-fault.ensures) in
-    omega arith
-
 -- there is room for its positions
 pub put_window-requires : goal.put_window-requires
 put_window-requires c =
@@ -85,11 +77,8 @@ put_window-requires c =
     (table.long, passed-few a.words.now n checked, table.positions)
 
 -- the words with the windows
-abbrev Ready : Answer → Parts → List ℕ → Type 0
-Ready r parts s =
-    (table_words ≤ length s) × (rules_of s < max_rules)
-    × (positions_of s + positions (write (tree_at r.nodes r.root)) ≤ max_positions)
-    × (parts ≡ parts_at (tree_at r.nodes r.root) (positions_of s) 0)
+abbrev Ready : Answer → List ℕ → Type 0
+Ready r s = (table_words ≤ length s) × (rules_of s < max_rules) × (positions_of s + positions (write (tree_at r.nodes r.root)) ≤ max_positions)
 
 pub add_rule-requires : goal.add_rule-requires
 add_rule-requires c =
@@ -102,13 +91,8 @@ add_rule-requires c =
     let is = c.in-Ok.ensures in
     let good = refl in
     let few = c.if-words-reading-gt-MAX_POSITIONS.false in
-    subst (Ready r c.build-parts.result) (sym c.put_window.ensures) (
-      long-room t n checked sized r is good few,
-      few-room t n checked sized r is good few,
-      fits-room t n checked sized r is good few,
-      c.build-parts.ensures ∙ ap (parts_of (tree_at r.nodes r.root) (positions_of t)) c.holding.ensures
-          ∙ ap (λ (k : ℕ). parts_at (tree_at r.nodes r.root) k 0) (same-positions t n checked sized r is good few),
-    )
+    subst (Ready r) (sym c.put_window.ensures)
+    (long-room t n checked sized r is good few, few-room t n checked sized r is good few, fits-room t n checked sized r is good few)
 
 pub returns : goal.returns
 returns c =

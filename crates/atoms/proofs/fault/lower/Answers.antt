@@ -1,22 +1,24 @@
--- `atoms::fault::lower` meets its contract: it asks what the definition asks, and of two faults
--- gives the smaller. No fault has the number 0.
+-- `atoms::fault::lower` meets its contract: it asks what the definition asks, of the numbers of two
+-- faults, and gives that with the smaller.
 use Rattle.std.proofs.Common.{arith, sym}
+use borrow.Author.Tests.{eq-eqb}
 use Rattle.atoms.specs.Fault.{lower}
-use Rattle.atoms.specs.Answer.{fault}
 use Rattle.atoms.proofs.Raws.{lower-none, lower-first, lower-second}
 use Rattle.atoms.proofs.fault.lower.Goals as goal
 
-pub returns-in-None-default : goal.returns-in-None-default
+pub returns-in-0-default : goal.returns-in-0-default
 unfolding lower
-returns-in-None-default c = rw c.in-None-default.is-0
+returns-in-0-default g c = rw (← c.number.ensures, eq-eqb c.number.result 0 c.in-0-default.is-0)
 
-pub returns-in_default-None : goal.returns-in_default-None
-returns-in_default-None c = rw c.in_default-None.is-1 (sym (lower-none (fault c.args.f)))
+pub returns-in_default-eq0 : goal.returns-in_default-eq0
+returns-in_default-eq0 g c = rw (← c.number.ensures, ← c.number-2.ensures, c.in_default-eq0.is-1) (sym (lower-none c.number.result))
 
-pub returns-then-number : goal.returns-then-number
-returns-then-number c =
-    rw (c.in-Some-Some.is-0, c.in-Some-Some.is-1) (sym (lower-first c.in-Some-Some.a c.in-Some-Some.b (omega arith)))
+pub returns-then-a-b : goal.returns-then-a-b
+returns-then-a-b g c =
+    rw (← c.number.ensures, ← c.number-2.ensures)
+    (sym (lower-first c.number.result c.number-2.result c.in_default.is-0.1 c.in_default.is-1.1 c.if-a-b.true))
 
-pub returns-else-number : goal.returns-else-number
-returns-else-number c =
-    rw (c.in-Some-Some.is-0, c.in-Some-Some.is-1) (sym (lower-second c.in-Some-Some.a c.in-Some-Some.b (omega arith)))
+pub returns-else-a-b : goal.returns-else-a-b
+returns-else-a-b g c =
+    rw (← c.number.ensures, ← c.number-2.ensures)
+    (sym (lower-second c.number.result c.number-2.result c.in_default.is-0.1 c.in_default.is-1.1 (omega arith)))

@@ -4,7 +4,7 @@ use Rattle.marks.proofs.moves.core.Goals as goal
 
 pub returns-in-Item : goal.returns-in-Item
 returns-in-Item c =
-    rw (c.min.ensures, c.word.ensures) (core-is c.args.parts.now c.args.j c.read.ensures c.in-Item.is c.args.g c.args.marks.now c.args.ends.now)
+    rw (c.least.ensures, c.word.ensures) (core-is c.args.parts.now c.args.j c.read.ensures c.in-Item.is c.args.g c.args.marks.now c.args.ends.now)
 
 pub returns-in-Then : goal.returns-in-Then
 returns-in-Then c =
@@ -13,5 +13,5 @@ returns-in-Then c =
 
 pub returns-in-Or : goal.returns-in-Or
 returns-in-Or c =
-    rw (c.min-in-Or.ensures, c.word-in-Or.ensures, c.word-in-Or-2.ensures)
+    rw (c.least-in-Or.ensures, c.word-in-Or.ensures, c.word-in-Or-2.ensures)
     (core-is c.args.parts.now c.args.j c.read.ensures c.in-Or.is c.args.g c.args.marks.now c.args.ends.now)

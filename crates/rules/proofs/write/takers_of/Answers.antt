@@ -2,15 +2,13 @@
 -- the first `i` new positions.
 use mathlib.Core.Path.{◌≡◌, sym, ap, ◌∙◌}
 use mathlib.Core.List.{List}
-use Prim.Native.Nat.{ℕ, ◌+◌, ◌*◌}
+use Prim.Native.Nat.{ℕ, ◌+◌}
 use native.Mathlib.Omega.{arith}
-use Rattle.sets.specs.Set.{inserted, has}
-use Rattle.sets.proofs.Laws.{has-set_of}
-use Rattle.table.specs.Layout.{row_has}
+use Rattle.sets.specs.Set.{inserted}
 use Rattle.rules.specs.Invariants.{new_takers}
 use Rattle.rules.proofs.Steps.{takers-none, takers-hit, takers-miss}
 use Rattle.rules.proofs.write.takers_of.Goals as goal
-use Rattle.rules.proofs.write.takers_of.Goals.{then-contains, else-contains}
+use Rattle.rules.proofs.write.takers_of.Goals.{then-takes_at, else-takes_at}
 
 pub loop-i-init : goal.loop-i-init
 loop-i-init c = c.empty-s.ensures ∙ takers-none c.args.takes.now c.args.span.n c.args.x
@@ -21,10 +19,10 @@ loop-i-preserved c =
     let n = c.args.span.n in
     let x = c.args.x in
     let l = c.loop-i in
-    let test = sym (c.contains.ensures ∙ ap (λ (s : List ℕ). has s x) c.row.ensures ∙ has-set_of (row_has takes (l.i * 4)) x (omega arith)) in
-    elim c.if-contains.branch [
-      | then-contains w ↦ w.s-is ∙ w.insert-r.ensures ∙ ap (λ (r : List ℕ). inserted r (n + l.i)) l.invariant ∙ takers-hit takes n x l.i (test ∙ w.if-contains.true)
-      | else-contains w ↦ w.s-is ∙ l.invariant ∙ takers-miss takes n x l.i (test ∙ w.if-contains.false)
+    let test = sym c.takes_at.ensures in
+    elim c.if-takes_at.branch [
+      | then-takes_at w ↦ w.s-is ∙ w.insert-r.ensures ∙ ap (λ (r : List ℕ). inserted r (n + l.i)) l.invariant ∙ takers-hit takes n x l.i (test ∙ w.if-takes_at.true)
+      | else-takes_at w ↦ w.s-is ∙ l.invariant ∙ takers-miss takes n x l.i (test ∙ w.if-takes_at.false)
     ]
 
 pub returns : goal.returns

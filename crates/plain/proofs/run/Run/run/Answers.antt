@@ -24,7 +24,7 @@ pub loop-k-preserved : goal.loop-k-preserved
 loop-k-preserved c =
     let inv = c.loop-k.invariant in
     let e : suc c.loop-k.k ≡ c.loop-k.k + 1 = omega arith in
-    let f = form_at c.args.self.now.rule.nodes.now c.args.self.now.rule.root in
+    let f = form_at c.args.self.now.nodes.now c.args.self.now.root in
     let log = c.args.self.now.log.now in
     let d = delivered-as (ap (up_to (choice_of c.args.self.now.wanted) log f) e) (c.step-t.ensures.reports (lent c.args.offsets.now c.args.starts.now) (alike-back inv.2) inv.3) in
     (c.step-t.ensures.marks ∙ ap (marks_at log f) e, c.step-t.ensures.own ∙ ap (own_at log f) e, up-alike c.requires.0 (omega (arith, c.requires.0.within)) d, d)
@@ -33,7 +33,7 @@ pub returns : goal.returns
 returns c =
     let inv = c.loop-k.invariant in
     let e : c.loop-k.k ≡ c.args.n = omega arith in
-    let f = form_at c.args.self.now.rule.nodes.now c.args.self.now.rule.root in
+    let f = form_at c.args.self.now.nodes.now c.args.self.now.root in
     let log = c.args.self.now.log.now in
     record {
       marks = inv.0 ∙ ap (marks_at log f) e;

@@ -8,5 +8,5 @@ use Rattle.plain.proofs.run.Run.run.Given as goal
 
 abbrev pub invariant-loop-k : goal.invariant-loop-k
 invariant-loop-k l =
-    (l.marks ≡ marks_at l.self.log.now (form_at l.self.rule.nodes.now l.self.rule.root) l.k) × (l.t.own ≡ own_at l.self.log.now (form_at l.self.rule.nodes.now l.self.rule.root) l.k) × Alike (lent l.offsets l.starts) (lent l.initial.offsets l.initial.starts)
-    × Delivered l.self.wanted (lent l.initial.offsets l.initial.starts) (lent l.offsets l.starts) l.t.count (up_to (choice_of l.self.wanted) l.self.log.now (form_at l.self.rule.nodes.now l.self.rule.root) l.k)
+    (l.marks ≡ marks_at l.self.log.now (form_at l.self.nodes.now l.self.root) l.k) × (l.t.own ≡ own_at l.self.log.now (form_at l.self.nodes.now l.self.root) l.k) × Alike (lent l.offsets l.starts) (lent l.initial.offsets l.initial.starts)
+    × Delivered l.self.wanted (lent l.initial.offsets l.initial.starts) (lent l.offsets l.starts) l.t.count (up_to (choice_of l.self.wanted) l.self.log.now (form_at l.self.nodes.now l.self.root) l.k)

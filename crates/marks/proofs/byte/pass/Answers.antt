@@ -4,7 +4,7 @@ use native.Mathlib.Omega.{arith}
 use lib.ListN.{length-replicate}
 use Rattle.marks.specs.Marks.{none}
 use Rattle.marks.proofs.Passes.{took}
-use Rattle.marks.proofs.byte.Rule.pass.Goals as goal
+use Rattle.marks.proofs.byte.pass.Goals as goal
 
 pub step-requires : goal.step-requires
 step-requires c =
