@@ -12,13 +12,24 @@ use crate::fragments::Fragment;
 use crate::joins::then;
 use crate::repeats::repeat;
 use crate::{fragments, items, rows};
-use nodes::layout::{Assertion, Node, node_at};
+use nodes::layout::{
+    AT_END, AT_LAST_LINE, AT_START, Assertion, LINE_END, LINE_START, NO_WORD_EDGE, Node, WORD_EDGE,
+    node_at,
+};
 
 // Whether an assertion holds in a world.
 fn holds(world: u64, assertion: Assertion) -> bool
     ensures { result ≡ world_of world (meant assertion) }
 {
-    let digit = assertion as u64;
+    let digit = match assertion {
+        Assertion::AtStart => AT_START,
+        Assertion::AtEnd => AT_END,
+        Assertion::AtLastLine => AT_LAST_LINE,
+        Assertion::LineStart => LINE_START,
+        Assertion::LineEnd => LINE_END,
+        Assertion::WordEdge => WORD_EDGE,
+        Assertion::NoWordEdge => NO_WORD_EDGE,
+    };
     world >> digit & 1 == 1
 }
 

@@ -1,29 +1,35 @@
 -- `forms::holds` meets its contract: it reads one digit, and the digit's number is that of the
 -- assertion.
-use mathlib.Core.Path.{◌≡◌, refl, ap, ◌∙◌}
+use mathlib.Core.Path.{◌≡◌, sym, ap, ◌∙◌}
 use Prim.Native.Nat.{ℕ, ◌/◌, ◌^◌}
-use lib.Bits.{and_mask}
+use lib.Bits.{bit_and, and_mask}
 use lib.Dec.{eqb}
-use denote.Enum.Declared.{tag_of}
 use Rattle.sets.specs.Set.{on}
 use Rattle.nodes.specs.Nodes.{code_of}
 use Rattle.nodes.specs.Node.{meant}
 use Rattle.nodes.specs.declared.layout.Assertion.{Assertion}
-use Rattle.nodes.specs.declared.layout.Assertion.TheVariants.{AtStart, AtEnd, AtLastLine, LineStart, LineEnd, WordEdge, NoWordEdge}
-use Rattle.nodes.specs.contracts.layout.Assertion.{the_type}
+use Rattle.automaton.specs.Parts.{world_of}
 use Rattle.automaton.proofs.forms.holds.Goals as goal
+use Rattle.automaton.proofs.forms.holds.Goals.{in-AtStart, in-AtEnd, in-AtLastLine, in-LineStart, in-LineEnd, in-WordEdge, in-NoWordEdge}
 
-digit-is : (a : Assertion) → tag_of the_type a ≡ code_of (meant a)
-digit-is AtStart = refl
-digit-is AtEnd = refl
-digit-is AtLastLine = refl
-digit-is LineStart = refl
-digit-is LineEnd = refl
-digit-is WordEdge = refl
-digit-is NoWordEdge = refl
+digit-read : (world d : ℕ) (a : Assertion) → d ≡ code_of (meant a) → eqb (bit_and (world / 2 ^ d) 1) 1 ≡ world_of world (meant a)
+unfolding on
+digit-read world d a e = ap (λ (w : ℕ). eqb w 1) (and_mask (world / 2 ^ d) 1) ∙ ap (on world) e
+
+abbrev number : Assertion → ℕ
+number a = code_of (meant a)
 
 pub returns : goal.returns
-unfolding on
 returns c =
     let v = c.args in
-    ap (λ (w : ℕ). eqb w 1) (and_mask (v.world / 2 ^ tag_of the_type v.assertion) 1) ∙ ap (on v.world) (digit-is v.assertion)
+    let m = c.match-assertion in
+    digit-read v.world m.digit v.assertion
+    (elim m.branch [
+      | in-AtStart w ↦ w.digit-is ∙ ap number (sym w.in-AtStart.is)
+      | in-AtEnd w ↦ w.digit-is ∙ ap number (sym w.in-AtEnd.is)
+      | in-AtLastLine w ↦ w.digit-is ∙ ap number (sym w.in-AtLastLine.is)
+      | in-LineStart w ↦ w.digit-is ∙ ap number (sym w.in-LineStart.is)
+      | in-LineEnd w ↦ w.digit-is ∙ ap number (sym w.in-LineEnd.is)
+      | in-WordEdge w ↦ w.digit-is ∙ ap number (sym w.in-WordEdge.is)
+      | in-NoWordEdge w ↦ w.digit-is ∙ ap number (sym w.in-NoWordEdge.is)
+    ])
