@@ -10,6 +10,9 @@ use lib.Dec.{eqb}
 use lib.ListN.{take}
 use Rattle.std.specs.List.{list_any}
 use Rattle.kinds.specs.Kind.{is_cntrl}
+use Rattle.refusals.specs.declared.Refusal.{Refusal}
+use Rattle.refusals.specs.Refusal.{number_of}
+use Rattle.refusals.proofs.Laws.{number-above}
 use Rattle.atoms.specs.Fault.{lower}
 use Rattle.atoms.specs.Raw.{any_raw, with_raw}
 
@@ -22,14 +25,25 @@ lower-none f = go (eqb f 0) refl
     go true e = sym (eqb-true f 0 e)
     go false e = refl
 
--- the lower of two faults that there are
-pub lower-first : (a b : ℕ) → (a ≡ 0 → ⊥) → (b ≡ 0 → ⊥) → a ≤ b → lower a b ≡ a
+-- the lower of two numbers, neither of which is 0
+pub lower-is-first : (a b : ℕ) → (a ≡ 0 → ⊥) → (b ≡ 0 → ⊥) → a ≤ b → lower a b ≡ a
 unfolding lower
-lower-first a b n m h = rw (ne_eqb a 0 n, ne_eqb b 0 m) (omega arith)
+lower-is-first a b n m h = rw (ne_eqb a 0 n, ne_eqb b 0 m) (omega arith)
 
-pub lower-second : (a b : ℕ) → (a ≡ 0 → ⊥) → (b ≡ 0 → ⊥) → b < a → lower a b ≡ b
+pub lower-is-second : (a b : ℕ) → (a ≡ 0 → ⊥) → (b ≡ 0 → ⊥) → b < a → lower a b ≡ b
 unfolding lower
-lower-second a b n m h = rw (ne_eqb a 0 n, ne_eqb b 0 m) (omega arith)
+lower-is-second a b n m h = rw (ne_eqb a 0 n, ne_eqb b 0 m) (omega arith)
+
+-- no reason has the number 0
+number-not-0 : (a : Refusal) → number_of a ≡ 0 → ⊥
+number-not-0 a e = omega (arith, number-above a)
+
+-- the lower of two reasons
+pub lower-first : (a b : Refusal) → number_of a ≤ number_of b → lower (number_of a) (number_of b) ≡ number_of a
+lower-first a b = lower-is-first (number_of a) (number_of b) (number-not-0 a) (number-not-0 b)
+
+pub lower-second : (a b : Refusal) → number_of b < number_of a → lower (number_of a) (number_of b) ≡ number_of b
+lower-second a b = lower-is-second (number_of a) (number_of b) (number-not-0 a) (number-not-0 b)
 
 -- where the lower of two faults is none, neither is one
 pub lower-both : (f g : ℕ) → lower f g ≡ 0 → (f ≡ 0) × (g ≡ 0)

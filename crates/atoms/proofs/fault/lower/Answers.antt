@@ -3,7 +3,7 @@
 use Rattle.std.proofs.Common.{arith, sym}
 use borrow.Author.Tests.{eq-eqb}
 use Rattle.atoms.specs.Fault.{lower}
-use Rattle.atoms.proofs.Raws.{lower-none, lower-first, lower-second}
+use Rattle.atoms.proofs.Raws.{lower-none, lower-is-first, lower-is-second}
 use Rattle.atoms.proofs.fault.lower.Goals as goal
 
 pub returns-in-0-default : goal.returns-in-0-default
@@ -16,9 +16,9 @@ returns-in_default-eq0 g c = rw (← c.number.ensures, ← c.number-2.ensures, c
 pub returns-then-a-b : goal.returns-then-a-b
 returns-then-a-b g c =
     rw (← c.number.ensures, ← c.number-2.ensures)
-    (sym (lower-first c.number.result c.number-2.result c.in_default.is-0.1 c.in_default.is-1.1 c.if-a-b.true))
+    (sym (lower-is-first c.number.result c.number-2.result c.in_default.is-0.1 c.in_default.is-1.1 c.if-a-b.true))
 
 pub returns-else-a-b : goal.returns-else-a-b
 returns-else-a-b g c =
     rw (← c.number.ensures, ← c.number-2.ensures)
-    (sym (lower-second c.number.result c.number-2.result c.in_default.is-0.1 c.in_default.is-1.1 (omega arith)))
+    (sym (lower-is-second c.number.result c.number-2.result c.in_default.is-0.1 c.in_default.is-1.1 (omega arith)))
