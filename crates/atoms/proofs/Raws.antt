@@ -34,16 +34,12 @@ pub lower-is-second : (a b : ℕ) → (a ≡ 0 → ⊥) → (b ≡ 0 → ⊥) �
 unfolding lower
 lower-is-second a b n m h = rw (ne_eqb a 0 n, ne_eqb b 0 m) (omega arith)
 
--- no reason has the number 0
-number-not-0 : (a : Refusal) → number_of a ≡ 0 → ⊥
-number-not-0 a e = omega (arith, number-above a)
-
 -- the lower of two reasons
 pub lower-first : (a b : Refusal) → number_of a ≤ number_of b → lower (number_of a) (number_of b) ≡ number_of a
-lower-first a b = lower-is-first (number_of a) (number_of b) (number-not-0 a) (number-not-0 b)
+lower-first a b = lower-is-first (number_of a) (number_of b) (omega (arith, number-above a)) (omega (arith, number-above b))
 
 pub lower-second : (a b : Refusal) → number_of b < number_of a → lower (number_of a) (number_of b) ≡ number_of b
-lower-second a b = lower-is-second (number_of a) (number_of b) (number-not-0 a) (number-not-0 b)
+lower-second a b = lower-is-second (number_of a) (number_of b) (omega (arith, number-above a)) (omega (arith, number-above b))
 
 -- where the lower of two faults is none, neither is one
 pub lower-both : (f g : ℕ) → lower f g ≡ 0 → (f ≡ 0) × (g ≡ 0)
